@@ -3,7 +3,7 @@ ghost use Rattle.std.specs.Prelude.{◌≡◌, List, false, length, IfErr, IsTru
 ghost use Rattle.store_api.specs.Causes.{store_fault_in};
 ghost use Rattle.store_api.specs.RunsOverPages.{RunsOverPages};
 ghost use Rattle.extent_map.specs.Damages.{IfFull, store_part_of};
-ghost use Rattle.extent_map.specs.Owners.{AreRightNotes, IsSameShape};
+ghost use Rattle.extent_map.specs.Owners.{AreRightNotes};
 ghost use Rattle.extent_map.specs.declared.kind.Kind.{Kind};
 ghost use Rattle.entry_tree.specs.Forest.{Forest};
 ghost use Rattle.entry_tree.specs.Standing.{AddsEntry, FindsFull, IsTreeSpace, StandsTree};
@@ -15,21 +15,21 @@ ghost use Rattle.block_index.specs.Listing.{BreaksEntering, BreaksListing, Fills
 
 use crate::entries::cell_entries;
 use entry_tree::Tree;
-use extent_map::{Extents, SpaceFault};
+use extent_map::{SpaceFault, SpaceNotes};
 use mdc_ast::{Cell, TableDef};
 use std::alloc::Global;
 use store_api::rules::BLOCK_INDEXES_RULE;
-use store_api::{Damage, Pages, StoreFault};
+use store_api::{Damage, Pages, Shape, StoreFault};
 use table_trees::block_index_tree;
 
 /// Lists a block under the values of its cell: in the composite index, and then in that of each dimension. It claims no more
 /// pages than these entries ask for, and `Full` says that one of them asks for more than there are. Where an index has the entry
-/// already, its root is damaged by rule 10. After a fault `undo` goes back, and the notes of the extents are to be
-/// forgotten.
+/// already, its root is damaged by rule 10. After a fault `undo` goes back, and the notes are to be forgotten.
 pub fn list_block<P: Pages>(
     alloc: Global,
     def: &TableDef,
-    ext: &mut Extents,
+    shape: Shape,
+    notes: &mut SpaceNotes,
     pages: &mut P,
     cell: &Cell,
     block: u32,
@@ -37,23 +37,22 @@ pub fn list_block<P: Pages>(
     requires indexes { HasBlockIndexes def.now }
     requires cell { FitsCell def.now cell.now.values }
     requires going { (P.state pages.old).ended ≡ false }
-    ensures lists { OnOk result ((owners : List Kind) (trees : List Forest) → StandTrees P.Pages ext.old pages.old owners (block_index_places def.now) trees
-        → ListsBlock P.Pages ext.old ext.new pages.new def.now cell.now.values block owners trees) }
-    ensures full { IfErr result (λ fault. IfFull fault (λ cap. (cap ≡ ext.old.cap) × FillsListing P.Pages ext.old ext.new pages.old pages.new def.now cell.now.values block)) }
-    ensures makes { OnOk result ((owners : List Kind) (trees : List Forest) → StandTrees P.Pages ext.old pages.old owners (block_index_places def.now) trees
-        → IsTrue (P.state pages.old).is_told → AreRightNotes ext.old owners → MakesChanges ext.old (P.state pages.old).work (added_entries (index_listings def.now cell.now.values block)) (P.state pages.new).work) }
-    ensures runs_full { IfErr result (λ fault. IfFull fault (λ cap. (owners : List Kind) (trees : List Forest) → StandTrees P.Pages ext.old pages.old owners (block_index_places def.now) trees
-        → IsTrue (P.state pages.old).is_told → AreRightNotes ext.old owners → RunsFull ext.old (P.state pages.old).work (added_entries (index_listings def.now cell.now.values block)))) }
-    ensures grows { OnOk result ((owners : List Kind) (trees : List Forest) → StandTrees P.Pages ext.old pages.old owners (block_index_places def.now) trees
-        → GrowsPages P.Pages ext.old pages.old pages.new) }
-    ensures shape { IsSameShape ext.old ext.new }
-    ensures runs { RunsOverPages P.Pages (IsSpaceOfTrees P.Pages ext.old pages.old (block_index_places def.now)) (IsSpaceOfTrees P.Pages ext.old pages.old (block_index_places def.now))
-        (BreaksListing P.Pages ext.old pages.old def.now cell.now.values block) pages.old pages.new (store_fault_in store_part_of result) }
+    ensures lists { OnOk result ((owners : List Kind) (trees : List Forest) → StandTrees P.Pages shape pages.old owners (block_index_places def.now) trees
+        → ListsBlock P.Pages shape notes.old notes.new pages.new def.now cell.now.values block owners trees) }
+    ensures full { IfErr result (λ fault. IfFull fault (λ cap. (cap ≡ shape.extents) × FillsListing P.Pages shape notes.old notes.new pages.old pages.new def.now cell.now.values block)) }
+    ensures makes { OnOk result ((owners : List Kind) (trees : List Forest) → StandTrees P.Pages shape pages.old owners (block_index_places def.now) trees
+        → IsTrue (P.state pages.old).is_told → AreRightNotes shape notes.old owners → MakesChanges shape (P.state pages.old).work (added_entries (index_listings def.now cell.now.values block)) (P.state pages.new).work) }
+    ensures runs_full { IfErr result (λ fault. IfFull fault (λ cap. (owners : List Kind) (trees : List Forest) → StandTrees P.Pages shape pages.old owners (block_index_places def.now) trees
+        → IsTrue (P.state pages.old).is_told → AreRightNotes shape notes.old owners → RunsFull shape (P.state pages.old).work (added_entries (index_listings def.now cell.now.values block)))) }
+    ensures grows { OnOk result ((owners : List Kind) (trees : List Forest) → StandTrees P.Pages shape pages.old owners (block_index_places def.now) trees
+        → GrowsPages P.Pages shape pages.old pages.new) }
+    ensures runs { RunsOverPages P.Pages (IsSpaceOfTrees P.Pages shape pages.old (block_index_places def.now)) (IsSpaceOfTrees P.Pages shape pages.old (block_index_places def.now))
+        (BreaksListing P.Pages shape notes.old pages.old def.now cell.now.values block) pages.old pages.new (store_fault_in store_part_of result) }
 {
     let entries = cell_entries(alloc, def, cell, block)?;
     for i in 0..entries.len() {
         let tree = block_index_tree(alloc, def, i);
-        enter(&tree, ext, pages, entries[i].bytes())?;
+        enter(&tree, shape, notes, pages, entries[i].bytes())?;
     }
     Ok(())
 }
@@ -61,20 +60,20 @@ pub fn list_block<P: Pages>(
 /// Enters an entry in an index.
 fn enter<P: Pages>(
     tree: &Tree,
-    ext: &mut Extents,
+    shape: Shape,
+    notes: &mut SpaceNotes,
     pages: &mut P,
     entry: &[u8],
 ) -> Result<(), SpaceFault>
     requires width { length entry.now ≡ tree.now.width }
     requires going { (P.state pages.old).ended ≡ false }
-    ensures adds { OnOk result ((owners : List Kind) (t : Forest) → StandsTree P.Pages ext.old pages.old tree.now owners t → AddsEntry P.Pages ext.old ext.new pages.old pages.new tree.now entry.now owners t) }
-    ensures full { IfErr result (λ fault. IfFull fault (λ cap. (cap ≡ ext.old.cap)
-        × ((owners : List Kind) (t : Forest) → StandsTree P.Pages ext.old pages.old tree.now owners t → FindsFull P.Pages ext.old ext.new pages.old pages.new tree.now entry.now owners t))) }
-    ensures shape { IsSameShape ext.old ext.new }
-    ensures runs { RunsOverPages P.Pages (IsTreeSpace P.Pages ext.old pages.old tree.now) (IsTreeSpace P.Pages ext.old pages.old tree.now)
-        (BreaksEntering P.Pages ext.old pages.old tree.now entry.now) pages.old pages.new (store_fault_in store_part_of result) }
+    ensures adds { OnOk result ((owners : List Kind) (t : Forest) → StandsTree P.Pages shape pages.old tree.now owners t → AddsEntry P.Pages shape notes.old notes.new pages.old pages.new tree.now entry.now owners t) }
+    ensures full { IfErr result (λ fault. IfFull fault (λ cap. (cap ≡ shape.extents)
+        × ((owners : List Kind) (t : Forest) → StandsTree P.Pages shape pages.old tree.now owners t → FindsFull P.Pages shape notes.old notes.new pages.old pages.new tree.now entry.now owners t))) }
+    ensures runs { RunsOverPages P.Pages (IsTreeSpace P.Pages shape pages.old tree.now) (IsTreeSpace P.Pages shape pages.old tree.now)
+        (BreaksEntering P.Pages shape pages.old tree.now entry.now) pages.old pages.new (store_fault_in store_part_of result) }
 {
-    let added = tree.add(ext, pages, entry)?;
+    let added = tree.add(shape, notes, pages, entry)?;
     if !added {
         return Err(SpaceFault::Store(misplaced(tree)));
     }

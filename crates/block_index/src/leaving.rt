@@ -2,7 +2,6 @@
 ghost use Rattle.std.specs.Prelude.{◌≡◌, List, false, length, IsTrue, OnOk};
 ghost use Rattle.store_api.specs.Causes.{fault_of};
 ghost use Rattle.store_api.specs.RunsOverPages.{RunsOverPages};
-ghost use Rattle.extent_map.specs.Owners.{IsSameShape};
 ghost use Rattle.extent_map.specs.declared.kind.Kind.{Kind};
 ghost use Rattle.entry_tree.specs.Forest.{Forest};
 ghost use Rattle.entry_tree.specs.Pruning.{IsTreeOrMapPage, RemovesEntry};
@@ -16,10 +15,10 @@ ghost use Rattle.block_index.specs.Listing.{BreaksLeaving, BreaksUnlisting, Unli
 use crate::entering::misplaced;
 use crate::entries::cell_entries;
 use entry_tree::Tree;
-use extent_map::Extents;
+use extent_map::SpaceNotes;
 use mdc_ast::{Cell, TableDef};
 use std::alloc::Global;
-use store_api::{Pages, StoreFault};
+use store_api::{Pages, Shape, StoreFault};
 use table_trees::block_index_tree;
 
 /// Takes a block out that is listed under the values of its cell: of the composite index, and then of that of each dimension.
@@ -27,7 +26,8 @@ use table_trees::block_index_tree;
 pub fn unlist_block<P: Pages>(
     alloc: Global,
     def: &TableDef,
-    ext: &mut Extents,
+    shape: Shape,
+    notes: &mut SpaceNotes,
     pages: &mut P,
     cell: &Cell,
     block: u32,
@@ -35,19 +35,18 @@ pub fn unlist_block<P: Pages>(
     requires indexes { HasBlockIndexes def.now }
     requires cell { FitsCell def.now cell.now.values }
     requires going { (P.state pages.old).ended ≡ false }
-    ensures unlists { OnOk result ((owners : List Kind) (trees : List Forest) → StandTrees P.Pages ext.old pages.old owners (block_index_places def.now) trees
-        → UnlistsBlock P.Pages ext.old ext.new pages.new def.now cell.now.values block owners trees) }
-    ensures makes { OnOk result ((owners : List Kind) (trees : List Forest) → StandTrees P.Pages ext.old pages.old owners (block_index_places def.now) trees
-        → IsTrue (P.state pages.old).is_told → MakesChanges ext.old (P.state pages.old).work (removed_entries (index_listings def.now cell.now.values block)) (P.state pages.new).work) }
+    ensures unlists { OnOk result ((owners : List Kind) (trees : List Forest) → StandTrees P.Pages shape pages.old owners (block_index_places def.now) trees
+        → UnlistsBlock P.Pages shape notes.old notes.new pages.new def.now cell.now.values block owners trees) }
+    ensures makes { OnOk result ((owners : List Kind) (trees : List Forest) → StandTrees P.Pages shape pages.old owners (block_index_places def.now) trees
+        → IsTrue (P.state pages.old).is_told → MakesChanges shape (P.state pages.old).work (removed_entries (index_listings def.now cell.now.values block)) (P.state pages.new).work) }
     ensures count { length (P.state pages.new).work ≡ length (P.state pages.old).work }
-    ensures shape { IsSameShape ext.old ext.new }
-    ensures runs { RunsOverPages P.Pages (IsTreesOrMapPage P.Pages ext.old pages.old (block_index_places def.now)) (IsTreesOrMapPage P.Pages ext.old pages.old (block_index_places def.now))
-        (BreaksUnlisting P.Pages ext.old pages.old def.now cell.now.values block) pages.old pages.new (fault_of result) }
+    ensures runs { RunsOverPages P.Pages (IsTreesOrMapPage P.Pages shape pages.old (block_index_places def.now)) (IsTreesOrMapPage P.Pages shape pages.old (block_index_places def.now))
+        (BreaksUnlisting P.Pages shape notes.old pages.old def.now cell.now.values block) pages.old pages.new (fault_of result) }
 {
     let entries = cell_entries(alloc, def, cell, block)?;
     for i in 0..entries.len() {
         let tree = block_index_tree(alloc, def, i);
-        leave(&tree, ext, pages, entries[i].bytes())?;
+        leave(&tree, shape, notes, pages, entries[i].bytes())?;
     }
     Ok(())
 }
@@ -55,19 +54,19 @@ pub fn unlist_block<P: Pages>(
 /// Takes an entry out of an index.
 fn leave<P: Pages>(
     tree: &Tree,
-    ext: &mut Extents,
+    shape: Shape,
+    notes: &mut SpaceNotes,
     pages: &mut P,
     entry: &[u8],
 ) -> Result<(), StoreFault>
     requires width { length entry.now ≡ tree.now.width }
     requires going { (P.state pages.old).ended ≡ false }
-    ensures removes { OnOk result ((owners : List Kind) (t : Forest) → StandsTree P.Pages ext.old pages.old tree.now owners t → RemovesEntry P.Pages ext.old ext.new pages.new tree.now entry.now owners t) }
+    ensures removes { OnOk result ((owners : List Kind) (t : Forest) → StandsTree P.Pages shape pages.old tree.now owners t → RemovesEntry P.Pages shape notes.old notes.new pages.new tree.now entry.now owners t) }
     ensures count { length (P.state pages.new).work ≡ length (P.state pages.old).work }
-    ensures shape { IsSameShape ext.old ext.new }
-    ensures runs { RunsOverPages P.Pages (IsTreeOrMapPage P.Pages ext.old pages.old tree.now) (IsTreeOrMapPage P.Pages ext.old pages.old tree.now)
-        (BreaksLeaving P.Pages ext.old pages.old tree.now entry.now) pages.old pages.new (fault_of result) }
+    ensures runs { RunsOverPages P.Pages (IsTreeOrMapPage P.Pages shape pages.old tree.now) (IsTreeOrMapPage P.Pages shape pages.old tree.now)
+        (BreaksLeaving P.Pages shape pages.old tree.now entry.now) pages.old pages.new (fault_of result) }
 {
-    let was_there = tree.remove(ext, pages, entry)?;
+    let was_there = tree.remove(shape, notes, pages, entry)?;
     if !was_there {
         return Err(misplaced(tree));
     }

@@ -27,11 +27,7 @@ use Rattle.block_map.specs.declared.row.BlockRow.{BlockRow}
 use Rattle.block_map.specs.declared.state.BlockState.{BlockState}
 use Rattle.block_map.specs.declared.state.BlockState.TheVariants.{Free, Used, Pending}
 use Rattle.block_map.proofs.MapFormLemmas.{form_one}
-use Rattle.block_map.proofs.MapLinesLemmas.{line_block, row_state}
-
--- the rows of a row are read back
-row_rows : (row : BlockRow) → row.rows < 2 ^ 16 → (map_line (row_entry row)).rows ≡ row.rows
-row_rows row small = big_from-bytes 2 row.rows [] ∙ mod-eq_of_lt small
+use Rattle.block_map.proofs.MapLinesLemmas.{line_block, row_rows, row_state}
 
 -- a map has one row of a block
 one_row : (t : Forest) (a b : BlockRow) → IsMapForm t → a.block ≡ b.block → HasRow a t → HasRow b t → row_entry a ≡ row_entry b

@@ -8,9 +8,10 @@ use Rattle.store_api.specs.Works.{Steady}
 use Rattle.store_api.specs.declared.fault.Damage.{Damage}
 use Rattle.store_api.specs.declared.fault.StoreFault.{StoreFault}
 use Rattle.store_api.specs.declared.pages.Pages.{Ghosts}
+use Rattle.store_api.specs.declared.shape.Shape.{Shape}
 use Rattle.store_api.proofs.RunsOverPagesLemmas.{runs_then, runs_wider}
-use Rattle.extent_map.specs.declared.extents.Extents.{Extents}
 use Rattle.extent_map.specs.declared.kind.Kind.{Kind}
+use Rattle.extent_map.specs.declared.space_notes.SpaceNotes.{SpaceNotes}
 use Rattle.entry_tree.specs.Amending.{AmendsEntry, IsAmended}
 use Rattle.entry_tree.specs.EntryBounds.{IsEntryOf}
 use Rattle.entry_tree.specs.Forest.{Forest, leaf_entries}
@@ -74,35 +75,35 @@ module _ {S : Type 0} {g : Ghosts S} where
   reading_breaks Expected d (inl b) = inl b
   reading_breaks Expected d (inr b) = inr (record { page = b.page; rule = b.rule; broken = λ t h f n. b.broken t h f tt })
 
-  pub leaving_breaks : {ext : Extents} {s : S} {tree : Tree} (block : ℕ) (d : Damage) → BreaksMapTree g s tree AnyMap d → BreaksLeaving g ext s tree block d
+  pub leaving_breaks : {shape : Shape} {s : S} {tree : Tree} (block : ℕ) (d : Damage) → BreaksMapTree g s tree AnyMap d → BreaksLeaving g shape s tree block d
   leaving_breaks block d (inl b) = inl (breaks_held b)
   leaving_breaks block d (inr b) = inr (record { page = b.page; rule = b.rule; broken = λ owners t h f n. b.broken t h.held f tt })
 
   -- the read before a removal
-  pub runs_before_leaving : {old mid : S} {fault : Option StoreFault} (ext : Extents) (tree : Tree) (block : ℕ) → RunsOverPages g NoPage (IsTreePage g old tree) (BreaksMapTree g old tree AnyMap) old mid fault
-      → RunsOverPages g (IsTreeOrMapPage g ext old tree) (IsTreeOrMapPage g ext old tree) (BreaksLeaving g ext old tree block) old mid fault
-  runs_before_leaving ext tree block run = runs_wider run (λ p there none. absurd none) (λ p is. tree_page is) (λ d b. leaving_breaks block d b)
+  pub runs_before_leaving : {old mid : S} {fault : Option StoreFault} (shape : Shape) (tree : Tree) (block : ℕ) → RunsOverPages g NoPage (IsTreePage g old tree) (BreaksMapTree g old tree AnyMap) old mid fault
+      → RunsOverPages g (IsTreeOrMapPage g shape old tree) (IsTreeOrMapPage g shape old tree) (BreaksLeaving g shape old tree block) old mid fault
+  runs_before_leaving shape tree block run = runs_wider run (λ p there none. absurd none) (λ p is. tree_page is) (λ d b. leaving_breaks block d b)
 
   -- a row is found first, and then taken out
-  pub runs_leave : {old mid new : S} {fault : Option StoreFault} (ext : Extents) (tree : Tree) (block : ℕ) → RunsOverPages g NoPage (IsTreePage g old tree) (BreaksMapTree g old tree AnyMap) old mid None
+  pub runs_leave : {old mid new : S} {fault : Option StoreFault} (shape : Shape) (tree : Tree) (block : ℕ) → RunsOverPages g NoPage (IsTreePage g old tree) (BreaksMapTree g old tree AnyMap) old mid None
       → (g.state mid).work ≡ (g.state old).work
-      → RunsOverPages g (IsTreeOrMapPage g ext mid tree) (IsTreeOrMapPage g ext mid tree) (BreaksTreeOrReturn g ext mid tree) mid new fault
-      → RunsOverPages g (IsTreeOrMapPage g ext old tree) (IsTreeOrMapPage g ext old tree) (BreaksLeaving g ext old tree block) old new fault
-  runs_leave ext tree block first same second =
+      → RunsOverPages g (IsTreeOrMapPage g shape mid tree) (IsTreeOrMapPage g shape mid tree) (BreaksTreeOrReturn g shape mid tree) mid new fault
+      → RunsOverPages g (IsTreeOrMapPage g shape old tree) (IsTreeOrMapPage g shape old tree) (BreaksLeaving g shape old tree block) old new fault
+  runs_leave shape tree block first same second =
       let told = first.works.steady.is_told in
-      runs_then (runs_before_leaving ext tree block first) second (λ p there is. page_same told same is) (λ p is. page_same told same is) (λ d b. inl (breaks_same told same b))
+      runs_then (runs_before_leaving shape tree block first) second (λ p there is. page_same told same is) (λ p is. page_same told same is) (λ d b. inl (breaks_same told same b))
 
-  pub leaves_map : (old mid new : S) (before ext : Extents) (tree : Tree) (owners : List Kind) (t : Forest) (block : ℕ) (row : BlockRow) (x : Entry) (there : Bool) → x ≡ row_entry row → there ≡ true
-      → (g.state mid).is_told ≡ (g.state old).is_told → (g.state mid).work ≡ (g.state old).work → StandsTree g before old tree owners t → FindsBlock t block (Some row)
-      → ((o : List Kind) (u : Forest) → StandsTree g before mid tree o u → MatchBool there (RemovesEntry g before ext new tree x o u) (IsEntryOf x (leaf_entries u) → ⊥)) → LeavesMap g before ext new tree block owners t
-  leaves_map old mid new before ext tree owners t block row x true e is told same s found removes =
-      (row, found.0, subst (λ (v : Entry). RemovesEntry g before ext new tree v owners t) e (removes owners t (stands_same told same s)))
-  leaves_map old mid new before ext tree owners t block row x false e is told same s found removes = cc
+  pub leaves_map : (old mid new : S) (shape : Shape) (before noted : SpaceNotes) (tree : Tree) (owners : List Kind) (t : Forest) (block : ℕ) (row : BlockRow) (x : Entry) (there : Bool) → x ≡ row_entry row → there ≡ true
+      → (g.state mid).is_told ≡ (g.state old).is_told → (g.state mid).work ≡ (g.state old).work → StandsTree g shape old tree owners t → FindsBlock t block (Some row)
+      → ((o : List Kind) (u : Forest) → StandsTree g shape mid tree o u → MatchBool there (RemovesEntry g shape before noted new tree x o u) (IsEntryOf x (leaf_entries u) → ⊥)) → LeavesMap g shape before noted new tree block owners t
+  leaves_map old mid new shape before noted tree owners t block row x true e is told same s found removes =
+      (row, found.0, subst (λ (v : Entry). RemovesEntry g shape before noted new tree v owners t) e (removes owners t (stands_same told same s)))
+  leaves_map old mid new shape before noted tree owners t block row x false e is told same s found removes = cc
 
   -- a row that was found can be taken out
-  pub leaves_none : (old mid new : S) (before ext : Extents) (tree : Tree) (owners : List Kind) (t : Forest) (block : ℕ) (row : BlockRow) (x : Entry) (there : Bool) → x ≡ row_entry row → there ≡ false
-      → (g.state mid).is_told ≡ (g.state old).is_told → (g.state mid).work ≡ (g.state old).work → StandsTree g before old tree owners t → FindsBlock t block (Some row)
-      → ((o : List Kind) (u : Forest) → StandsTree g before mid tree o u → MatchBool there (RemovesEntry g before ext new tree x o u) (IsEntryOf x (leaf_entries u) → ⊥)) → ⊥
-  leaves_none old mid new before ext tree owners t block row x true e is told same s found removes = cc
-  leaves_none old mid new before ext tree owners t block row x false e is told same s found removes =
+  pub leaves_none : (old mid new : S) (shape : Shape) (before noted : SpaceNotes) (tree : Tree) (owners : List Kind) (t : Forest) (block : ℕ) (row : BlockRow) (x : Entry) (there : Bool) → x ≡ row_entry row → there ≡ false
+      → (g.state mid).is_told ≡ (g.state old).is_told → (g.state mid).work ≡ (g.state old).work → StandsTree g shape old tree owners t → FindsBlock t block (Some row)
+      → ((o : List Kind) (u : Forest) → StandsTree g shape mid tree o u → MatchBool there (RemovesEntry g shape before noted new tree x o u) (IsEntryOf x (leaf_entries u) → ⊥)) → ⊥
+  leaves_none old mid new shape before noted tree owners t block row x true e is told same s found removes = cc
+  leaves_none old mid new shape before noted tree owners t block row x false e is told same s found removes =
       removes owners t (stands_same told same s) (subst (λ (v : Entry). IsEntryOf v (leaf_entries t)) (sym e) found.1)

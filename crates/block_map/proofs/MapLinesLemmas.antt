@@ -12,8 +12,8 @@ use Rattle.byteorder.specs.Numbers.{big_from-bytes}
 use Rattle.mdc_words.specs.ByteOrder.{Entry}
 use Rattle.key_codec.proofs.OrderLemmas.{AreBytes-none}
 use Rattle.entry_tree.specs.EntryBounds.{IsEntryOf}
-use Rattle.block_map.specs.MapLines.{IsMapEntry, MapLine, blocks_in_state, map_entry, map_line}
-use Rattle.block_map.specs.MapRows.{row_entry, state_number}
+use Rattle.block_map.specs.MapLines.{IsMapEntry, MapLine, blocks_in_state, lines_in_state, map_entry, map_line}
+use Rattle.block_map.specs.MapRows.{line_of, row_entry, state_number}
 use Rattle.block_map.specs.declared.row.BlockRow.{BlockRow}
 
 -- the block that an entry names
@@ -30,6 +30,20 @@ row_block row small = line_block row.block (state_number row.state) row.rows ∙
 
 pub row_state : (row : BlockRow) → (map_line (row_entry row)).state ≡ state_number row.state
 row_state row = line_state row.block (state_number row.state) row.rows
+
+pub row_rows : (row : BlockRow) → row.rows < 2 ^ 16 → (map_line (row_entry row)).rows ≡ row.rows
+row_rows row small = big_from-bytes 2 row.rows [] ∙ mod-eq_of_lt small
+
+-- a line of these numbers
+abbrev line_with : ℕ → ℕ → ℕ → MapLine
+line_with block state rows = record { block = block; state = state; rows = rows }
+
+-- so what its entry says is its line
+pub row_line : (row : BlockRow) → row.block < 2 ^ 32 → row.rows < 2 ^ 16 → map_line (row_entry row) ≡ line_of row
+row_line row small few =
+    ap (λ (b : ℕ). line_with b (map_line (row_entry row)).state (map_line (row_entry row)).rows) (row_block row small)
+    ∙ ap (λ (s : ℕ). line_with row.block s (map_line (row_entry row)).rows) (row_state row)
+    ∙ ap (λ (r : ℕ). line_with row.block (state_number row.state) r) (row_rows row few)
 
 -- the state of an entry is its fifth byte
 pub entry_state : (x : Entry) → (map_line x).state ≡ get_or x 4 0
@@ -67,7 +81,12 @@ entry_small x w =
     let l : line.block % 256 ^ 4 < 256 ^ 4 = mod-lt line.block (omega arith) in
     subst (λ (n : ℕ). n < 256 ^ 4) (sym e) l
 
--- ---- the blocks of a state
+-- ---- the lines and the blocks of a state
+
+-- the line of a row is one of its state
+pub lines_in_state-row : (n : ℕ) (row : BlockRow) (more : List Entry) → row.block < 2 ^ 32 → row.rows < 2 ^ 16
+    → lines_in_state n (row_entry row ∷ more) ≡ cond (state_number row.state == n) (line_of row ∷ lines_in_state n more) (lines_in_state n more)
+lines_in_state-row n row more small few = ap (λ (line : MapLine). cond (line.state == n) (line ∷ lines_in_state n more) (lines_in_state n more)) (row_line row small few)
 
 pub in_state-cons : (n : ℕ) (x : Entry) (more : List Entry)
     → blocks_in_state n (x ∷ more) ≡ cond ((map_line x).state == n) ((map_line x).block ∷ blocks_in_state n more) (blocks_in_state n more)

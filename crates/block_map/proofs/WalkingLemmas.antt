@@ -1,10 +1,10 @@
 -- A walk over the rows of a block map: how it begins, its steps, and what it can't meet.
-use Rattle.std.proofs.Common.{◌≡◌, ◌<◌, ◌≤◌, ◌+◌, ◌^◌, ℕ, zero, suc, List, [], ◌∷◌, ◌++◌, refl, ap, arith, sym, ◌∙◌, subst, append-nil, append_assoc, add-one, length, get_or, drop, drop-cons, ◌⊎◌, inl, inr}
+use Rattle.std.proofs.Common.{◌≡◌, ◌<◌, ◌≤◌, ◌+◌, ◌^◌, ℕ, zero, suc, List, [], ◌∷◌, ◌++◌, refl, ap, arith, sym, ◌∙◌, subst, append-nil, append_assoc, add-one, length, get_or, drop, drop-cons, map, take, ◌⊎◌, inl, inr}
 use Rattle.std.specs.Prelude.{Bool, true, false, cond, ◌==◌, nat_lt, Contains, Some, None, if◌then◌else◌}
 use Rattle.std.proofs.lemmas.Bool.{cases_lt}
 use Rattle.std.proofs.lemmas.Bool.Decides.{nat_tests}
-use Rattle.std.proofs.lemmas.List.{drop_all}
-use Rattle.mdc_values.specs.Rising.{IsLower, LastIsBefore}
+use Rattle.std.proofs.lemmas.List.{drop_all, map-append}
+use Rattle.mdc_values.specs.Rising.{IsLower, IsRising, LastIsBefore}
 use Rattle.mdc_words.specs.ByteOrder.{Entry, below}
 use Rattle.entry_tree.specs.Entries.{AreOfWidth}
 use Rattle.entry_tree.specs.EntryBounds.{Bound, Climbs, IsEntryOf, Rises}
@@ -16,8 +16,8 @@ use Rattle.entry_tree.proofs.ReadingLemmas.{entries_from-least}
 use Rattle.entry_tree.proofs.WalksLemmas.{leaf_alone, leaf_and_rest}
 use Rattle.entry_tree.proofs.ReadingLemmas.{from_entries_from, in_entries_from}
 use Rattle.block_map.specs.BlockMaps.{FindsFree, IsLowestFreeBlock, IsMapForm}
-use Rattle.block_map.specs.MapLines.{AreMapEntries, IsMapEntry, blocks_in_state, free_blocks, map_entry, map_line}
-use Rattle.block_map.specs.MapRows.{row_entry, state_number}
+use Rattle.block_map.specs.MapLines.{AreMapEntries, IsMapEntry, MapLine, blocks_in_state, blocks_of_state, free_blocks, lines_in_state, lines_of_state, map_entry, map_line}
+use Rattle.block_map.specs.MapRows.{line_of, row_entry, state_number}
 use Rattle.block_map.specs.Walking.{EndsBelow, GivesNext, IsWalking, IsWalkingFrom, entries_behind_bound, left_of_walk}
 use Rattle.block_map.specs.declared.row.BlockRow.{BlockRow}
 use Rattle.block_map.specs.declared.state.BlockState.{BlockState}
@@ -27,7 +27,7 @@ use Rattle.block_map.specs.contracts.state.BlockState.{the_type}
 use denote.Enum.Bare.{sameb}
 use Rattle.block_map.proofs.FindingLemmas.{not_below_own}
 use Rattle.block_map.proofs.MapFormLemmas.{form_one, form_state}
-use Rattle.block_map.proofs.MapLinesLemmas.{contains_cases, entry_small, in_state-row, in_state_named, named_in_state, row_block, row_state}
+use Rattle.block_map.proofs.MapLinesLemmas.{contains_cases, entry_small, in_state-row, in_state_named, lines_in_state-row, named_in_state, row_block, row_state}
 use Rattle.block_map.proofs.MapOrderLemmas.{before_block, not_before_first, row_no_higher, rows_no_higher}
 
 -- ---- rising lists
@@ -140,32 +140,52 @@ all_from_first xs h = entries_from-least (map_entry 0 0 0) xs (least xs h)
     least [] h = tt
     least (y ∷ ys) h = (not_before_first y h.0, least ys h.1)
 
--- ---- a list of the blocks of a state
+-- ---- the rows of a state
 
--- the blocks so far are those of the entries that the walk passed
-pub record IsListing (all : List Entry) (n : ℕ) (walk : Walk) (blocks : List ℕ) : Type 0 where
+-- the rows so far are those of the entries that the walk passed
+pub record IsListing (all : List Entry) (n : ℕ) (walk : Walk) (rows : List BlockRow) : Type 0 where
   pub walking : IsWalking all walk
-  pub so_far : blocks_in_state n all ≡ blocks ++ blocks_in_state n (left_of_walk all walk)
+  pub so_far : lines_in_state n all ≡ map line_of rows ++ lines_in_state n (left_of_walk all walk)
 
 pub listing_begins : (all : List Entry) (n : ℕ) (walk : Walk) → AreOfWidth 7 all → walk.leaf.entries ≡ [] → walk.leaf.next ≡ Some (map_entry 0 0 0) → walk.at ≡ 0 → walk.lowest ≡ 0 → IsListing all n walk []
 listing_begins all n walk wide e x a l =
     let w = walking_begins (map_entry 0 0 0) all walk e x a l in
-    record { walking = (map_entry 0 0 0, w); so_far = ap (blocks_in_state n) (sym (all_from_first all wide) ∙ sym (left_at_first (map_entry 0 0 0) all walk e x a)) }
+    record { walking = (map_entry 0 0 0, w); so_far = ap (lines_in_state n) (sym (all_from_first all wide) ∙ sym (left_at_first (map_entry 0 0 0) all walk e x a)) }
 
-pub listing_goes : (all : List Entry) (n : ℕ) (old new : Walk) (row : BlockRow) (blocks more : List ℕ) → IsListing all n old blocks → GivesNext all old new (Some row) → row.block < 2 ^ 32 → new.lowest ≡ row.block + 1
-    → more ≡ blocks ++ cond (state_number row.state == n) (row.block ∷ []) [] → IsListing all n new more
-listing_goes all n old new row blocks more k g small l is = record {
+pub listing_goes : (all : List Entry) (n : ℕ) (old new : Walk) (row : BlockRow) (rows more : List BlockRow) → IsListing all n old rows → GivesNext all old new (Some row) → row.block < 2 ^ 32 → row.rows < 2 ^ 16
+    → new.lowest ≡ row.block + 1 → more ≡ rows ++ cond (state_number row.state == n) (row ∷ []) [] → IsListing all n new more
+listing_goes all n old new row rows more k g small few l is = record {
   walking = (k.walking.0, walking_goes k.walking.0 all old new row k.walking.1 g small l);
-  so_far = k.so_far ∙ ap (λ (r : List Entry). blocks ++ blocks_in_state n r) g ∙ ap (λ (r : List ℕ). blocks ++ r) (in_state-row n row (left_of_walk all new) small)
-      ∙ go (state_number row.state == n) (blocks_in_state n (left_of_walk all new)) ∙ ap (λ (b : List ℕ). b ++ blocks_in_state n (left_of_walk all new)) (sym is);
+  so_far = k.so_far ∙ ap (λ (r : List Entry). map line_of rows ++ lines_in_state n r) g ∙ ap (λ (r : List MapLine). map line_of rows ++ r) (lines_in_state-row n row (left_of_walk all new) small few)
+      ∙ go (state_number row.state == n) (lines_in_state n (left_of_walk all new)) ∙ ap (λ (b : List BlockRow). map line_of b ++ lines_in_state n (left_of_walk all new)) (sym is);
 }
   where
-    go : (b : Bool) (rest : List ℕ) → blocks ++ cond b (row.block ∷ rest) rest ≡ (blocks ++ cond b (row.block ∷ []) []) ++ rest
-    go true rest = sym (append_assoc blocks (row.block ∷ []) rest)
-    go false rest = ap (λ (b : List ℕ). b ++ rest) (sym (append-nil blocks))
+    go : (b : Bool) (rest : List MapLine) → map line_of rows ++ cond b (line_of row ∷ rest) rest ≡ map line_of (rows ++ cond b (row ∷ []) []) ++ rest
+    go true rest = sym (append_assoc (map line_of rows) (line_of row ∷ []) rest) ∙ ap (λ (m : List MapLine). m ++ rest) (sym (map-append line_of rows (row ∷ [])))
+    go false rest = ap (λ (m : List BlockRow). map line_of m ++ rest) (sym (append-nil rows))
 
-pub listing_ends : (all : List Entry) (n : ℕ) (walk : Walk) (blocks : List ℕ) → IsListing all n walk blocks → left_of_walk all walk ≡ [] → blocks ≡ blocks_in_state n all
-listing_ends all n walk blocks k e = sym (k.so_far ∙ ap (λ (r : List Entry). blocks ++ blocks_in_state n r) e ∙ append-nil blocks)
+pub listing_ends : (all : List Entry) (n : ℕ) (walk : Walk) (rows : List BlockRow) → IsListing all n walk rows → left_of_walk all walk ≡ [] → map line_of rows ≡ lines_in_state n all
+listing_ends all n walk rows k e = sym (k.so_far ∙ ap (λ (r : List Entry). map line_of rows ++ lines_in_state n r) e ∙ append-nil (map line_of rows))
+
+-- the blocks of rows
+abbrev pub blocks_of_rows : List BlockRow → List ℕ
+blocks_of_rows rows = map (λ row. row.block) rows
+
+-- those of rows of a state are the blocks of that state
+pub blocks_are : (n : ℕ) (t : Forest) (rows : List BlockRow) → map line_of rows ≡ lines_of_state n t → blocks_of_rows rows ≡ blocks_of_state n t
+blocks_are n t rows e = blocks_there rows ∙ ap (map (λ (line : MapLine). line.block)) e
+  where
+    blocks_there : (some : List BlockRow) → blocks_of_rows some ≡ map (λ (line : MapLine). line.block) (map line_of some)
+    blocks_there [] = refl
+    blocks_there (row ∷ more) = ap (λ (b : List ℕ). row.block ∷ b) (blocks_there more)
+
+-- what a rising list has at a place may be put behind what stands before that
+pub last_of_front : {X : Type 0} (f : X → ℕ) (xs : List X) (i : ℕ) (d : X) → i < length xs → IsRising IsLower (map f xs) → LastIsBefore IsLower (f (get_or xs i d)) (map f (take i xs))
+last_of_front f [] i d l rising = absurd (omega (arith, l))
+last_of_front f (x ∷ xs) zero d l rising = tt
+last_of_front f (x ∷ []) (suc i) d l rising = absurd (omega (arith, l))
+last_of_front f (x ∷ y ∷ xs) (suc zero) d l rising = rising.0
+last_of_front f (x ∷ y ∷ xs) (suc (suc i)) d l rising = last_of_front f (y ∷ xs) (suc i) d (omega (arith, l)) rising.1
 
 -- what is put behind a rising list
 pub last_pushed : (blocks : List ℕ) (b e : ℕ) → b < e → LastIsBefore IsLower e (blocks ++ b ∷ [])

@@ -36,9 +36,17 @@ map_lines map_tree = map map_line (leaf_entries map_tree)
 abbrev pub mapped_blocks : Forest → List ℕ
 mapped_blocks map_tree = map (λ line. line.block) (map_lines map_tree)
 
+-- the lines of a state among entries
+abbrev pub lines_in_state : ℕ → List Entry → List MapLine
+lines_in_state state entries = filter (λ line. line.state == state) (map map_line entries)
+
+-- those of a block map
+abbrev pub lines_of_state : ℕ → Forest → List MapLine
+lines_of_state state map_tree = lines_in_state state (leaf_entries map_tree)
+
 -- the blocks that a list of entries names with a state
 abbrev pub blocks_in_state : ℕ → List Entry → List ℕ
-blocks_in_state state entries = map (λ line. line.block) (filter (λ line. line.state == state) (map map_line entries))
+blocks_in_state state entries = map (λ line. line.block) (lines_in_state state entries)
 
 -- those of a state in a block map
 abbrev pub blocks_of_state : ℕ → Forest → List ℕ

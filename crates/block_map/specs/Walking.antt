@@ -49,3 +49,7 @@ pub record WalkFits (walk : Walk) : Type 0 where
 abbrev pub GivesNext : List Entry → Walk → Walk → Option BlockRow → Type 0
 GivesNext all old new None = left_of_walk all old ≡ []
 GivesNext all old new (Some row) = left_of_walk all old ≡ row_entry row ∷ left_of_walk all new
+
+-- the row that a walk gave isn't below the lowest that it allowed, the next one is above it, and its numbers are of 32 and of 16 bits
+abbrev pub RisesTo : Walk → Walk → BlockRow → Type 0
+RisesTo old new row = (old.lowest ≤ row.block) × (new.lowest ≡ row.block + 1) × (row.block < 2 ^ 32) × (row.rows < 2 ^ 16)

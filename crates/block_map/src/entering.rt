@@ -4,7 +4,6 @@ ghost use Rattle.store_api.specs.Causes.{fault_of, store_fault_in};
 ghost use Rattle.store_api.specs.RunsOverPages.{RunsOverPages};
 ghost use Rattle.extent_map.specs.Damages.{IfFull, store_part_of};
 ghost use Rattle.extent_map.specs.Map.{KeepsRoot};
-ghost use Rattle.extent_map.specs.Owners.{IsSameShape};
 ghost use Rattle.extent_map.specs.declared.kind.Kind.{Kind};
 ghost use Rattle.entry_tree.specs.Forest.{Forest};
 ghost use Rattle.entry_tree.specs.Pruning.{IsTreeOrMapPage};
@@ -13,28 +12,28 @@ ghost use Rattle.block_map.specs.MapChanges.{BreaksEntering, BreaksLeaving, Leav
 ghost use Rattle.block_map.specs.MapRows.{row_entry};
 
 use crate::{BlockMap, BlockRow};
-use extent_map::{Extents, SpaceFault};
-use store_api::{Pages, StoreFault};
+use extent_map::{SpaceFault, SpaceNotes};
+use store_api::{Pages, Shape, StoreFault};
 
 impl BlockMap {
     /// Enters a block that isn't there. `Full` says that the tree met no free extent. Damaged where the map has this row.
     pub fn enter<P: Pages>(
         &self,
-        ext: &mut Extents,
+        shape: Shape,
+        notes: &mut SpaceNotes,
         pages: &mut P,
         row: BlockRow,
     ) -> Result<(), SpaceFault>
         requires going { (P.state pages.old).ended ≡ false }
-        ensures adds { OnOk result ((owners : List Kind) (t : Forest) → StandsTree P.Pages ext.old pages.old self.now.tree owners t
-            → AddsEntry P.Pages ext.old ext.new pages.old pages.new self.now.tree (row_entry row) owners t) }
-        ensures full { IfErr result (λ fault. IfFull fault (λ cap. (cap ≡ ext.old.cap)
-            × ((owners : List Kind) (t : Forest) → StandsTree P.Pages ext.old pages.old self.now.tree owners t → FindsFull P.Pages ext.old ext.new pages.old pages.new self.now.tree (row_entry row) owners t))) }
-        ensures root { (owners : List Kind) (t : Forest) → StandsTree P.Pages ext.old pages.old self.now.tree owners t → KeepsRoot P.Pages pages.old pages.new }
-        ensures shape { IsSameShape ext.old ext.new }
-        ensures runs { RunsOverPages P.Pages (IsTreeSpace P.Pages ext.old pages.old self.now.tree) (IsTreeSpace P.Pages ext.old pages.old self.now.tree)
-            (BreaksEntering P.Pages ext.old pages.old self.now.tree row) pages.old pages.new (store_fault_in store_part_of result) }
+        ensures adds { OnOk result ((owners : List Kind) (t : Forest) → StandsTree P.Pages shape pages.old self.now.tree owners t
+            → AddsEntry P.Pages shape notes.old notes.new pages.old pages.new self.now.tree (row_entry row) owners t) }
+        ensures full { IfErr result (λ fault. IfFull fault (λ cap. (cap ≡ shape.extents)
+            × ((owners : List Kind) (t : Forest) → StandsTree P.Pages shape pages.old self.now.tree owners t → FindsFull P.Pages shape notes.old notes.new pages.old pages.new self.now.tree (row_entry row) owners t))) }
+        ensures root { (owners : List Kind) (t : Forest) → StandsTree P.Pages shape pages.old self.now.tree owners t → KeepsRoot P.Pages pages.old pages.new }
+        ensures runs { RunsOverPages P.Pages (IsTreeSpace P.Pages shape pages.old self.now.tree) (IsTreeSpace P.Pages shape pages.old self.now.tree)
+            (BreaksEntering P.Pages shape pages.old self.now.tree row) pages.old pages.new (store_fault_in store_part_of result) }
     {
-        if self.tree.add(ext, pages, &row.entry())? {
+        if self.tree.add(shape, notes, pages, &row.entry())? {
             Ok(())
         } else {
             Err(SpaceFault::Store(self.damaged()))
@@ -44,22 +43,22 @@ impl BlockMap {
     /// Takes a block that is there out of the map. It claims no page. Damaged where the map doesn't name the block.
     pub fn leave<P: Pages>(
         &self,
-        ext: &mut Extents,
+        shape: Shape,
+        notes: &mut SpaceNotes,
         pages: &mut P,
         block: u32,
     ) -> Result<(), StoreFault>
         requires going { (P.state pages.old).ended ≡ false }
-        ensures leaves { OnOk result ((owners : List Kind) (t : Forest) → StandsTree P.Pages ext.old pages.old self.now.tree owners t
-            → LeavesMap P.Pages ext.old ext.new pages.new self.now.tree block owners t) }
+        ensures leaves { OnOk result ((owners : List Kind) (t : Forest) → StandsTree P.Pages shape pages.old self.now.tree owners t
+            → LeavesMap P.Pages shape notes.old notes.new pages.new self.now.tree block owners t) }
         ensures count { length (P.state pages.new).work ≡ length (P.state pages.old).work }
-        ensures shape { IsSameShape ext.old ext.new }
-        ensures runs { RunsOverPages P.Pages (IsTreeOrMapPage P.Pages ext.old pages.old self.now.tree) (IsTreeOrMapPage P.Pages ext.old pages.old self.now.tree)
-            (BreaksLeaving P.Pages ext.old pages.old self.now.tree block) pages.old pages.new (fault_of result) }
+        ensures runs { RunsOverPages P.Pages (IsTreeOrMapPage P.Pages shape pages.old self.now.tree) (IsTreeOrMapPage P.Pages shape pages.old self.now.tree)
+            (BreaksLeaving P.Pages shape pages.old self.now.tree block) pages.old pages.new (fault_of result) }
     {
         let Some(row) = self.get(pages, block)? else {
             return Err(self.damaged());
         };
-        if self.tree.remove(ext, pages, &row.entry())? {
+        if self.tree.remove(shape, notes, pages, &row.entry())? {
             Ok(())
         } else {
             Err(self.damaged())

@@ -1,5 +1,5 @@
 // The rows of a block map, one after the other.
-ghost use Rattle.std.specs.Prelude.{◌≡◌, ◌+◌, ◌<◌, ◌≤◌, ◌^◌, [], Some, length, true, false, IfOk, IfSome, OnOk};
+ghost use Rattle.std.specs.Prelude.{◌≡◌, ◌+◌, ◌<◌, ◌^◌, [], Some, length, true, false, IfOk, IfSome, OnOk};
 ghost use Rattle.store_api.specs.Causes.{fault_of};
 ghost use Rattle.store_api.specs.Frame.{NoPage};
 ghost use Rattle.store_api.specs.RunsOverPages.{RunsOverPages};
@@ -7,7 +7,7 @@ ghost use Rattle.entry_tree.specs.Forest.{Forest, leaf_entries};
 ghost use Rattle.entry_tree.specs.HeldTrees.{BreaksTree, HoldsTree, IsTreePage};
 ghost use Rattle.block_map.specs.BlockMaps.{BreaksMapTree};
 ghost use Rattle.block_map.specs.MapLines.{map_entry};
-ghost use Rattle.block_map.specs.Walking.{GivesNext, IsWalking, WalkFits, left_of_walk};
+ghost use Rattle.block_map.specs.Walking.{GivesNext, IsWalking, RisesTo, WalkFits, left_of_walk};
 
 use crate::row::lowest_entry;
 use crate::{BlockMap, BlockRow};
@@ -53,7 +53,7 @@ impl Walk {
         requires going { (P.state pages.old).ended ≡ false }
         ensures fits { OnOk result (WalkFits self.new) }
         ensures gives { IfOk result (λ row. (t : Forest) → HoldsTree P.Pages pages.old map.now.tree t → GivesNext (leaf_entries t) self.old self.new row) }
-        ensures rises { IfOk result (λ row. IfSome row (λ row. (self.old.lowest ≤ row.block) × (self.new.lowest ≡ row.block + 1) × (row.block < 2 ^ 32))) }
+        ensures rises { IfOk result (λ row. IfSome row (RisesTo self.old self.new)) }
         ensures same { (P.state pages.new).work ≡ (P.state pages.old).work }
         ensures runs { RunsOverPages P.Pages NoPage (IsTreePage P.Pages pages.old map.now.tree)
             (BreaksMapTree P.Pages pages.old map.now.tree (λ t. IsWalking (leaf_entries t) self.old)) pages.old pages.new (fault_of result) }

@@ -3,10 +3,10 @@ ghost use Rattle.std.specs.Prelude.{◌≡◌, false};
 
 use block_map::{BlockMap, BlockRow, BlockState};
 use entry_tree::Tree;
-use extent_map::{Extents, SpaceFault};
+use extent_map::{SpaceFault, SpaceNotes};
 use mdc_values::Blocks;
 use std::alloc::Global;
-use store_api::{Store, StoreFault};
+use store_api::{Shape, Store, StoreFault};
 
 /// The width of an entry.
 const WIDTH: u16 = 7;
@@ -18,6 +18,8 @@ pub struct Seen {
     pub row: Option<BlockRow>,
     /// The blocks of the state.
     pub listed: Blocks,
+    /// Their rows.
+    pub rows: Vec<BlockRow>,
     /// The lowest Free block.
     pub first_free: Option<u32>,
     /// The lowest Free block above the block.
@@ -27,17 +29,18 @@ pub struct Seen {
 /// A map of blocks 9, 5 and 3, the first two Free and the last with two rows, entered in this order.
 pub fn fill<S: Store>(
     alloc: Global,
-    ext: &mut Extents,
+    shape: Shape,
+    notes: &mut SpaceNotes,
     store: &mut S,
 ) -> Result<BlockMap, SpaceFault>
     requires going { (S.state store.old).ended ≡ false }
     ensures going { (S.state store.new).ended ≡ false }
 {
-    let tree = Tree::make(alloc, ext, store, WIDTH)?;
+    let tree = Tree::make(alloc, shape, notes, store, WIDTH)?;
     let map = BlockMap::at(alloc, tree.root);
-    map.enter(ext, store, row(9, BlockState::Free, 0))?;
-    map.enter(ext, store, row(5, BlockState::Free, 0))?;
-    map.enter(ext, store, row(3, BlockState::Used, 2))?;
+    map.enter(shape, notes, store, row(9, BlockState::Free, 0))?;
+    map.enter(shape, notes, store, row(5, BlockState::Free, 0))?;
+    map.enter(shape, notes, store, row(3, BlockState::Used, 2))?;
     Ok(map)
 }
 
@@ -59,11 +62,13 @@ pub fn look_round<S: Store>(
 {
     let row = map.get(store, block)?;
     let listed = map.list(store, state)?;
+    let rows = map.rows(store, state)?;
     let first_free = map.first_free(store)?;
     let free_behind = map.first_free_from(store, block.saturating_add(1))?;
     Ok(Seen {
         row,
         listed,
+        rows,
         first_free,
         free_behind,
     })

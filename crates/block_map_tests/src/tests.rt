@@ -3,10 +3,10 @@ ghost use Rattle.std.specs.Prelude.{◌≡◌, false, IfOk};
 
 use crate::{Seen, fill, look_round, row};
 use block_map::BlockState;
-use extent_map::Extents;
+use extent_map::SpaceNotes;
 use std::alloc::Global;
 use std::test::Fail;
-use store_api::{MemStore, Page, Pages, Store};
+use store_api::{MemStore, Page, Pages, Shape, Store};
 
 // A store of these pages.
 fn store_of(alloc: Global, pages: Vec<Page>) -> Result<MemStore, Fail>
@@ -29,45 +29,56 @@ fn empty_store(alloc: Global) -> Result<MemStore, Fail>
     store_of(alloc, pages)
 }
 
-fn extents() -> Result<Extents, Fail> {
-    match Extents::new(16, 2) {
-        Some(ext) => Ok(ext),
+fn shape() -> Result<Shape, Fail> {
+    match Shape::new(16, 2) {
+        Some(shape) => Ok(shape),
         None => Err("no shape of a database")?,
     }
 }
 
 // A map that was filled, seen at block 5.
-fn filled<S: Store>(alloc: Global, ext: &mut Extents, store: &mut S) -> Result<Seen, Fail>
+fn filled<S: Store>(
+    alloc: Global,
+    shape: Shape,
+    notes: &mut SpaceNotes,
+    store: &mut S,
+) -> Result<Seen, Fail>
     requires going { (S.state store.old).ended ≡ false }
 {
-    let map = fill(alloc, ext, store)?;
+    let map = fill(alloc, shape, notes, store)?;
     Ok(look_round(&map, store, 5, BlockState::Free)?)
 }
 
 // The same once block 5 is Pending, block 3 has a row more and block 9 has left, seen at block 3.
-fn changed<S: Store>(alloc: Global, ext: &mut Extents, store: &mut S) -> Result<Seen, Fail>
+fn changed<S: Store>(
+    alloc: Global,
+    shape: Shape,
+    notes: &mut SpaceNotes,
+    store: &mut S,
+) -> Result<Seen, Fail>
     requires going { (S.state store.old).ended ≡ false }
 {
-    let map = fill(alloc, ext, store)?;
+    let map = fill(alloc, shape, notes, store)?;
     map.set(store, row(5, BlockState::Pending, 0))?;
     map.replace(
         store,
         row(3, BlockState::Used, 2),
         row(3, BlockState::Used, 3),
     )?;
-    map.leave(ext, store, 9)?;
+    map.leave(shape, notes, store, 9)?;
     Ok(look_round(&map, store, 3, BlockState::Pending)?)
 }
 
 // What counting rows answers: up to three in block 5, which has two; one less there; and in block 9, which is Free.
 fn counted<S: Store>(
     alloc: Global,
-    ext: &mut Extents,
+    shape: Shape,
+    notes: &mut SpaceNotes,
     store: &mut S,
 ) -> Result<[Option<u16>; 4], Fail>
     requires going { (S.state store.old).ended ≡ false }
 {
-    let map = fill(alloc, ext, store)?;
+    let map = fill(alloc, shape, notes, store)?;
     map.set(store, row(5, BlockState::Used, 2))?;
     let more = map.count_row(store, 5, 3)?;
     let full = map.count_row(store, 5, 3)?;
@@ -81,11 +92,21 @@ fn blocks_are_found_and_listed(rt: HostRuntime) -> Result<(), Fail> {
     let Seen {
         row: found,
         listed,
+        rows,
         first_free,
         free_behind,
-    } = filled(rt.alloc(), &mut extents()?, &mut empty_store(rt.alloc())?)?;
+    } = filled(
+        rt.alloc(),
+        shape()?,
+        &mut SpaceNotes::new(),
+        &mut empty_store(rt.alloc())?,
+    )?;
     assert_eq!(rt; found, Some(row(5, BlockState::Free, 0)));
     assert_eq!(rt; listed.as_slice(), [5, 9].as_slice());
+    assert_eq!(rt;
+        rows.as_slice(),
+        [row(5, BlockState::Free, 0), row(9, BlockState::Free, 0)].as_slice()
+    );
     assert_eq!(rt; first_free, Some(5));
     assert_eq!(rt; free_behind, Some(9));
     Ok(())
@@ -96,11 +117,21 @@ fn rows_change_in_place_and_leave(rt: HostRuntime) -> Result<(), Fail> {
     let Seen {
         row: found,
         listed,
+        rows,
         first_free,
         free_behind,
-    } = changed(rt.alloc(), &mut extents()?, &mut empty_store(rt.alloc())?)?;
+    } = changed(
+        rt.alloc(),
+        shape()?,
+        &mut SpaceNotes::new(),
+        &mut empty_store(rt.alloc())?,
+    )?;
     assert_eq!(rt; found, Some(row(3, BlockState::Used, 3)));
     assert_eq!(rt; listed.as_slice(), [5].as_slice());
+    assert_eq!(rt;
+        rows.as_slice(),
+        [row(5, BlockState::Pending, 0)].as_slice()
+    );
     assert_eq!(rt; first_free, None);
     assert_eq!(rt; free_behind, None);
     Ok(())
@@ -108,7 +139,12 @@ fn rows_change_in_place_and_leave(rt: HostRuntime) -> Result<(), Fail> {
 
 #[test]
 fn rows_of_used_blocks_are_counted(rt: HostRuntime) -> Result<(), Fail> {
-    let answers = counted(rt.alloc(), &mut extents()?, &mut empty_store(rt.alloc())?)?;
+    let answers = counted(
+        rt.alloc(),
+        shape()?,
+        &mut SpaceNotes::new(),
+        &mut empty_store(rt.alloc())?,
+    )?;
     assert_eq!(rt; answers, [Some(2), None, Some(3), None]);
     Ok(())
 }

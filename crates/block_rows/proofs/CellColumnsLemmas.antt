@@ -1,11 +1,12 @@
 -- Columns of the cell: the values in them, by the bytes of a row.
-use Rattle.std.proofs.Common.{◌≡◌, ◌<◌, ◌≤◌, ◌+◌, ◌-◌, ◌*◌, ◌/◌, ◌%◌, ◌^◌, ℕ, zero, suc, Bool, true, false, IsTrue, List, [], ◌∷◌, ◌++◌, length, map, take, drop, get_or, Option, Some, None, refl, ap, sym, ◌∙◌, inl, inr, arith, subst}
-use Rattle.std.specs.Prelude.{◌↔◌, ◌==◌, slice_get, unwrap_or}
+use Rattle.std.proofs.Common.{◌≡◌, ◌<◌, ◌≤◌, ◌+◌, ◌-◌, ◌/◌, ◌%◌, ◌^◌, ℕ, zero, suc, Bool, true, false, List, [], ◌∷◌, length, map, take, drop, get_or, refl, ap, sym, ◌∙◌, arith, subst}
+use Rattle.std.specs.Prelude.{◌==◌, unwrap_or}
+use Rattle.std.specs.Int.{bit_at}
+use Rattle.std.specs.Int.Bits.{bit_xor}
 use Rattle.std.specs.List.{AllByRecursion}
 use Rattle.std.proofs.lemmas.Bool.Decides.{nat_tests}
 use Rattle.std.proofs.lemmas.List.{get_or-map, length-map}
-use Rattle.mdc_values.specs.declared.value.ColType.{ColType}
-use Rattle.mdc_values.specs.declared.value.Value.{Value}
+use Rattle.std.proofs.lemmas.Nat.Bits.{bit_at-lt, bit_at_xor}
 use Rattle.mdc_values.specs.declared.value.Value.TheVariants.{Null}
 use Rattle.mdc_ast.specs.Definitions.{width}
 use Rattle.mdc_ast.specs.Truth.{value_at}
@@ -16,11 +17,18 @@ use Rattle.key_codec.proofs.KeyLemmas.{first_there}
 use Rattle.table_trees.specs.TableTrees.{AreIndexParts, rising_parts}
 use Rattle.table_trees.proofs.TableTreesLemmas.{AreColumns}
 use Rattle.mdc_sound.proofs.DefinitionTreesLemmas.{has_block_indexes}
-use Rattle.row_page.specs.Row.{column_value, nulls_in, row_in, row_width_of, stored_bytes, value_or_null}
+use Rattle.row_page.specs.Row.{column_value, nulls_in, row_in, row_width_of, value_or_null}
 use Rattle.row_page.proofs.RowLemmas.{get-row_in, row_width_of-ge, row_width_of-take_more, stored_bytes-take}
-use Rattle.block_rows.specs.CellColumns.{IsCellColumn, places_of}
-use Rattle.block_rows.specs.SeenRows.{values_at}
+use Rattle.block_rows.specs.CellColumns.{IsCellColumn}
 use Rattle.block_rows.specs.declared.cell_columns.CellColumn.{CellColumn}
+
+-- ---- null bits
+
+-- a bit in which two numbers don't differ
+pub same_bit : (nulls others a b i : ℕ) → nulls ≡ a → others ≡ b → (bit_xor nulls others / 2 ^ i % 2 ≡ 1 → ⊥) → bit_at a i ≡ bit_at b i
+same_bit nulls others a b i is also other =
+    let zero : bit_at (bit_xor nulls others) i ≡ 0 = omega (arith, other, bit_at-lt (bit_xor nulls others) i) in
+    omega (arith, bit_at_xor nulls others i, zero, bit_at-lt nulls i, bit_at-lt others i, ap (λ n. bit_at n i) is, ap (λ n. bit_at n i) also)
 
 -- ---- one column
 
@@ -69,6 +77,22 @@ module _ (columns : List ColumnDef) (column : CellColumn) (is : IsCellColumn col
   read_in_column row nulls are other =
       let bit : (nulls_in row / 2 ^ column.place % 2 == 1) ≡ false = rw (← are) (grind (arith, nat_tests)) in
       value_in_column row ∙ ap (λ b. value_or_null b column.ty (take (width column.ty) (drop column.start row))) bit
+
+  -- it is the same in rows that are alike there
+  pub same_in_column : (first second : List ℕ) → bit_at (nulls_in first) column.place ≡ bit_at (nulls_in second) column.place
+      → column_value column.ty (take (column.end - column.start) (drop column.start first)) ≡ column_value column.ty (take (column.end - column.start) (drop column.start second))
+      → value_at (row_in columns first).values column.place ≡ value_at (row_in columns second).values column.place
+  same_in_column first second bits same =
+      let wide : column.end - column.start ≡ width column.ty = omega (arith, column_end) in
+      let alike : column_value column.ty (take (width column.ty) (drop column.start first)) ≡ column_value column.ty (take (width column.ty) (drop column.start second)) =
+      subst (λ k. column_value column.ty (take k (drop column.start first)) ≡ column_value column.ty (take k (drop column.start second))) wide same in
+      value_in_column first
+      ∙ (ap (λ bit. value_or_null (bit == 1) column.ty (take (width column.ty) (drop column.start first))) bits
+      ∙ (both_null (bit_at (nulls_in second) column.place == 1) _ _ alike ∙ sym (value_in_column second)))
+    where
+      both_null : (null : Bool) (one other : List ℕ) → column_value column.ty one ≡ column_value column.ty other → value_or_null null column.ty one ≡ value_or_null null column.ty other
+      both_null true one other same = refl
+      both_null false one other same = same
 
 -- ---- all of them
 

@@ -1,11 +1,14 @@
 -- Rows that were met: how many, by which cell they are judged, and whether all are of it.
-use Rattle.std.proofs.Common.{◌≡◌, ◌<◌, ◌≤◌, ◌+◌, ℕ, zero, suc, List, [], ◌∷◌, ◌++◌, Bool, true, IsTrue, Option, Some, None, length, get_or, refl, ap, sym, ◌∙◌, inl, inr, arith, length-append, append-nil, append_assoc, subst}
-use Rattle.std.specs.Prelude.{◌↔◌, AllPairs, Contains}
+use Rattle.std.proofs.Common.{◌≡◌, ◌<◌, ◌+◌, ℕ, zero, suc, List, [], ◌∷◌, ◌++◌, Bool, true, IsTrue, Option, Some, None, length, get_or, refl, ap, sym, ◌∙◌, arith, length-append, subst}
+use Rattle.std.specs.Prelude.{◌↔◌}
 use Rattle.std.specs.List.{AllByRecursion}
 use Rattle.mdc_values.specs.declared.value.Value.{Value}
+use Rattle.mdc_ast.specs.declared.definition.ColumnDef.{ColumnDef}
 use Rattle.mdc_ast.specs.declared.row.Cell.{Cell}
 use Rattle.mdc_sound.specs.TableRows.{PlacedRow}
-use Rattle.block_rows.specs.SeenRows.{AreInCell, AreJudgedBy, HasMet, IsCellSoFar, IsInCell, MeetsCell, values_at}
+use Rattle.row_page.specs.Row.{row_in, row_width_of}
+use Rattle.row_page.proofs.RowLemmas.{row_width_of-ge}
+use Rattle.block_rows.specs.SeenRows.{AreInCell, HasMet, IsCellSoFar, IsInCell, IsLastRow, IsOfCell, MeetsCell, values_at}
 use Rattle.block_rows.specs.declared.met_rows.MetRows.{MetRows}
 
 -- ---- what holds of each
@@ -76,6 +79,34 @@ module _ (places : List ℕ) where
     counted = omega (arith, one, has.counted, length-append rows (placed ∷ []));
     cell = so_more given met.first now.first met.in_cell now.in_cell rows placed meets has.cell;
   }
+
+  -- ---- the last row
+
+  -- a row of the same values as the last one is met by counting it
+  pub meets_alike : (columns : List ColumnDef) (given first : Option Cell) (in_cell : Bool) (last : List ℕ) (values : List Value) → IsLastRow columns places given first in_cell last
+      → length last ≡ row_width_of columns → values_at places (row_in columns last).values ≡ values → MeetsCell values given first first in_cell in_cell
+  meets_alike columns given first in_cell last values is width same = go given first (is width)
+    where
+      go : (given first : Option Cell) → IsOfCell (values_at places (row_in columns last).values) given first in_cell → MeetsCell values given first first in_cell in_cell
+      go (Some given) first of = (refl, ((λ all. (all, of all ∙ same)), (λ both. both.0)))
+      go None None of = absurd of
+      go None (Some first) of = (refl, ((λ all. (all, of all ∙ same)), (λ both. both.0)))
+
+  of_cell : (values : List Value) (given first now : Option Cell) (were are : Bool) → MeetsCell values given first now were are → IsOfCell values given now are
+  of_cell values (Some given) first now were are meets = λ all. (meets.1.0 all).1
+  of_cell values None None now were are meets = subst (λ n. IsOfCell values None n are) (sym meets.0) (λ all. refl)
+  of_cell values None (Some first) now were are meets = subst (λ n. IsOfCell values None n are) (sym meets.0) (λ all. (meets.1.0 all).1)
+
+  -- a row that was met is the last one
+  pub last_met : (columns row_columns : List ColumnDef) (given first now : Option Cell) (were are : Bool) (last row : List ℕ) → row_columns ≡ columns → last ≡ row
+      → MeetsCell (values_at places (row_in row_columns row).values) given first now were are → IsLastRow columns places given now are last
+  last_met columns row_columns given first now were are last row alike is meets width =
+      subst (λ cs. IsOfCell (values_at places (row_in cs last).values) given now are) alike
+      (subst (λ bytes. IsOfCell (values_at places (row_in row_columns bytes).values) given now are) (sym is) (of_cell (values_at places (row_in row_columns row).values) given first now were are meets))
+
+  -- no row is as short as nothing
+  pub last_none : (columns : List ColumnDef) (given first : Option Cell) (in_cell : Bool) (last : List ℕ) → length last ≡ 0 → IsLastRow columns places given first in_cell last
+  last_none columns given first in_cell last none width = absurd (omega (arith, row_width_of-ge columns, none, width))
 
   -- none was met
   pub met_none : (given : Option Cell) (met : MetRows) → met.rows ≡ 0 → met.first ≡ None → met.in_cell ≡ true → HasMet places given met []

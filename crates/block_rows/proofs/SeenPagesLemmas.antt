@@ -12,7 +12,7 @@ use Rattle.mdc_ast.specs.declared.row.Cell.{Cell}
 use Rattle.mdc_ast.specs.declared.row.Row.{Row}
 use Rattle.store_api.specs.Extents.{first_page_of}
 use Rattle.store_api.specs.StoreState.{page_at}
-use Rattle.extent_map.specs.declared.extents.Extents.{Extents}
+use Rattle.store_api.specs.declared.shape.Shape.{Shape}
 use Rattle.row_page.specs.RowPage.{rows_of, slot_count}
 use Rattle.table_trees.specs.ToldPages.{PageList}
 use Rattle.mdc_sound.specs.TableRows.{PlacedRow, block_page, block_slots, rows_from_slot, rows_in_block}
@@ -27,19 +27,19 @@ use Rattle.block_rows.proofs.HeldRowsLemmas.{part_of_page, parts_within, rows_mo
 use Rattle.block_rows.proofs.MetRowsLemmas.{all_met, each_append}
 
 -- the first pages of a block were seen: their rows were met, and a sink was given those that qualify
-pub record SeesPages {K : Type 0} (sinks : Ghosts K) (ext : Extents) (pages : PageList) (def : TableDef) (block : ℕ) (places : List ℕ) (given : Option Cell) (pred : Option Pred) (n : ℕ) (old new : K) (met_now : MetRows) : Type 0 where
-  pub forms : (j : ℕ) → j < n → IsSeenPage def.columns (block_page ext pages block j)
-  pub read : AllByRecursion (λ placed. HasReadValues def.columns placed.row) (rows_from_slot block 0 (take (n * slot_count def.columns) (block_slots ext pages def block)))
-  pub given_rows : WasGiven sinks old new (qualifying pred (rows_from_slot block 0 (take (n * slot_count def.columns) (block_slots ext pages def block))))
-  pub met : HasMet places given met_now (rows_from_slot block 0 (take (n * slot_count def.columns) (block_slots ext pages def block)))
+pub record SeesPages {K : Type 0} (sinks : Ghosts K) (shape : Shape) (pages : PageList) (def : TableDef) (block : ℕ) (places : List ℕ) (given : Option Cell) (pred : Option Pred) (n : ℕ) (old new : K) (met_now : MetRows) : Type 0 where
+  pub forms : (j : ℕ) → j < n → IsSeenPage def.columns (block_page shape pages block j)
+  pub read : AllByRecursion (λ placed. HasReadValues def.columns placed.row) (rows_from_slot block 0 (take (n * slot_count def.columns) (block_slots shape pages def block)))
+  pub given_rows : WasGiven sinks old new (qualifying pred (rows_from_slot block 0 (take (n * slot_count def.columns) (block_slots shape pages def block))))
+  pub met : HasMet places given met_now (rows_from_slot block 0 (take (n * slot_count def.columns) (block_slots shape pages def block)))
 
-module _ (ext : Extents) (pages : PageList) (def : TableDef) (block : ℕ) where
+module _ (shape : Shape) (pages : PageList) (def : TableDef) (block : ℕ) where
   -- how many slots a page has, and those of the block
   abbrev c : ℕ
   c = slot_count def.columns
 
   abbrev slots : List (Option Row)
-  slots = block_slots ext pages def block
+  slots = block_slots shape pages def block
 
   abbrev rows_to : ℕ → List PlacedRow
   rows_to n = rows_from_slot block 0 (take (n * c) slots)
@@ -48,19 +48,19 @@ module _ (ext : Extents) (pages : PageList) (def : TableDef) (block : ℕ) where
   none_to = let none : 0 * c ≡ 0 = omega arith in ap (λ k. rows_from_slot block 0 (take k slots)) none
 
   -- the rows of one page more
-  rows_to_more : (j : ℕ) → j < ext.extent_pages → rows_to (j + 1) ≡ rows_to j ++ rows_from_slot block (j * c) (rows_of def.columns (block_page ext pages block j))
+  rows_to_more : (j : ℕ) → j < shape.extent_pages → rows_to (j + 1) ≡ rows_to j ++ rows_from_slot block (j * c) (rows_of def.columns (block_page shape pages block j))
   rows_to_more j less =
-      rows_more block c j slots (parts_within ext.extent_pages c j (length slots) (length-block_slots ext pages def block) (omega (arith, less)))
-      ∙ ap (λ l. rows_to j ++ rows_from_slot block (j * c) l) (part_of_page ext pages def block j less)
+      rows_more block c j slots (parts_within shape.extent_pages c j (length slots) (length-block_slots shape pages def block) (omega (arith, less)))
+      ∙ ap (λ l. rows_to j ++ rows_from_slot block (j * c) l) (part_of_page shape pages def block j less)
 
-  rows_to_all : (j : ℕ) → ext.extent_pages ≤ j → rows_to j ≡ rows_in_block ext pages def block
+  rows_to_all : (j : ℕ) → shape.extent_pages ≤ j → rows_to j ≡ rows_in_block shape pages def block
   rows_to_all j end =
-      let all : ext.extent_pages * c ≤ j * c = mul-le-mul_right c end in
-      ap (rows_from_slot block 0) (take_all (j * c) slots (omega (arith, length-block_slots ext pages def block, all)))
+      let all : shape.extent_pages * c ≤ j * c = mul-le-mul_right c end in
+      ap (rows_from_slot block 0) (take_all (j * c) slots (omega (arith, length-block_slots shape pages def block, all)))
 
   module _ {K : Type 0} (sinks : Ghosts K) (places : List ℕ) (given : Option Cell) (pred : Option Pred) where
     -- none was seen
-    pub sees_none : (sink : K) (met : MetRows) → HasMet places given met [] → SeesPages sinks ext pages def block places given pred 0 sink sink met
+    pub sees_none : (sink : K) (met : MetRows) → HasMet places given met [] → SeesPages sinks shape pages def block places given pred 0 sink sink met
     sees_none sink met none = record {
       forms = λ j less. absurd (omega (arith, less));
       read = subst (AllByRecursion (λ placed. HasReadValues def.columns placed.row)) (sym none_to) tt;
@@ -69,20 +69,20 @@ module _ (ext : Extents) (pages : PageList) (def : TableDef) (block : ℕ) where
     }
 
     -- one page more
-    pub sees_more : (columns : List ColumnDef) (p j first : ℕ) (old mid now : K) (met met_now : MetRows) → columns ≡ def.columns → p ≡ first_page_of ext.cap ext.extent_pages block + j → j < ext.extent_pages
-        → first ≡ j * slot_count columns → SeesPages sinks ext pages def block places given pred j old mid met → SeesPage sinks columns places given (page_at pages p) block first pred mid now met met_now
-        → SeesPages sinks ext pages def block places given pred (j + 1) old now met_now
+    pub sees_more : (columns : List ColumnDef) (p j first : ℕ) (old mid now : K) (met met_now : MetRows) → columns ≡ def.columns → p ≡ first_page_of shape.extents shape.extent_pages block + j → j < shape.extent_pages
+        → first ≡ j * slot_count columns → SeesPages sinks shape pages def block places given pred j old mid met → SeesPage sinks columns places given (page_at pages p) block first pred mid now met met_now
+        → SeesPages sinks shape pages def block places given pred (j + 1) old now met_now
     sees_more columns p j first old mid now met met_now of at less begins so_far page =
         let first_is : first ≡ j * c = begins ∙ ap (λ k. j * slot_count k) of in
-        let here : SeesPage sinks def.columns places given (block_page ext pages block j) block (j * c) pred mid now met met_now =
-        subst (λ f. SeesPage sinks def.columns places given (block_page ext pages block j) block f pred mid now met met_now) first_is
+        let here : SeesPage sinks def.columns places given (block_page shape pages block j) block (j * c) pred mid now met met_now =
+        subst (λ f. SeesPage sinks def.columns places given (block_page shape pages block j) block f pred mid now met met_now) first_is
         (subst (λ q. SeesPage sinks def.columns places given (page_at pages q) block first pred mid now met met_now) at
         (subst (λ k. SeesPage sinks k places given (page_at pages p) block first pred mid now met met_now) of page)) in
         let more = rows_to_more j less in
-        let those = rows_from_slot block (j * c) (rows_of def.columns (block_page ext pages block j)) in
+        let those = rows_from_slot block (j * c) (rows_of def.columns (block_page shape pages block j)) in
         record {
           forms = λ i before. elim (cases_eq i j) [
-            | inl same ↦ subst (λ k. IsSeenPage def.columns (block_page ext pages block k)) (sym same) here.form
+            | inl same ↦ subst (λ k. IsSeenPage def.columns (block_page shape pages block k)) (sym same) here.form
             | inr other ↦ so_far.forms i (omega (arith, before, other))
           ];
           read = subst (AllByRecursion (λ placed. HasReadValues def.columns placed.row)) (sym more) (each_append (λ placed. HasReadValues def.columns placed.row) (rows_to j) those so_far.read here.read);
@@ -90,9 +90,9 @@ module _ (ext : Extents) (pages : PageList) (def : TableDef) (block : ℕ) where
           met = subst (HasMet places given met_now) (sym more) (here.meets (rows_to j) so_far.met);
         }
 
-    module _ (j : ℕ) (old now : K) (met : MetRows) (end : ext.extent_pages ≤ j) (all : SeesPages sinks ext pages def block places given pred j old now met) where
+    module _ (j : ℕ) (old now : K) (met : MetRows) (end : shape.extent_pages ≤ j) (all : SeesPages sinks shape pages def block places given pred j old now met) where
       -- all were seen
-      pub seen_all : first_page_of ext.cap ext.extent_pages (block + 1) ≤ length pages → HasSeenRows ext pages def block met.rows
+      pub seen_all : first_page_of shape.extents shape.extent_pages (block + 1) ≤ length pages → HasSeenRows shape pages def block met.rows
       seen_all there = record {
         there = there;
         forms = λ i less. all.forms i (omega (arith, less, end));
@@ -100,8 +100,8 @@ module _ (ext : Extents) (pages : PageList) (def : TableDef) (block : ℕ) where
         read = subst (AllByRecursion (λ placed. HasReadValues def.columns placed.row)) (rows_to_all j end) all.read;
       }
 
-      pub given_all : WasGiven sinks old now (qualifying pred (rows_in_block ext pages def block))
+      pub given_all : WasGiven sinks old now (qualifying pred (rows_in_block shape pages def block))
       given_all = subst (λ rows. WasGiven sinks old now (qualifying pred rows)) (rows_to_all j end) all.given_rows
 
-      pub in_cell_all : IsTrue met.in_cell ↔ AreInCell places given (rows_in_block ext pages def block)
-      in_cell_all = all_met places given met (rows_in_block ext pages def block) (subst (HasMet places given met) (rows_to_all j end) all.met)
+      pub in_cell_all : IsTrue met.in_cell ↔ AreInCell places given (rows_in_block shape pages def block)
+      in_cell_all = all_met places given met (rows_in_block shape pages def block) (subst (HasMet places given met) (rows_to_all j end) all.met)

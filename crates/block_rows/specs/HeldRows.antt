@@ -11,8 +11,8 @@ use Rattle.store_api.specs.Extents.{first_page_of}
 use Rattle.store_api.specs.Frame.{HoldsPage}
 use Rattle.store_api.specs.declared.fault.Damage.{Damage}
 use Rattle.store_api.specs.declared.pages.Pages.{Ghosts}
+use Rattle.store_api.specs.declared.shape.Shape.{Shape}
 use Rattle.extent_map.specs.Map.{map_page_of}
-use Rattle.extent_map.specs.declared.extents.Extents.{Extents}
 use Rattle.key_codec.specs.Keys.{has_key, type_of_column}
 use Rattle.row_page.specs.RowPage.{IsRowPage, rows_of}
 use Rattle.mdc_sound.specs.BlockRules.{IsBlockPageSound}
@@ -22,11 +22,11 @@ use Rattle.mdc_sound.specs.TableRows.{PlacedRow, block_slots}
 use Rattle.block_rows.specs.declared.hit.Hit.{Hit}
 
 -- the pages of a block are told to be row pages with these slots
-pub record HoldsRows {S : Type 0} (g : Ghosts S) (ext : Extents) (s : S) (def : TableDef) (block : ℕ) (slots : List (Option Row)) : Type 0 where
+pub record HoldsRows {S : Type 0} (g : Ghosts S) (shape : Shape) (s : S) (def : TableDef) (block : ℕ) (slots : List (Option Row)) : Type 0 where
   pub told : IsTrue (g.state s).is_told
-  pub there : first_page_of ext.cap ext.extent_pages (block + 1) ≤ length (pages_of g s)
-  pub forms : (j : ℕ) → j < ext.extent_pages → IsBlockPageSound ext (pages_of g s) def block j
-  pub slots_are : block_slots ext (pages_of g s) def block ≡ slots
+  pub there : first_page_of shape.extents shape.extent_pages (block + 1) ≤ length (pages_of g s)
+  pub forms : (j : ℕ) → j < shape.extent_pages → IsBlockPageSound shape (pages_of g s) def block j
+  pub slots_are : block_slots shape (pages_of g s) def block ≡ slots
 
 -- a row and its place, as a call gives them
 abbrev pub placed_row : Hit → PlacedRow
@@ -45,32 +45,32 @@ abbrev pub HaveReadValues : List ColumnDef → List Hit → Type 0
 HaveReadValues columns = All (λ hit. HasReadValues columns hit.row)
 
 -- The row went into the lowest empty slot of the block; or none was empty, and nothing changed.
-abbrev pub PutsFirst : {S : Type 0} → Ghosts S → Extents → S → S → TableDef → ℕ → Row → List (Option Row) → Option ℕ → Type 0
-PutsFirst g ext old new def block row slots None = (Contains slots None → ⊥) × (pages_of g new ≡ pages_of g old)
-PutsFirst g ext old new def block row slots (Some slot) =
-    IsLowestAt IsEmptySlot slots slot None × HoldsRows g ext new def block (slice_set slots slot (Some row))
+abbrev pub PutsFirst : {S : Type 0} → Ghosts S → Shape → S → S → TableDef → ℕ → Row → List (Option Row) → Option ℕ → Type 0
+PutsFirst g shape old new def block row slots None = (Contains slots None → ⊥) × (pages_of g new ≡ pages_of g old)
+PutsFirst g shape old new def block row slots (Some slot) =
+    IsLowestAt IsEmptySlot slots slot None × HoldsRows g shape new def block (slice_set slots slot (Some row))
 
 -- whether there is a row in a slot
 abbrev pub IsFilledSlot : List (Option Row) → ℕ → Bool → Type 0
 IsFilledSlot slots slot filled = filled ≡ is_some (slice_index_or slots slot None)
 
 -- the slot is empty, and whether there was a row in it
-pub record ClearsSlot {S : Type 0} (g : Ghosts S) (ext : Extents) (new : S) (def : TableDef) (rid : Rid) (slots : List (Option Row)) (filled : Bool) : Type 0 where
+pub record ClearsSlot {S : Type 0} (g : Ghosts S) (shape : Shape) (new : S) (def : TableDef) (rid : Rid) (slots : List (Option Row)) (filled : Bool) : Type 0 where
   pub was : IsFilledSlot slots rid.slot filled
-  pub held : HoldsRows g ext new def rid.block (slice_set slots rid.slot None)
+  pub held : HoldsRows g shape new def rid.block (slice_set slots rid.slot None)
 
 -- rule 2: the extent lies past the pages that there are
-pub record BreaksExtent {S : Type 0} (g : Ghosts S) (ext : Extents) (s : S) (block : ℕ) (damage : Damage) : Type 0 where
+pub record BreaksExtent {S : Type 0} (g : Ghosts S) (shape : Shape) (s : S) (block : ℕ) (damage : Damage) : Type 0 where
   pub page : damage.page ≡ map_page_of block
   pub rule : damage.rule ≡ 2
-  pub past : length (pages_of g s) < first_page_of ext.cap ext.extent_pages (block + 1)
+  pub past : length (pages_of g s) < first_page_of shape.extents shape.extent_pages (block + 1)
 
 -- rule 7: a page of the block isn't told to be a row page
-pub record BreaksRowPage {S : Type 0} (g : Ghosts S) (ext : Extents) (s : S) (def : TableDef) (block : ℕ) (damage : Damage) : Type 0 where
-  pub page : IsPageOfBlock ext block damage.page
+pub record BreaksRowPage {S : Type 0} (g : Ghosts S) (shape : Shape) (s : S) (def : TableDef) (block : ℕ) (damage : Damage) : Type 0 where
+  pub page : IsPageOfBlock shape block damage.page
   pub rule : damage.rule ≡ 7
   pub no_rows : (bytes : List ℕ) → HoldsPage g s damage.page bytes → IsRowPage def.columns bytes (rows_of def.columns bytes) → ⊥
 
 -- what a call on the rows of a block may name
-abbrev pub BreaksRows : {S : Type 0} → Ghosts S → Extents → S → TableDef → ℕ → Damage → Type 0
-BreaksRows g ext s def block damage = BreaksExtent g ext s block damage ⊎ BreaksRowPage g ext s def block damage
+abbrev pub BreaksRows : {S : Type 0} → Ghosts S → Shape → S → TableDef → ℕ → Damage → Type 0
+BreaksRows g shape s def block damage = BreaksExtent g shape s block damage ⊎ BreaksRowPage g shape s def block damage

@@ -10,7 +10,8 @@ use Rattle.mdc_ast.specs.declared.predicate.Pred.{Pred}
 use Rattle.mdc_ast.specs.declared.row.Cell.{Cell}
 use Rattle.mdc_ast.specs.declared.row.Row.{Row}
 use Rattle.store_api.specs.Extents.{first_page_of}
-use Rattle.extent_map.specs.declared.extents.Extents.{Extents}
+use Rattle.store_api.specs.declared.shape.Shape.{Shape}
+use Rattle.row_page.specs.Row.{row_in, row_width_of}
 use Rattle.row_page.specs.RowPage.{StartsAsRowPage, count_rows, rows_of, slot_count, stated_rows}
 use Rattle.table_trees.specs.ToldPages.{PageList}
 use Rattle.mdc_sound.specs.TableRows.{PlacedRow, block_page, block_slots, rows_from_slot, rows_in_block}
@@ -27,11 +28,11 @@ pub record IsSeenPage (columns : List ColumnDef) (page : List ℕ) : Type 0 wher
   pub counted : stated_rows page ≡ count_rows (rows_of columns page)
 
 -- Each page of a block is there and is such. Its rows are so many, and have a key in each column.
-pub record HasSeenRows (ext : Extents) (pages : PageList) (def : TableDef) (block count : ℕ) : Type 0 where
-  pub there : first_page_of ext.cap ext.extent_pages (block + 1) ≤ length pages
-  pub forms : (j : ℕ) → j < ext.extent_pages → IsSeenPage def.columns (block_page ext pages block j)
-  pub counted : count ≡ length (rows_in_block ext pages def block)
-  pub read : AllByRecursion (λ placed. HasReadValues def.columns placed.row) (rows_in_block ext pages def block)
+pub record HasSeenRows (shape : Shape) (pages : PageList) (def : TableDef) (block count : ℕ) : Type 0 where
+  pub there : first_page_of shape.extents shape.extent_pages (block + 1) ≤ length pages
+  pub forms : (j : ℕ) → j < shape.extent_pages → IsSeenPage def.columns (block_page shape pages block j)
+  pub counted : count ≡ length (rows_in_block shape pages def block)
+  pub read : AllByRecursion (λ placed. HasReadValues def.columns placed.row) (rows_in_block shape pages def block)
 
 -- ---- slots
 
@@ -41,10 +42,10 @@ pub record SeesSlotOfPage (columns : List ColumnDef) (page : List ℕ) (slot : �
   pub row_is : row ≡ slice_index_or (rows_of columns page) slot None
 
 -- The pages of a block are there, and that of a slot begins as a row page does. This is what its bytes say of the slot: a row, or none.
-pub record SeesSlot (ext : Extents) (pages : PageList) (def : TableDef) (rid : Rid) (row : Option Row) : Type 0 where
-  pub there : first_page_of ext.cap ext.extent_pages (rid.block + 1) ≤ length pages
-  pub starts : StartsAsRowPage def.columns (block_page ext pages rid.block (rid.slot / slot_count def.columns))
-  pub row_is : row ≡ slice_index_or (block_slots ext pages def rid.block) rid.slot None
+pub record SeesSlot (shape : Shape) (pages : PageList) (def : TableDef) (rid : Rid) (row : Option Row) : Type 0 where
+  pub there : first_page_of shape.extents shape.extent_pages (rid.block + 1) ≤ length pages
+  pub starts : StartsAsRowPage def.columns (block_page shape pages rid.block (rid.slot / slot_count def.columns))
+  pub row_is : row ≡ slice_index_or (block_slots shape pages def rid.block) rid.slot None
 
 -- something was seen of a slot, a row or none, and this is whether it was a row
 pub record SeesIfRow (Sees : Option Row → Type 0) (filled : Bool) : Type 0 where
@@ -78,6 +79,17 @@ abbrev pub MeetsCell : List Value → Option Cell → Option Cell → Option Cel
 MeetsCell values (Some given) first now were are = (now ≡ first) × (IsTrue are ↔ (IsTrue were × (given.values ≡ values)))
 MeetsCell values None None now were are = (now ≡ Some (record { values = values })) × (are ≡ were)
 MeetsCell values None (Some first) now were are = (now ≡ Some first) × (IsTrue are ↔ (IsTrue were × (first.values ≡ values)))
+
+-- a row of these values was met: it is of the cell by which rows are judged, if all so far are
+abbrev pub IsOfCell : List Value → Option Cell → Option Cell → Bool → Type 0
+IsOfCell values (Some given) first in_cell = IsTrue in_cell → given.values ≡ values
+IsOfCell values None None in_cell = ⊥
+IsOfCell values None (Some first) in_cell = IsTrue in_cell → first.values ≡ values
+
+-- these are the bytes of a row that was met, or not as many as a row has
+abbrev pub IsLastRow : List ColumnDef → List ℕ → Option Cell → Option Cell → Bool → List ℕ → Type 0
+IsLastRow columns places given first in_cell bytes =
+    length bytes ≡ row_width_of columns → IsOfCell (values_at places (row_in columns bytes).values) given first in_cell
 
 -- of rows that were met, the first has this cell, and whether all have it is known
 pub record AreJudgedBy (places : List ℕ) (cell : Cell) (in_cell : Bool) (rows : List PlacedRow) : Type 0 where

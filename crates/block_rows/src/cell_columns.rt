@@ -170,6 +170,77 @@ pub(crate) fn is_in_cell(
     true
 }
 
+/// Whether the bytes of two rows are alike where they have the values of some columns. Such rows have the same values there, and
+/// nothing is decoded. Others may have the same values too, since the bytes below a null may be any.
+#[inline(always)]
+pub(crate) fn are_alike(
+    shape: &RowShape<'_>,
+    columns: &[CellColumn],
+    first: &[u8],
+    second: &[u8],
+) -> bool
+    requires columns { AllByRecursion (IsCellColumn shape.now.columns.now) columns.now }
+    requires row { length second.now ≡ row_width_of shape.now.columns.now }
+    ensures width { IsTrue result → length first.now ≡ row_width_of shape.now.columns.now }
+    ensures values { IsTrue result → values_at (places_of columns.now) (row_in shape.now.columns.now first.now).values ≡ values_at (places_of columns.now) (row_in shape.now.columns.now second.now).values }
+{
+    if first.len() != second.len() {
+        return false;
+    }
+    let nulls = BigEndian::read_u16(&first[NULLS..]);
+    let others = BigEndian::read_u16(&second[NULLS..]);
+    for column in columns {
+        if !are_alike_in(shape, column, nulls, first, others, second) {
+            return false;
+        }
+    }
+    true
+}
+
+/// Whether the bytes of two rows, each with its null bits, are alike in a column.
+#[inline(always)]
+fn are_alike_in(
+    shape: &RowShape<'_>,
+    column: &CellColumn,
+    nulls: u16,
+    first: &[u8],
+    others: u16,
+    second: &[u8],
+) -> bool
+    requires column { IsCellColumn shape.now.columns.now column.now }
+    requires first { length first.now ≡ row_width_of shape.now.columns.now }
+    requires second { length second.now ≡ row_width_of shape.now.columns.now }
+    requires nulls { nulls ≡ nulls_in first.now }
+    requires others { others ≡ nulls_in second.now }
+    ensures { IsTrue result → value_at (row_in shape.now.columns.now first.now).values column.now.place ≡ value_at (row_in shape.now.columns.now second.now).values column.now.place }
+{
+    let _shape = shape;
+    if ((nulls ^ others) >> column.place) % 2 == 1 {
+        return false;
+    }
+    is_same_value(
+        column.ty,
+        &first[column.start..column.end],
+        &second[column.start..column.end],
+    )
+}
+
+/// Whether the bytes of a column are alike, as a number where they are one. Then they are the same value.
+#[inline(always)]
+#[tactic(auto, unfolding(row_page::specs::Row::column_value))]
+fn is_same_value(ty: ColType, one: &[u8], other: &[u8]) -> bool
+    requires one { length one.now ≡ width ty }
+    requires other { length other.now ≡ width ty }
+    ensures { IsTrue result → column_value ty one.now ≡ column_value ty other.now }
+{
+    match ty {
+        ColType::Integer => BigEndian::read_i32(one) == BigEndian::read_i32(other),
+        ColType::Bigint => BigEndian::read_i64(one) == BigEndian::read_i64(other),
+        ColType::Char(_) => one == other,
+        ColType::Date => BigEndian::read_u32(one) == BigEndian::read_u32(other),
+    }
+}
+
 /// Whether the bytes of a row have a value in a column.
 fn has_value(
     shape: &RowShape<'_>,

@@ -211,6 +211,7 @@ fn scan_slots<K: RowSink>(
     };
     let rows_before = met.rows;
     let mut from = 0;
+    let mut last = &page[..0];
     'slots: while let Some(slot) = view.next_filled(from) {
         let row = view.filled_row(slot);
         let rid = Rid {
@@ -218,7 +219,8 @@ fn scan_slots<K: RowSink>(
             slot: first.slot + slot,
         };
         let bytes = cells.bytes_of_slot(shape, page, slot);
-        met.meet(alloc, shape, cells, given, &row, bytes)?;
+        met.meet(alloc, shape, cells, given, &row, last, bytes)?;
+        last = bytes;
         give_if_taken(alloc, &row, rid, filter, sink)?;
         from = slot + 1;
     }

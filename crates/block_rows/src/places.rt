@@ -8,12 +8,11 @@ ghost use Rattle.extent_map.specs.Map.{map_page_of};
 ghost use Rattle.row_page.specs.RowPage.{slot_count};
 ghost use Rattle.block_rows.specs.HeldRows.{BreaksExtent};
 
-use extent_map::Extents;
 use mdc_values::Rid;
 use row_page::RowShape;
 use store_api::layout::{FIRST_MAP_PAGE, MAP_PAGE_EXTENTS};
 use store_api::rules::EXTENTS_RULE;
-use store_api::{Damage, Pages, StoreFault};
+use store_api::{Damage, Pages, Shape, StoreFault};
 
 /// A slot of a page.
 #[derive(Clone, Copy, Debug)]
@@ -25,14 +24,14 @@ pub(crate) struct SlotPlace {
 }
 
 /// The first page of a block. Damaged where the extent doesn't lie within the pages that there are.
-pub(crate) fn first_page<P: Pages>(ext: &Extents, pages: &P, block: u32) -> Result<u32, StoreFault>
-    requires below { block < ext.now.cap }
-    ensures first { IfOk result (λ p. p ≡ first_page_of ext.now.cap ext.now.extent_pages block) }
-    ensures there { OnOk result (first_page_of ext.now.cap ext.now.extent_pages (block + 1) ≤ length (P.state pages.now).work) }
-    ensures runs { RunsOverPages P.Pages NoPage NoPage (BreaksExtent P.Pages ext.now pages.now block) pages.now pages.now (fault_of result) }
+pub(crate) fn first_page<P: Pages>(shape: Shape, pages: &P, block: u32) -> Result<u32, StoreFault>
+    requires below { block < shape.extents }
+    ensures first { IfOk result (λ p. p ≡ first_page_of shape.extents shape.extent_pages block) }
+    ensures there { OnOk result (first_page_of shape.extents shape.extent_pages (block + 1) ≤ length (P.state pages.now).work) }
+    ensures runs { RunsOverPages P.Pages NoPage NoPage (BreaksExtent P.Pages shape pages.now block) pages.now pages.now (fault_of result) }
 {
-    let first = ext.first_page(block);
-    if pages.count() < first + ext.extent_pages {
+    let first = extent_map::first_page(shape, block);
+    if pages.count() < first + shape.extent_pages {
         return Err(StoreFault::Damaged(past_the_pages(block)));
     }
     Ok(first)
@@ -51,22 +50,22 @@ fn past_the_pages(block: u32) -> Damage
 
 /// Where a slot of a block lies.
 pub(crate) fn place_of_slot<P: Pages>(
-    shape: &RowShape<'_>,
-    ext: &Extents,
+    row_shape: &RowShape<'_>,
+    shape: Shape,
     pages: &P,
     rid: Rid,
 ) -> Result<SlotPlace, StoreFault>
-    requires below { rid.block < ext.now.cap }
-    requires slot { rid.slot < ext.now.extent_pages * slot_count shape.now.columns.now }
-    ensures page { IfOk result (λ place. place.page ≡ first_page_of ext.now.cap ext.now.extent_pages rid.block + rid.slot / slot_count shape.now.columns.now) }
-    ensures slot { IfOk result (λ place. place.slot ≡ rid.slot % slot_count shape.now.columns.now) }
-    ensures below { IfOk result (λ place. place.slot < slot_count shape.now.columns.now) }
-    ensures there { OnOk result (first_page_of ext.now.cap ext.now.extent_pages (rid.block + 1) ≤ length (P.state pages.now).work) }
+    requires below { rid.block < shape.extents }
+    requires slot { rid.slot < shape.extent_pages * slot_count row_shape.now.columns.now }
+    ensures page { IfOk result (λ place. place.page ≡ first_page_of shape.extents shape.extent_pages rid.block + rid.slot / slot_count row_shape.now.columns.now) }
+    ensures slot { IfOk result (λ place. place.slot ≡ rid.slot % slot_count row_shape.now.columns.now) }
+    ensures below { IfOk result (λ place. place.slot < slot_count row_shape.now.columns.now) }
+    ensures there { OnOk result (first_page_of shape.extents shape.extent_pages (rid.block + 1) ≤ length (P.state pages.now).work) }
     ensures within { IfOk result (λ place. place.page < length (P.state pages.now).work) }
-    ensures runs { RunsOverPages P.Pages NoPage NoPage (BreaksExtent P.Pages ext.now pages.now rid.block) pages.now pages.now (fault_of result) }
+    ensures runs { RunsOverPages P.Pages NoPage NoPage (BreaksExtent P.Pages shape pages.now rid.block) pages.now pages.now (fault_of result) }
 {
-    let first = first_page(ext, pages, rid.block)?;
-    let slots = shape.slots();
+    let first = first_page(shape, pages, rid.block)?;
+    let slots = row_shape.slots();
     Ok(SlotPlace {
         page: first + u32::from(rid.slot / slots),
         slot: rid.slot % slots,
@@ -74,10 +73,10 @@ pub(crate) fn place_of_slot<P: Pages>(
 }
 
 /// The first slot of a block that lies on page j of it.
-pub(crate) fn first_slot(shape: &RowShape<'_>, ext: &Extents, j: u32) -> u16
-    requires within { j < ext.now.extent_pages }
-    ensures slot { result ≡ j * slot_count shape.now.columns.now }
-    ensures room { result + slot_count shape.now.columns.now < 65536 }
+pub(crate) fn first_slot(row_shape: &RowShape<'_>, shape: Shape, j: u32) -> u16
+    requires within { j < shape.extent_pages }
+    ensures slot { result ≡ j * slot_count row_shape.now.columns.now }
+    ensures room { result + slot_count row_shape.now.columns.now < 65536 }
 {
-    j as u16 * shape.slots()
+    j as u16 * row_shape.slots()
 }

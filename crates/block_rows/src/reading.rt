@@ -19,13 +19,12 @@ use crate::met_rows::MetRows;
 use crate::page_reading::{row_in_page, scan_page};
 use crate::places::{first_page, first_slot, place_of_slot};
 use crate::{CellColumns, Hit, RowSink, SeenRows};
-use extent_map::Extents;
 use mdc_ast::{Cell, Row, TableDef};
 use mdc_values::Rid;
 use row_filter::RowFilter;
 use row_page::RowShape;
 use std::alloc::Global;
-use store_api::{Pages, StoreFault};
+use store_api::{Pages, Shape, StoreFault};
 
 /// Gives a sink the rows of a block that a filter takes, by rising slot, and tells how many rows there are, and whether they are of a
 /// cell, or of one cell where none is given. They are compared by the columns of the cell that are given. Each page of the block comes
@@ -34,7 +33,7 @@ use store_api::{Pages, StoreFault};
 pub fn scan_block<P: Pages, K: RowSink>(
     alloc: Global,
     def: &TableDef,
-    ext: &Extents,
+    shape: Shape,
     pages: &mut P,
     block: u32,
     cells: &CellColumns,
@@ -43,33 +42,33 @@ pub fn scan_block<P: Pages, K: RowSink>(
     sink: &mut K,
 ) -> Result<SeenRows, StoreFault>
     requires columns { AreRowColumns def.now.columns }
-    requires below { block < ext.now.cap }
+    requires below { block < shape.extents }
     requires are { AreCellColumns def.now.columns cells.now }
     requires wide { length def.now.columns ≡ length filter.old.values }
     requires judged { (row : Row) → HasReadValues def.now.columns row → IsTrue (may_filter filter.old.pred.now row.values) }
     requires fits { K.RowSink.is_for def.now.columns sink.old }
     requires going { (P.state pages.old).ended ≡ false }
     ensures given { OnOk result (IsTrue (P.state pages.old).is_told
-        → WasGiven K.RowSink sink.old sink.new (qualifying filter.old.pred.now (rows_in_block ext.now (pages_of P.Pages pages.old) def.now block))) }
-    ensures seen { IfOk result (λ seen. IsTrue (P.state pages.old).is_told → HasSeenRows ext.now (pages_of P.Pages pages.old) def.now block seen.rows) }
+        → WasGiven K.RowSink sink.old sink.new (qualifying filter.old.pred.now (rows_in_block shape (pages_of P.Pages pages.old) def.now block))) }
+    ensures seen { IfOk result (λ seen. IsTrue (P.state pages.old).is_told → HasSeenRows shape (pages_of P.Pages pages.old) def.now block seen.rows) }
     ensures in_cell { IfOk result (λ seen. IsTrue (P.state pages.old).is_told
-        → IsTrue seen.in_cell ↔ AreInCell (places_of cells.now.columns.items) cell.now (rows_in_block ext.now (pages_of P.Pages pages.old) def.now block)) }
+        → IsTrue seen.in_cell ↔ AreInCell (places_of cells.now.columns.items) cell.now (rows_in_block shape (pages_of P.Pages pages.old) def.now block)) }
     ensures fits { OnOk result (K.RowSink.is_for def.now.columns sink.new) }
     ensures pred { filter.new.pred.now ≡ filter.old.pred.now }
     ensures width { length filter.new.values ≡ length filter.old.values }
     ensures same { (P.state pages.new).work ≡ (P.state pages.old).work }
-    ensures once { BringsOnce P.Pages (IsPageOfBlock ext.now block) pages.old pages.new }
-    ensures runs { RunsOverPages P.Pages NoPage (IsPageOfBlock ext.now block) (BreaksRows P.Pages ext.now pages.old def.now block) pages.old pages.new (fault_of result) }
+    ensures once { BringsOnce P.Pages (IsPageOfBlock shape block) pages.old pages.new }
+    ensures runs { RunsOverPages P.Pages NoPage (IsPageOfBlock shape block) (BreaksRows P.Pages shape pages.old def.now block) pages.old pages.new (fault_of result) }
 {
-    let first = first_page(ext, pages, block)?;
-    let shape = RowShape::of(&def.columns);
+    let first = first_page(shape, pages, block)?;
+    let row_shape = RowShape::of(&def.columns);
     let mut met = MetRows::none();
-    for j in 0..ext.extent_pages {
-        let slot = first_slot(&shape, ext, j);
+    for j in 0..shape.extent_pages {
+        let slot = first_slot(&row_shape, shape, j);
         let rid = Rid { block, slot };
         scan_page(
             alloc,
-            &shape,
+            &row_shape,
             cells,
             cell,
             pages,
@@ -91,19 +90,19 @@ pub fn scan_block<P: Pages, K: RowSink>(
 pub fn rows_of_block<P: Pages>(
     alloc: Global,
     def: &TableDef,
-    ext: &Extents,
+    shape: Shape,
     pages: &mut P,
     block: u32,
 ) -> Result<Vec<Hit>, StoreFault>
     requires columns { AreRowColumns def.now.columns }
-    requires below { block < ext.now.cap }
+    requires below { block < shape.extents }
     requires going { (P.state pages.old).ended ≡ false }
-    ensures rows { IfOk result (λ hits. IsTrue (P.state pages.old).is_told → map placed_row hits.items ≡ rows_in_block ext.now (pages_of P.Pages pages.old) def.now block) }
-    ensures seen { IfOk result (λ hits. IsTrue (P.state pages.old).is_told → HasSeenRows ext.now (pages_of P.Pages pages.old) def.now block (length hits.items)) }
+    ensures rows { IfOk result (λ hits. IsTrue (P.state pages.old).is_told → map placed_row hits.items ≡ rows_in_block shape (pages_of P.Pages pages.old) def.now block) }
+    ensures seen { IfOk result (λ hits. IsTrue (P.state pages.old).is_told → HasSeenRows shape (pages_of P.Pages pages.old) def.now block (length hits.items)) }
     ensures keyed { IfOk result (λ hits. HaveReadValues def.now.columns hits.items) }
     ensures same { (P.state pages.new).work ≡ (P.state pages.old).work }
-    ensures once { BringsOnce P.Pages (IsPageOfBlock ext.now block) pages.old pages.new }
-    ensures runs { RunsOverPages P.Pages NoPage (IsPageOfBlock ext.now block) (BreaksRows P.Pages ext.now pages.old def.now block) pages.old pages.new (fault_of result) }
+    ensures once { BringsOnce P.Pages (IsPageOfBlock shape block) pages.old pages.new }
+    ensures runs { RunsOverPages P.Pages NoPage (IsPageOfBlock shape block) (BreaksRows P.Pages shape pages.old def.now block) pages.old pages.new (fault_of result) }
 {
     let every_row = None;
     let Ok(mut filter) = RowFilter::new(alloc, &every_row, def.columns.len()) else {
@@ -115,7 +114,7 @@ pub fn rows_of_block<P: Pages>(
     scan_block(
         alloc,
         def,
-        ext,
+        shape,
         pages,
         block,
         &cells,
@@ -130,21 +129,21 @@ pub fn rows_of_block<P: Pages>(
 pub fn row_in_slot<P: Pages>(
     alloc: Global,
     def: &TableDef,
-    ext: &Extents,
+    shape: Shape,
     pages: &mut P,
     rid: Rid,
 ) -> Result<Option<Row>, StoreFault>
     requires columns { AreRowColumns def.now.columns }
-    requires below { rid.block < ext.now.cap }
-    requires slot { rid.slot < block_slot_count ext.now def.now }
+    requires below { rid.block < shape.extents }
+    requires slot { rid.slot < block_slot_count shape def.now }
     requires going { (P.state pages.old).ended ≡ false }
-    ensures found { IfOk result (λ row. (slots : List (Option Row)) → HoldsRows P.Pages ext.now pages.old def.now rid.block slots → row ≡ slice_index_or slots rid.slot None) }
-    ensures seen { IfOk result (λ row. IsTrue (P.state pages.old).is_told → SeesSlot ext.now (pages_of P.Pages pages.old) def.now rid row) }
+    ensures found { IfOk result (λ row. (slots : List (Option Row)) → HoldsRows P.Pages shape pages.old def.now rid.block slots → row ≡ slice_index_or slots rid.slot None) }
+    ensures seen { IfOk result (λ row. IsTrue (P.state pages.old).is_told → SeesSlot shape (pages_of P.Pages pages.old) def.now rid row) }
     ensures keyed { IfOk result (λ row. IfSome row (HasReadValues def.now.columns)) }
     ensures same { (P.state pages.new).work ≡ (P.state pages.old).work }
-    ensures runs { RunsOverPages P.Pages NoPage (IsPageOfBlock ext.now rid.block) (BreaksRows P.Pages ext.now pages.old def.now rid.block) pages.old pages.new (fault_of result) }
+    ensures runs { RunsOverPages P.Pages NoPage (IsPageOfBlock shape rid.block) (BreaksRows P.Pages shape pages.old def.now rid.block) pages.old pages.new (fault_of result) }
 {
-    let shape = RowShape::of(&def.columns);
-    let place = place_of_slot(&shape, ext, pages, rid)?;
-    row_in_page(alloc, &shape, pages, place.page, place.slot)
+    let row_shape = RowShape::of(&def.columns);
+    let place = place_of_slot(&row_shape, shape, pages, rid)?;
+    row_in_page(alloc, &row_shape, pages, place.page, place.slot)
 }

@@ -2,12 +2,11 @@
 ghost use Rattle.std.specs.Prelude.{◌≡◌, ◌<◌, [], IfOk, false};
 
 use block_rows::{clear_slot, put_first, put_slot, row_in_slot, rows_of_block, wipe_block};
-use extent_map::Extents;
 use mdc_ast::{Name, Roots, Row, TableDef};
 use mdc_values::{Chars, List, Memory, Rid};
 use std::alloc::Global;
 use std::test::Fail;
-use store_api::{MemStore, Pages, StoreFault, blank_page};
+use store_api::{MemStore, Pages, Shape, StoreFault, blank_page};
 
 /// The extent that is the block here.
 const BLOCK: u32 = 1;
@@ -58,26 +57,26 @@ fn number_of(row: &Option<Row>) -> Option<u64> {
 fn fill_and_look<P: Pages>(
     alloc: Global,
     def: &TableDef,
-    ext: &Extents,
+    shape: Shape,
     pages: &mut P,
 ) -> Result<Seen, StoreFault>
     requires no_columns { def.now.columns ≡ [] }
-    requires below { BLOCK < ext.now.cap }
-    requires two { ext.now.extent_pages ≡ 2 }
+    requires below { BLOCK < shape.extents }
+    requires two { shape.extent_pages ≡ 2 }
     requires going { (P.state pages.old).ended ≡ false }
 {
-    wipe_block(def, ext, pages, BLOCK)?;
+    wipe_block(def, shape, pages, BLOCK)?;
     let row = row_of(alloc, 7);
-    let first = put_first(def, ext, pages, BLOCK, &row)?;
-    let second = put_first(def, ext, pages, BLOCK, &row)?;
+    let first = put_first(def, shape, pages, BLOCK, &row)?;
+    let second = put_first(def, shape, pages, BLOCK, &row)?;
     let over = row_of(alloc, 8);
-    put_slot(def, ext, pages, rid(402), &over)?;
-    let lay = clear_slot(def, ext, pages, rid(0))?;
-    let lay_again = clear_slot(def, ext, pages, rid(0))?;
-    let in_second = row_in_slot(alloc, def, ext, pages, rid(402))?;
-    let in_emptied = row_in_slot(alloc, def, ext, pages, rid(0))?;
-    let third = put_first(def, ext, pages, BLOCK, &row)?;
-    let hits = rows_of_block(alloc, def, ext, pages, BLOCK)?;
+    put_slot(def, shape, pages, rid(402), &over)?;
+    let lay = clear_slot(def, shape, pages, rid(0))?;
+    let lay_again = clear_slot(def, shape, pages, rid(0))?;
+    let in_second = row_in_slot(alloc, def, shape, pages, rid(402))?;
+    let in_emptied = row_in_slot(alloc, def, shape, pages, rid(0))?;
+    let third = put_first(def, shape, pages, BLOCK, &row)?;
+    let hits = rows_of_block(alloc, def, shape, pages, BLOCK)?;
     let rows = hits.len();
     Ok(Seen {
         put: [first, second, third],
@@ -115,10 +114,10 @@ fn rid(slot: u16) -> Rid
 fn a_block_is_filled_changed_and_read(rt: HostRuntime) -> Result<(), Fail> {
     let alloc = rt.alloc();
     let def = table_of(alloc)?;
-    let ext = Extents::new(4, 2).expect(&rt, "a shape");
+    let shape = Shape::new(4, 2).expect(&rt, "a shape");
     let pages = vec![in alloc; *blank_page(); 26]?;
     let mut store = MemStore::new(alloc, pages);
-    let seen = fill_and_look(alloc, &def, &ext, &mut store)
+    let seen = fill_and_look(alloc, &def, shape, &mut store)
         .ok()
         .expect(&rt, "rows");
     assert_eq!(rt; seen.put, [Some(0), Some(1), Some(0)]);

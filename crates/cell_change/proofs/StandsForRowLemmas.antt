@@ -7,8 +7,9 @@ use Rattle.mdc_ast.specs.declared.row.Row.{Row}
 use Rattle.mdc_ast.specs.Database.{Database, changed_at, appended}
 use Rattle.store_api.specs.Frame.{Touches}
 use Rattle.store_api.specs.declared.pages.Pages.{Ghosts}
-use Rattle.extent_map.specs.declared.extents.Extents.{Extents}
+use Rattle.store_api.specs.declared.shape.Shape.{Shape}
 use Rattle.extent_map.specs.declared.kind.Kind.{Kind}
+use Rattle.extent_map.specs.declared.space_notes.SpaceNotes.{SpaceNotes}
 use Rattle.mdc_sound.specs.SoundDatabase.{IsSoundBetweenChanges, with_table_page}
 use Rattle.mdc_sound.specs.StandingTable.{IsTableSpace, RoomNote, StandsTable, TableForests, pages_of}
 use Rattle.mdc_sound.specs.StandsForDatabase.{PagesStandFor, with_row, without_row}
@@ -17,26 +18,26 @@ use Rattle.cell_change.specs.RowChanges.{ChangesOneRow, DeletesRow, InsertsRow, 
 use Rattle.mdc_sound.proofs.ChangedDatabaseLemmas.{database_with, database_with_more, database_without}
 use Rattle.cell_change.proofs.RowChangesLemmas.{numbers_here}
 
-module _ {S : Type 0} (g : Ghosts S) (before ext : Extents) (room_of : Entry → RoomNote) (old new : S) (def : TableDef) (owners : List Kind) (forests : TableForests) (st : StandsTable g before old def owners forests)
-    (touched : Touches g (IsTableSpace g before old def) old new) (longer : length (pages_of g old) ≤ length (pages_of g new)) (between : IsSoundBetweenChanges before def (pages_of g old))
-    (db : Database) (stands : PagesStandFor before (with_table_page def (pages_of g old)) db) where
+module _ {S : Type 0} (g : Ghosts S) (shape : Shape) {before noted : SpaceNotes} (room_of : Entry → RoomNote) (old new : S) (def : TableDef) (owners : List Kind) (forests : TableForests) (st : StandsTable g shape old def owners forests)
+    (touched : Touches g (IsTableSpace g shape old def) old new) (longer : length (pages_of g old) ≤ length (pages_of g new)) (between : IsSoundBetweenChanges shape def (pages_of g old))
+    (db : Database) (stands : PagesStandFor shape (with_table_page def (pages_of g old)) db) where
   -- a row more
-  pub database_inserted : (row : Row) (rid : Rid) → InsertsRow g before ext room_of old new def row rid owners forests → row.number ≡ def.next → def.next + 1 < 18446744073709551616
-      → PagesStandFor ext (with_table_page (with_next def (def.next + 1)) (pages_of g new)) (changed_at db def.number (appended (row.values ∷ [])))
+  pub database_inserted : (row : Row) (rid : Rid) → InsertsRow g shape before noted room_of old new def row rid owners forests → row.number ≡ def.next → def.next + 1 < 18446744073709551616
+      → PagesStandFor shape (with_table_page (with_next def (def.next + 1)) (pages_of g new)) (changed_at db def.number (appended (row.values ∷ [])))
   database_inserted row rid inserts number small =
-      database_with_more g before ext old new def owners inserts.places.owners_now forests inserts.places.forests_now between.sound st inserts.places.changes touched longer
-      (numbers_here g before old def owners forests between st) db stands (row_in_place rid row) number small inserts.rows
+      database_with_more g shape old new def owners inserts.places.owners_now forests inserts.places.forests_now between.sound st inserts.places.changes touched longer
+      (numbers_here g shape old def owners forests between st) db stands (row_in_place rid row) number small inserts.rows
 
   -- a row less
-  pub database_deleted : (row : Row) (rid : Rid) → DeletesRow g before ext room_of old new def row rid owners forests
-      → PagesStandFor ext (with_table_page def (pages_of g new)) (changed_at db def.number (without_row row.number))
+  pub database_deleted : (row : Row) (rid : Rid) → DeletesRow g shape before noted room_of old new def row rid owners forests
+      → PagesStandFor shape (with_table_page def (pages_of g new)) (changed_at db def.number (without_row row.number))
   database_deleted row rid deletes =
-      database_without g before ext old new def owners deletes.takes.owners_now forests deletes.takes.forests_now between.sound st deletes.takes.changes touched longer
-      (numbers_here g before old def owners forests between st) db stands (row_in_place rid row) deletes.rows
+      database_without g shape old new def owners deletes.takes.owners_now forests deletes.takes.forests_now between.sound st deletes.takes.changes touched longer
+      (numbers_here g shape old def owners forests between st) db stands (row_in_place rid row) deletes.rows
 
   -- a row that became another
-  pub database_changed : (row other : Row) (rid to : Rid) → ChangesOneRow g before ext room_of old new def row other rid to owners forests → other.number ≡ row.number
-      → PagesStandFor ext (with_table_page def (pages_of g new)) (changed_at db def.number (with_row other))
+  pub database_changed : (row other : Row) (rid to : Rid) → ChangesOneRow g shape before noted room_of old new def row other rid to owners forests → other.number ≡ row.number
+      → PagesStandFor shape (with_table_page def (pages_of g new)) (changed_at db def.number (with_row other))
   database_changed row other rid to one number =
-      database_with g before ext old new def owners one.owners_now forests one.forests_now between.sound st one.changes touched longer
-      (numbers_here g before old def owners forests between st) db stands (row_in_place rid row) (row_in_place to other) one.stay number one.were one.are
+      database_with g shape old new def owners one.owners_now forests one.forests_now between.sound st one.changes touched longer
+      (numbers_here g shape old def owners forests between st) db stands (row_in_place rid row) (row_in_place to other) one.stay number one.were one.are

@@ -12,16 +12,16 @@ use Rattle.mdc_values.specs.declared.rid.Rid.{Rid}
 use Rattle.mdc_ast.specs.declared.definition.TableDef.{TableDef}
 use Rattle.mdc_ast.specs.declared.row.Row.{Row}
 use Rattle.store_api.specs.declared.pages.Pages.{Ghosts}
+use Rattle.store_api.specs.declared.shape.Shape.{Shape}
 use Rattle.extent_map.specs.Map.{IsSpacePage}
 use Rattle.extent_map.specs.Kinds.{is_unused_place, is_used_place}
-use Rattle.extent_map.specs.Owners.{IsExtentPage, IsSameShape, IsUnusedPage, IsUsedPage, extent_of, owner_of, place_in_extent}
-use Rattle.extent_map.specs.declared.extents.Extents.{Extents}
+use Rattle.extent_map.specs.Owners.{IsExtentPage, IsUnusedPage, IsUsedPage, extent_of, owner_of, place_in_extent}
 use Rattle.extent_map.specs.declared.kind.Kind.{Kind}
 use Rattle.extent_map.specs.declared.kind.Kind.TheVariants.{Free, Block, Index}
+use Rattle.extent_map.specs.declared.space_notes.SpaceNotes.{SpaceNotes}
 use Rattle.entry_tree.specs.Forest.{Forest, times}
 use Rattle.entry_tree.specs.Standing.{IsIdlePage}
-use Rattle.entry_tree.proofs.ClaimsLemmas.{space_same}
-use Rattle.entry_tree.proofs.UsedPagesLemmas.{extent_page_same, shape_back, unused_same, used_not_idle, used_same}
+use Rattle.entry_tree.proofs.UsedPagesLemmas.{used_not_idle}
 use Rattle.block_map.specs.MapLines.{map_lines, mapped_state}
 use Rattle.table_trees.specs.TreesBeside.{table_of_block}
 use Rattle.table_trees.proofs.KeptOwnersLemmas.{idle_no_block, used_no_block}
@@ -56,15 +56,15 @@ some_left : (all : Bool) (slots : List (Option Row)) → IsNoBlock (cond all Fre
 some_left true slots none = none
 some_left false slots none = none
 
-no_block_of_kind : (ext : Extents) (pages : PageList) (def : TableDef) (map_tree : Forest) (e : ℕ) (kind : Kind) → table_of_block kind ≡ None → IsNoBlock (spot_of_kind ext pages def map_tree e kind)
-no_block_of_kind ext pages def map_tree e Free none = tt
-no_block_of_kind ext pages def map_tree e (Block t) none = absurd cc
-no_block_of_kind ext pages def map_tree e (Index used) none = tt
+no_block_of_kind : (shape : Shape) (pages : PageList) (def : TableDef) (map_tree : Forest) (e : ℕ) (kind : Kind) → table_of_block kind ≡ None → IsNoBlock (spot_of_kind shape pages def map_tree e kind)
+no_block_of_kind shape pages def map_tree e Free none = tt
+no_block_of_kind shape pages def map_tree e (Block t) none = absurd cc
+no_block_of_kind shape pages def map_tree e (Index used) none = tt
 
-kind_of_no_block : (ext : Extents) (pages : PageList) (def : TableDef) (map_tree : Forest) (e : ℕ) (kind : Kind) → IsNoBlock (spot_of_kind ext pages def map_tree e kind) → table_of_block kind ≡ None
-kind_of_no_block ext pages def map_tree e Free none = refl
-kind_of_no_block ext pages def map_tree e (Block t) none = absurd (some_owner (t == def.number) (mapped_state e (map_lines map_tree)) (block_slots ext pages def e) none)
-kind_of_no_block ext pages def map_tree e (Index used) none = refl
+kind_of_no_block : (shape : Shape) (pages : PageList) (def : TableDef) (map_tree : Forest) (e : ℕ) (kind : Kind) → IsNoBlock (spot_of_kind shape pages def map_tree e kind) → table_of_block kind ≡ None
+kind_of_no_block shape pages def map_tree e Free none = refl
+kind_of_no_block shape pages def map_tree e (Block t) none = absurd (some_owner (t == def.number) (mapped_state e (map_lines map_tree)) (block_slots shape pages def e) none)
+kind_of_no_block shape pages def map_tree e (Index used) none = refl
 
 before_return : (a b : Spot) → AfterReturns a b → IsNoBlock b → IsNoBlock a
 before_return FreeExtent b after none = tt
@@ -124,169 +124,151 @@ before_turning def n old new row other rid _ e (ChangesRow.stays slots cell lies
 before_turning def n old new row other rid _ e (ChangesRow.moves left free to apart takes returns puts) none =
     before_taking old left rid row e takes (before_returns left free e returns (before_putting def n free new other to e puts none))
 
--- ---- the same in extents of the same shape
-
-extent_same : (one other : Extents) (p : ℕ) → IsSameShape one other → extent_of one p ≡ extent_of other p
-extent_same one other p s = rw (s.cap, s.extent_pages) refl
-
-idle_at : (one other : Extents) (owners : List Kind) (p : ℕ) → IsSameShape one other → IsIdlePage other owners p → IsIdlePage one owners p
-idle_at one other owners p s idle = record {
-  page = extent_page_same one other p s idle.page;
-  idle = elim idle.idle [ inl unused ↦ inl (unused_same one other owners p s unused) | inr free ↦ inr (ap (owner_of owners) (extent_same one other p s) ∙ free) ];
-}
-
-pub block_page_at : (one other : Extents) (owners : List Kind) (t p : ℕ) → IsSameShape one other → IsBlockPageOf other owners t p → IsBlockPageOf one owners t p
-block_page_at one other owners t p s of = record { page = extent_page_same one other p s of.page; block = ap (owner_of owners) (extent_same one other p s) ∙ of.block }
+-- ---- idle pages
 
 -- a page is idle where its extent is no block and it isn't used
-idle_if : (ext : Extents) (owners : List Kind) (p : ℕ) → IsExtentPage ext p → table_of_block (owner_of owners (extent_of ext p)) ≡ None → (IsUsedPage ext owners p → ⊥) → IsIdlePage ext owners p
-idle_if ext owners p page no_block unused = record { page = page; idle = go (owner_of owners (extent_of ext p)) refl }
+idle_if : (shape : Shape) (owners : List Kind) (p : ℕ) → IsExtentPage shape p → table_of_block (owner_of owners (extent_of shape p)) ≡ None → (IsUsedPage shape owners p → ⊥) → IsIdlePage shape owners p
+idle_if shape owners p page no_block unused = record { page = page; idle = go (owner_of owners (extent_of shape p)) refl }
   where
-    go : (kind : Kind) → owner_of owners (extent_of ext p) ≡ kind → IsUnusedPage ext owners p ⊎ (owner_of owners (extent_of ext p) ≡ Free)
+    go : (kind : Kind) → owner_of owners (extent_of shape p) ≡ kind → IsUnusedPage shape owners p ⊎ (owner_of owners (extent_of shape p) ≡ Free)
     go Free is = inr is
     go (Block table) is = let some = sym (ap table_of_block is) ∙ no_block in absurd cc
-    go (Index used) is = elim (cases_eq (bit_at used (place_in_extent ext p)) 0) [
-      | inl clear ↦ inl (record { page = page; unused = subst (λ k. IsTrue (is_unused_place (place_in_extent ext p) k)) (sym is) (eq-eqb (bit_at used (place_in_extent ext p)) 0 clear) })
+    go (Index used) is = elim (cases_eq (bit_at used (place_in_extent shape p)) 0) [
+      | inl clear ↦ inl (record { page = page; unused = subst (λ k. IsTrue (is_unused_place (place_in_extent shape p) k)) (sym is) (eq-eqb (bit_at used (place_in_extent shape p)) 0 clear) })
       | inr set_bit ↦ absurd (unused (record {
         page = page;
-        used = subst (λ k. IsTrue (is_used_place (place_in_extent ext p) k)) (sym is) (eq-eqb (bit_at used (place_in_extent ext p)) 1 (omega (arith, set_bit, bit_at-lt used (place_in_extent ext p))));
+        used = subst (λ k. IsTrue (is_used_place (place_in_extent shape p) k)) (sym is) (eq-eqb (bit_at used (place_in_extent shape p)) 1 (omega (arith, set_bit, bit_at-lt used (place_in_extent shape p))));
       }))
     ]
 
 -- ---- one change, and another behind it
 
-module _ {S : Type 0} (g : Ghosts S) (before : Extents) (old : S) (def : TableDef) (owners : List Kind) (forests : TableForests) where
+module _ {S : Type 0} (g : Ghosts S) (shape : Shape) (old : S) (def : TableDef) (owners : List Kind) (forests : TableForests) where
   -- a table that stands is a change of itself
-  pub same_table : StandsTable g before old def owners forests → ChangesTable g before before old old def owners forests owners forests
+  pub same_table : {noted : SpaceNotes} → StandsTable g shape old def owners forests → ChangesTable g shape noted noted old old def owners forests owners forests
   same_table st = record {
     stands = st;
-    shape = record { cap = refl; extent_pages = refl };
     others_blocks = λ e t other is. is;
     no_others_blocks = λ e t other is. is;
     others_pages = λ p used none. used;
     used_pages = λ p used. elim (cases_lt 0 (sum_by (times p) (forests_in_order forests))) [ inl some ↦ inl some | inr none ↦ inr (used, omega (arith, none)) ];
     pages = λ p some. inl some;
-    grows = grows_pages_none before old;
+    grows = grows_pages_none shape old;
     notes = λ right. right;
   }
 
-module _ {S : Type 0} (g : Ghosts S) (before mid : Extents) (old middle : S) (def : TableDef) (owners : List Kind) (forests : TableForests) where
+module _ {S : Type 0} (g : Ghosts S) (shape : Shape) (old middle : S) (def : TableDef) (owners : List Kind) (forests : TableForests) where
   -- where each spot that is no block now was none, no block was given up
-  gives_up_none : (owners_mid : List Kind) (forests_mid : TableForests) → StandsTable g before old def owners forests → IsSameShape before mid
-      → ((e : ℕ) → IsNoBlock (get_or (spots_of g mid middle def owners_mid forests_mid) e OtherBlock) → IsNoBlock (get_or (spots_of g before old def owners forests) e OtherBlock))
+  gives_up_none : (owners_mid : List Kind) (forests_mid : TableForests) → StandsTable g shape old def owners forests
+      → ((e : ℕ) → IsNoBlock (get_or (spots_of g shape middle def owners_mid forests_mid) e OtherBlock) → IsNoBlock (get_or (spots_of g shape old def owners forests) e OtherBlock))
       → (e : ℕ) → table_of_block (owner_of owners_mid e) ≡ None → table_of_block (owner_of owners e) ≡ None
-  gives_up_none owners_mid forests_mid st shape earlier e none = elim (cases_lt e before.cap) [
+  gives_up_none owners_mid forests_mid st earlier e none = elim (cases_lt e shape.extents) [
     | inl low ↦
-        let shown = spot_at mid (pages_of g middle) def owners_mid forests_mid.map e OtherBlock (omega (arith, low, shape.cap)) in
-        let now : IsNoBlock (get_or (spots_of g mid middle def owners_mid forests_mid) e OtherBlock) = subst IsNoBlock (sym shown) (no_block_of_kind mid (pages_of g middle) def forests_mid.map e (owner_of owners_mid e) none) in
-        kind_of_no_block before (pages_of g old) def forests.map e (owner_of owners e) (subst IsNoBlock (spot_at before (pages_of g old) def owners forests.map e OtherBlock low) (earlier e now))
+        let shown = spot_at shape (pages_of g middle) def owners_mid forests_mid.map e OtherBlock (omega (arith, low)) in
+        let now : IsNoBlock (get_or (spots_of g shape middle def owners_mid forests_mid) e OtherBlock) = subst IsNoBlock (sym shown) (no_block_of_kind shape (pages_of g middle) def forests_mid.map e (owner_of owners_mid e) none) in
+        kind_of_no_block shape (pages_of g old) def forests.map e (owner_of owners e) (subst IsNoBlock (spot_at shape (pages_of g old) def owners forests.map e OtherBlock low) (earlier e now))
     | inr past ↦ ap table_of_block (get_or_past owners e Free (omega (arith, past, st.trees.map.count)))
   ]
 
   -- taking a row out leaves each block one
-  pub takes_no_block : (room_of : Entry → RoomNote) (row : Row) (rid : Rid) → StandsTable g before old def owners forests → (takes : TakesRowOut g before mid room_of old middle def owners forests row rid)
+  pub takes_no_block : {before noted : SpaceNotes} (room_of : Entry → RoomNote) (row : Row) (rid : Rid) → StandsTable g shape old def owners forests → (takes : TakesRowOut g shape before noted room_of old middle def owners forests row rid)
       → (e : ℕ) → table_of_block (owner_of takes.owners_now e) ≡ None → table_of_block (owner_of owners e) ≡ None
   takes_no_block room_of row rid st takes =
-      gives_up_none takes.owners_now takes.forests_now st takes.changes.shape
-      (λ e none. before_taking (spots_of g before old def owners forests) takes.mid rid row e takes.takes (before_returns takes.mid (spots_of g mid middle def takes.owners_now takes.forests_now) e takes.returns none))
+      gives_up_none takes.owners_now takes.forests_now st
+      (λ e none. before_taking (spots_of g shape old def owners forests) takes.mid rid row e takes.takes (before_returns takes.mid (spots_of g shape middle def takes.owners_now takes.forests_now) e takes.returns none))
 
   -- so does putting one
-  pub places_no_block : (room_of : Entry → RoomNote) (row : Row) (rid : Rid) → StandsTable g before old def owners forests → (places : PlacesRow g before mid room_of old middle def owners forests row rid)
+  pub places_no_block : {before noted : SpaceNotes} (room_of : Entry → RoomNote) (row : Row) (rid : Rid) → StandsTable g shape old def owners forests → (places : PlacesRow g shape before noted room_of old middle def owners forests row rid)
       → (e : ℕ) → table_of_block (owner_of places.owners_now e) ≡ None → table_of_block (owner_of owners e) ≡ None
   places_no_block room_of row rid st places =
-      gives_up_none places.owners_now places.forests_now st places.changes.shape
-      (λ e none. before_putting def (block_slot_count before def) (spots_of g before old def owners forests) places.mid row rid e places.puts
-      (before_claims places.mid (spots_of g mid middle def places.owners_now places.forests_now) e places.claims none))
+      gives_up_none places.owners_now places.forests_now st
+      (λ e none. before_putting def (block_slot_count shape def) (spots_of g shape old def owners forests) places.mid row rid e places.puts
+      (before_claims places.mid (spots_of g shape middle def places.owners_now places.forests_now) e places.claims none))
 
   -- and making one another
-  pub turns_no_block : (room_of : Entry → RoomNote) (row other : Row) (rid to : Rid) → StandsTable g before old def owners forests → (one : ChangesOneRow g before mid room_of old middle def row other rid to owners forests)
+  pub turns_no_block : {before noted : SpaceNotes} (room_of : Entry → RoomNote) (row other : Row) (rid to : Rid) → StandsTable g shape old def owners forests → (one : ChangesOneRow g shape before noted room_of old middle def row other rid to owners forests)
       → (e : ℕ) → table_of_block (owner_of one.owners_now e) ≡ None → table_of_block (owner_of owners e) ≡ None
   turns_no_block room_of row other rid to st one =
-      gives_up_none one.owners_now one.forests_now st one.changes.shape
-      (λ e none. before_turning def (block_slot_count before def) (spots_of g before old def owners forests) one.mid row other rid to e one.turns
-      (before_claims one.mid (spots_of g mid middle def one.owners_now one.forests_now) e one.claims none))
+      gives_up_none one.owners_now one.forests_now st
+      (λ e none. before_turning def (block_slot_count shape def) (spots_of g shape old def owners forests) one.mid row other rid to e one.turns
+      (before_claims one.mid (spots_of g shape middle def one.owners_now one.forests_now) e one.claims none))
 
-  module _ (owners_mid : List Kind) (forests_mid : TableForests) (first : ChangesTable g before mid old middle def owners forests owners_mid forests_mid) where
+  module _ {before mid : SpaceNotes} (owners_mid : List Kind) (forests_mid : TableForests) (first : ChangesTable g shape before mid old middle def owners forests owners_mid forests_mid) where
     -- a used page outside the table's trees is outside of them still
-    none_now : (p : ℕ) → IsUsedPage before owners p → sum_by (times p) (forests_in_order forests) ≡ 0 → sum_by (times p) (forests_in_order forests_mid) ≡ 0
+    none_now : (p : ℕ) → IsUsedPage shape owners p → sum_by (times p) (forests_in_order forests) ≡ 0 → sum_by (times p) (forests_in_order forests_mid) ≡ 0
     none_now p used none = elim (cases_lt 0 (sum_by (times p) (forests_in_order forests_mid))) [
-      | inl some ↦ elim (first.pages p some) [ inl was ↦ absurd (omega (arith, was, none)) | inr idle ↦ absurd (used_not_idle before owners p used idle) ]
+      | inl some ↦ elim (first.pages p some) [ inl was ↦ absurd (omega (arith, was, none)) | inr idle ↦ absurd (used_not_idle shape owners p used idle) ]
       | inr not ↦ omega (arith, not)
     ]
 
     -- what a page was that is in no block of another table and is no used one outside the trees
-    was_of_table : (p : ℕ) → IsExtentPage before p → ((t : ℕ) → t ≢ def.number → owner_of owners_mid (extent_of before p) ≡ Block t → ⊥) → (IsUsedPage before owners_mid p → ⊥)
-        → 0 < sum_by (times p) (forests_in_order forests) ⊎ (IsBlockPageOf before owners def.number p ⊎ IsIdlePage before owners p)
+    was_of_table : (p : ℕ) → IsExtentPage shape p → ((t : ℕ) → t ≢ def.number → owner_of owners_mid (extent_of shape p) ≡ Block t → ⊥) → (IsUsedPage shape owners_mid p → ⊥)
+        → 0 < sum_by (times p) (forests_in_order forests) ⊎ (IsBlockPageOf shape owners def.number p ⊎ IsIdlePage shape owners p)
     was_of_table p page no_other unused = elim (cases_lt 0 (sum_by (times p) (forests_in_order forests))) [
       | inl some ↦ inl some
-      | inr none ↦ inr (go (owner_of owners (extent_of before p)) refl (omega (arith, none)))
+      | inr none ↦ inr (go (owner_of owners (extent_of shape p)) refl (omega (arith, none)))
     ]
       where
-        no_used : sum_by (times p) (forests_in_order forests) ≡ 0 → IsUsedPage before owners p → ⊥
+        no_used : sum_by (times p) (forests_in_order forests) ≡ 0 → IsUsedPage shape owners p → ⊥
         no_used none used = unused (first.others_pages p used none)
 
-        go : (kind : Kind) → owner_of owners (extent_of before p) ≡ kind → sum_by (times p) (forests_in_order forests) ≡ 0 → IsBlockPageOf before owners def.number p ⊎ IsIdlePage before owners p
-        go Free is none = inr (idle_if before owners p page (ap table_of_block is) (no_used none))
+        go : (kind : Kind) → owner_of owners (extent_of shape p) ≡ kind → sum_by (times p) (forests_in_order forests) ≡ 0 → IsBlockPageOf shape owners def.number p ⊎ IsIdlePage shape owners p
+        go Free is none = inr (idle_if shape owners p page (ap table_of_block is) (no_used none))
         go (Block t) is none = elim (cases_eq t def.number) [
           | inl mine ↦ inl (record { page = page; block = is ∙ ap Block mine })
-          | inr other ↦ absurd (no_other t other (first.others_blocks (extent_of before p) t other is))
+          | inr other ↦ absurd (no_other t other (first.others_blocks (extent_of shape p) t other is))
         ]
-        go (Index used) is none = inr (idle_if before owners p page (ap table_of_block is) (no_used none))
+        go (Index used) is none = inr (idle_if shape owners p page (ap table_of_block is) (no_used none))
 
     -- the pages that a call on the table may touch then are pages that one may touch before
-    pub space_before : (p : ℕ) → 0 < sum_by (times p) (forests_in_order forests_mid) ⊎ (IsBlockPageOf mid owners_mid def.number p ⊎ (IsSpacePage mid p ⊎ IsIdlePage mid owners_mid p))
-        → 0 < sum_by (times p) (forests_in_order forests) ⊎ (IsBlockPageOf before owners def.number p ⊎ (IsSpacePage before p ⊎ IsIdlePage before owners p))
+    pub space_before : (p : ℕ) → 0 < sum_by (times p) (forests_in_order forests_mid) ⊎ (IsBlockPageOf shape owners_mid def.number p ⊎ (IsSpacePage shape p ⊎ IsIdlePage shape owners_mid p))
+        → 0 < sum_by (times p) (forests_in_order forests) ⊎ (IsBlockPageOf shape owners def.number p ⊎ (IsSpacePage shape p ⊎ IsIdlePage shape owners p))
     space_before p mine = elim mine [
       | inl some ↦ elim (first.pages p some) [ inl was ↦ inl was | inr idle ↦ inr (inr (inr idle)) ]
       | inr more ↦ elim more [
         | inl of ↦
-            let here = block_page_at before mid owners_mid def.number p first.shape of in
-            wider (was_of_table p here.page
-            (λ t other is. let same : Block t ≡ Block def.number = sym is ∙ here.block in other cc)
-            (λ used. let none = used_no_block _ (owner_of owners_mid (extent_of before p)) used.used in let some = ap table_of_block here.block in absurd cc))
+            wider (was_of_table p of.page
+            (λ t other is. let same : Block t ≡ Block def.number = sym is ∙ of.block in other cc)
+            (λ used. let none = used_no_block _ (owner_of owners_mid (extent_of shape p)) used.used in let some = ap table_of_block of.block in absurd cc))
         | inr rest ↦ elim rest [
-          | inl space ↦ inr (inr (inl (space_same before mid p first.shape space)))
+          | inl space ↦ inr (inr (inl space))
           | inr idle ↦
-              let here = idle_at before mid owners_mid p first.shape idle in
-              let none = idle_no_block before owners_mid p here in
-              wider (was_of_table p here.page (λ t other is. let some = ap table_of_block is in absurd cc) (λ used. used_not_idle before owners_mid p used here))
+              let none = idle_no_block shape owners_mid p idle in
+              wider (was_of_table p idle.page (λ t other is. let some = ap table_of_block is in absurd cc) (λ used. used_not_idle shape owners_mid p used idle))
         ]
       ]
     ]
       where
-        wider : 0 < sum_by (times p) (forests_in_order forests) ⊎ (IsBlockPageOf before owners def.number p ⊎ IsIdlePage before owners p)
-            → 0 < sum_by (times p) (forests_in_order forests) ⊎ (IsBlockPageOf before owners def.number p ⊎ (IsSpacePage before p ⊎ IsIdlePage before owners p))
+        wider : 0 < sum_by (times p) (forests_in_order forests) ⊎ (IsBlockPageOf shape owners def.number p ⊎ IsIdlePage shape owners p)
+            → 0 < sum_by (times p) (forests_in_order forests) ⊎ (IsBlockPageOf shape owners def.number p ⊎ (IsSpacePage shape p ⊎ IsIdlePage shape owners p))
         wider (inl some) = inl some
         wider (inr (inl of)) = inr (inl of)
         wider (inr (inr idle)) = inr (inr (inr idle))
 
     -- where the first left each block one, both together are one change
-    pub changes_table_then : (ext : Extents) (new : S) (owners_now : List Kind) (forests_now : TableForests) → ChangesTable g mid ext middle new def owners_mid forests_mid owners_now forests_now
+    pub changes_table_then : {noted : SpaceNotes} (new : S) (owners_now : List Kind) (forests_now : TableForests) → ChangesTable g shape mid noted middle new def owners_mid forests_mid owners_now forests_now
         → ((e : ℕ) → table_of_block (owner_of owners_mid e) ≡ None → table_of_block (owner_of owners e) ≡ None)
         → length (pages_of g old) ≤ length (pages_of g middle) → length (pages_of g middle) ≤ length (pages_of g new)
-        → ChangesTable g before ext old new def owners forests owners_now forests_now
-    changes_table_then ext new owners_now forests_now second no_block longer still_longer = record {
+        → ChangesTable g shape before noted old new def owners forests owners_now forests_now
+    changes_table_then new owners_now forests_now second no_block longer still_longer = record {
       stands = second.stands;
-      shape = record { cap = second.shape.cap ∙ first.shape.cap; extent_pages = second.shape.extent_pages ∙ first.shape.extent_pages };
       others_blocks = λ e t other is. second.others_blocks e t other (first.others_blocks e t other is);
       no_others_blocks = λ e t other is. first.no_others_blocks e t other (second.no_others_blocks e t other is);
       others_pages = λ p used none.
-          let later = used_same mid before owners_mid p (shape_back before mid first.shape) (first.others_pages p used none) in
-          used_same before mid owners_now p first.shape (second.others_pages p later (none_now p used none));
-      used_pages = λ p used. elim (second.used_pages p (used_same mid before owners_now p (shape_back before mid first.shape) used)) [
+          second.others_pages p (first.others_pages p used none) (none_now p used none);
+      used_pages = λ p used. elim (second.used_pages p used) [
         | inl some ↦ inl some
-        | inr was ↦ elim (first.used_pages p (used_same before mid owners_mid p first.shape was.0)) [ inl some ↦ absurd (omega (arith, some, was.1)) | inr earlier ↦ inr earlier ]
+        | inr was ↦ elim (first.used_pages p was.0) [ inl some ↦ absurd (omega (arith, some, was.1)) | inr earlier ↦ inr earlier ]
       ];
       pages = λ p some. elim (second.pages p some) [
         | inl was ↦ first.pages p was
         | inr idle ↦
-            let here = idle_at before mid owners_mid p first.shape idle in
             elim (cases_lt 0 (sum_by (times p) (forests_in_order forests))) [
               | inl was ↦ inl was
-              | inr none ↦ inr (idle_if before owners p here.page (no_block (extent_of before p) (idle_no_block before owners_mid p here))
-                  (λ used. used_not_idle before owners_mid p (first.others_pages p used (omega (arith, none))) here))
+              | inr none ↦ inr (idle_if shape owners p idle.page (no_block (extent_of shape p) (idle_no_block shape owners_mid p idle))
+                  (λ used. used_not_idle shape owners_mid p (first.others_pages p used (omega (arith, none))) idle))
             ]
       ];
-      grows = grows_pages_then before mid old middle new first.shape longer still_longer first.grows second.grows;
+      grows = grows_pages_then shape old middle new longer still_longer first.grows second.grows;
       notes = λ right. second.notes (first.notes right);
     }

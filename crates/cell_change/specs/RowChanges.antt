@@ -5,8 +5,9 @@ use Rattle.mdc_values.specs.declared.rid.Rid.{Rid}
 use Rattle.mdc_ast.specs.declared.definition.TableDef.{TableDef}
 use Rattle.mdc_ast.specs.declared.row.Row.{Row}
 use Rattle.store_api.specs.declared.pages.Pages.{Ghosts}
-use Rattle.extent_map.specs.declared.extents.Extents.{Extents}
+use Rattle.store_api.specs.declared.shape.Shape.{Shape}
 use Rattle.extent_map.specs.declared.kind.Kind.{Kind}
+use Rattle.extent_map.specs.declared.space_notes.SpaceNotes.{SpaceNotes}
 use Rattle.row_page.specs.RowPage.{count_rows}
 use Rattle.table_trees.specs.RowCells.{AreOfOneCell}
 use Rattle.table_trees.specs.SpaceChanges.{MakesChanges, SpaceChange, added_entries, removed_entries}
@@ -17,22 +18,22 @@ use Rattle.mdc_sound.specs.StandingTable.{AreRightRooms, ChangesTable, PlacesRow
 use Rattle.mdc_sound.specs.TableRows.{PlacedRow, rows_in_table}
 
 -- the rows of a table as a store has them now
-abbrev pub rows_now : {S : Type 0} → Ghosts S → Extents → S → TableDef → TableForests → List PlacedRow
-rows_now g ext s def forests = rows_in_table ext (pages_of g s) def forests.map
+abbrev pub rows_now : {S : Type 0} → Ghosts S → Shape → S → TableDef → TableForests → List PlacedRow
+rows_now g shape s def forests = rows_in_table shape (pages_of g s) def forests.map
 
 -- a row in a place
 abbrev pub row_in_place : Rid → Row → PlacedRow
 row_in_place rid row = record { rid = rid; row = row }
 
 -- The row was placed, and the rows are those that there were with this one.
-pub record InsertsRow {S : Type 0} (g : Ghosts S) (before ext : Extents) (room_of : Entry → RoomNote) (old new : S) (def : TableDef) (row : Row) (rid : Rid) (owners : List Kind) (forests : TableForests) : Type 0 where
-  pub places : PlacesRow g before ext room_of old new def owners forests row rid
-  pub rows : IsPermutation (row_in_place rid row ∷ rows_now g before old def forests) (rows_now g ext new def places.forests_now)
+pub record InsertsRow {S : Type 0} (g : Ghosts S) (shape : Shape) (before noted : SpaceNotes) (room_of : Entry → RoomNote) (old new : S) (def : TableDef) (row : Row) (rid : Rid) (owners : List Kind) (forests : TableForests) : Type 0 where
+  pub places : PlacesRow g shape before noted room_of old new def owners forests row rid
+  pub rows : IsPermutation (row_in_place rid row ∷ rows_now g shape old def forests) (rows_now g shape new def places.forests_now)
 
 -- The row was taken out, and the rows are those that there were without it.
-pub record DeletesRow {S : Type 0} (g : Ghosts S) (before ext : Extents) (room_of : Entry → RoomNote) (old new : S) (def : TableDef) (row : Row) (rid : Rid) (owners : List Kind) (forests : TableForests) : Type 0 where
-  pub takes : TakesRowOut g before ext room_of old new def owners forests row rid
-  pub rows : IsPermutation (row_in_place rid row ∷ rows_now g ext new def takes.forests_now) (rows_now g before old def forests)
+pub record DeletesRow {S : Type 0} (g : Ghosts S) (shape : Shape) (before noted : SpaceNotes) (room_of : Entry → RoomNote) (old new : S) (def : TableDef) (row : Row) (rid : Rid) (owners : List Kind) (forests : TableForests) : Type 0 where
+  pub takes : TakesRowOut g shape before noted room_of old new def owners forests row rid
+  pub rows : IsPermutation (row_in_place rid row ∷ rows_now g shape new def takes.forests_now) (rows_now g shape old def forests)
 
 -- The changes of space that one row of an UPDATE asks for, and the spots after it. All that is taken out for it goes before what is
 -- put. A row that keeps its cell changes the record indexes in which its keys differ.
@@ -45,23 +46,23 @@ pub data TurnsRowBy (def : TableDef) (n : ℕ) (old : List Spot) (rid : Rid) (ro
       → TurnsRowBy def n old rid row other new (taking_changes def row rid (count_rows slots) ++ putting_changes def other to (slice_index_or free to.block OtherBlock))
 
 -- these changes were made, and are those that the row asks for
-pub record MakesOneChange {S : Type 0} (g : Ghosts S) (ext : Extents) (old new : S) (def : TableDef) (row other : Row) (rid : Rid) (owners : List Kind) (forests : TableForests) (spots_now : List Spot) : Type 0 where
+pub record MakesOneChange {S : Type 0} (g : Ghosts S) (shape : Shape) (old new : S) (def : TableDef) (row other : Row) (rid : Rid) (owners : List Kind) (forests : TableForests) (spots_now : List Spot) : Type 0 where
   pub changes : List SpaceChange
-  pub makes : MakesChanges ext (pages_of g old) changes (pages_of g new)
-  pub turns : TurnsRowBy def (block_slot_count ext def) (spots_of g ext old def owners forests) rid row other spots_now changes
+  pub makes : MakesChanges shape (pages_of g old) changes (pages_of g new)
+  pub turns : TurnsRowBy def (block_slot_count shape def) (spots_of g shape old def owners forests) rid row other spots_now changes
 
 -- The row became another, in its place where it keeps its cell; the other rows and the trees of the record indexes stay. After that
 -- trees may have taken free extents. Trees took no more space than that asks for.
-pub record ChangesOneRow {S : Type 0} (g : Ghosts S) (before ext : Extents) (room_of : Entry → RoomNote) (old new : S) (def : TableDef) (row other : Row) (rid to : Rid) (owners : List Kind) (forests : TableForests) : Type 0 where
+pub record ChangesOneRow {S : Type 0} (g : Ghosts S) (shape : Shape) (before noted : SpaceNotes) (room_of : Entry → RoomNote) (old new : S) (def : TableDef) (row other : Row) (rid to : Rid) (owners : List Kind) (forests : TableForests) : Type 0 where
   pub owners_now : List Kind
   pub forests_now : TableForests
-  pub changes : ChangesTable g before ext old new def owners forests owners_now forests_now
+  pub changes : ChangesTable g shape before noted old new def owners forests owners_now forests_now
   pub records : forests_now.indexes ≡ forests.indexes
-  pub rooms : AreRightRooms def room_of (spots_of g ext new def owners_now forests_now)
+  pub rooms : AreRightRooms def room_of (spots_of g shape new def owners_now forests_now)
   pub mid : List Spot
-  pub turns : ChangesRow def (block_slot_count before def) (spots_of g before old def owners forests) rid row other mid to
-  pub claims : SpotsAfterClaims mid (spots_of g ext new def owners_now forests_now)
+  pub turns : ChangesRow def (block_slot_count shape def) (spots_of g shape old def owners forests) rid row other mid to
+  pub claims : SpotsAfterClaims mid (spots_of g shape new def owners_now forests_now)
   pub stay : List PlacedRow
-  pub were : IsPermutation (row_in_place rid row ∷ stay) (rows_now g before old def forests)
-  pub are : IsPermutation (row_in_place to other ∷ stay) (rows_now g ext new def forests_now)
-  pub space : MakesOneChange g before old new def row other rid owners forests (spots_of g ext new def owners_now forests_now)
+  pub were : IsPermutation (row_in_place rid row ∷ stay) (rows_now g shape old def forests)
+  pub are : IsPermutation (row_in_place to other ∷ stay) (rows_now g shape new def forests_now)
+  pub space : MakesOneChange g shape old new def row other rid owners forests (spots_of g shape new def owners_now forests_now)

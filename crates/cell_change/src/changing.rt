@@ -3,7 +3,6 @@ ghost use Rattle.std.specs.Prelude.{◌≡◌, ◌⊎◌, [], ◌∷◌, List, f
 ghost use Rattle.store_api.specs.Causes.{store_fault_in};
 ghost use Rattle.store_api.specs.RunsOverPages.{RunsOverPages};
 ghost use Rattle.extent_map.specs.Damages.{IfFull, store_part_of};
-ghost use Rattle.extent_map.specs.Owners.{IsSameShape};
 ghost use Rattle.extent_map.specs.declared.kind.Kind.{Kind};
 ghost use Rattle.mdc_ast.specs.Database.{Database, changed_at};
 ghost use Rattle.mdc_ast.specs.TableLimits.{IsTableDef};
@@ -21,23 +20,24 @@ ghost use Rattle.table_blocks.specs.SeenSlots.{IsMapApart};
 ghost use Rattle.cell_change.specs.RowChanges.{ChangesOneRow, row_in_place};
 
 use block_index::are_of_one_cell;
-use extent_map::{Extents, SpaceFault};
+use extent_map::{SpaceFault, SpaceNotes};
 use mdc_ast::{Row, TableDef};
 use mdc_table::{Rooms, overwrite_row, place_row, take_row};
 use mdc_values::Rid;
 use std::alloc::Global;
-use store_api::Pages;
+use store_api::{Pages, Shape};
 
 /// Makes the row in a place, which is given, another one that fits the definition and has its number, and answers where that
 /// lies: in the same place where the cell is the same, else where placing puts it once the old one is out. A block that is known to
 /// be a Used one of the table isn't asked of the block map again: the block of a row that was just changed is one. It claims no
 /// more pages than the row asks for, and `Full` says that an UPDATE of this row runs full: it moves, and what it needs then asks
-/// for more extents than are free. After a fault `undo` goes back to a mark, and the notes of the extents and of the rooms are to
+/// for more extents than are free. After a fault `undo` goes back to a mark, and the notes of free space and of the rooms are to
 /// be forgotten.
 pub fn change_row<P: Pages>(
     alloc: Global,
     def: &TableDef,
-    ext: &mut Extents,
+    shape: Shape,
+    notes: &mut SpaceNotes,
     rooms: &mut Rooms,
     pages: &mut P,
     known: Option<u32>,
@@ -51,30 +51,29 @@ pub fn change_row<P: Pages>(
     requires fits { RowFits def.now is.now }
     requires number { is.now.number ≡ was.now.number }
     requires going { (P.state pages.old).ended ≡ false }
-    ensures changes { IfOk result (λ to. (owners : List Kind) (forests : TableForests) → IsReadyTable P.Pages ext.old (room_of rooms.old) pages.old def.now owners forests
-        → HasThisRow P.Pages ext.old pages.old def.now rid was.now owners forests
-        → ChangesOneRow P.Pages ext.old ext.new (room_of rooms.new) pages.old pages.new def.now was.now is.now rid to owners forests) }
-    ensures seen { OnOk result (IsTrue (P.state pages.old).is_told → IsMapApart P.Pages ext.old pages.old def.now rid.block → SeesSomeRow (SeesSlot ext.old (pages_of P.Pages pages.old) def.now rid)) }
-    ensures stay { IfOk result (λ to. (owners : List Kind) (forests : TableForests) → IsReadyTable P.Pages ext.old (room_of rooms.old) pages.old def.now owners forests
-        → HasThisRow P.Pages ext.old pages.old def.now rid was.now owners forests → KeepsBlocksBut P.Pages ext.old pages.old pages.new def.now owners (λ block. (block ≡ rid.block) ⊎ (block ≡ to.block))) }
-    ensures sound { OnOk result ((owners : List Kind) (forests : TableForests) → IsReadyTable P.Pages ext.old (room_of rooms.old) pages.old def.now owners forests
-        → HasThisRow P.Pages ext.old pages.old def.now rid was.now owners forests
-        → IsSoundBetweenChanges ext.old def.now (pages_of P.Pages pages.old) → IsSoundBetweenChanges ext.new def.now (pages_of P.Pages pages.new)) }
-    ensures stands_for { OnOk result ((owners : List Kind) (forests : TableForests) → IsReadyTable P.Pages ext.old (room_of rooms.old) pages.old def.now owners forests
-        → HasThisRow P.Pages ext.old pages.old def.now rid was.now owners forests → IsSoundBetweenChanges ext.old def.now (pages_of P.Pages pages.old)
-        → (db : Database) → PagesStandFor ext.old (with_table_page def.now (pages_of P.Pages pages.old)) db
-        → PagesStandFor ext.new (with_table_page def.now (pages_of P.Pages pages.new)) (changed_at db def.now.number (with_row is.now))) }
-    ensures full { IfErr result (λ fault. IfFull fault (λ cap. (cap ≡ ext.old.cap) × ((owners : List Kind) (forests : TableForests) → IsReadyTable P.Pages ext.old (room_of rooms.old) pages.old def.now owners forests
-        → HasThisRow P.Pages ext.old pages.old def.now rid was.now owners forests → UpdateRunsFull ext.old (pages_of P.Pages pages.old) def.now ((row_in_place rid was.now, is.now) ∷ [])))) }
-    ensures shape { IsSameShape ext.old ext.new }
-    ensures runs { RunsOverPages P.Pages (IsExpectedSpace P.Pages ext.old pages.old def.now (HasThisRow P.Pages ext.old pages.old def.now rid was.now))
-        (IsExpectedSpace P.Pages ext.old pages.old def.now (HasThisRow P.Pages ext.old pages.old def.now rid was.now))
-        (BreaksExpected P.Pages ext.old pages.old def.now (HasThisRow P.Pages ext.old pages.old def.now rid was.now)) pages.old pages.new (store_fault_in store_part_of result) }
+    ensures changes { IfOk result (λ to. (owners : List Kind) (forests : TableForests) → IsReadyTable P.Pages shape notes.old (room_of rooms.old) pages.old def.now owners forests
+        → HasThisRow P.Pages shape pages.old def.now rid was.now owners forests
+        → ChangesOneRow P.Pages shape notes.old notes.new (room_of rooms.new) pages.old pages.new def.now was.now is.now rid to owners forests) }
+    ensures seen { OnOk result (IsTrue (P.state pages.old).is_told → IsMapApart P.Pages shape pages.old def.now rid.block → SeesSomeRow (SeesSlot shape (pages_of P.Pages pages.old) def.now rid)) }
+    ensures stay { IfOk result (λ to. (owners : List Kind) (forests : TableForests) → IsReadyTable P.Pages shape notes.old (room_of rooms.old) pages.old def.now owners forests
+        → HasThisRow P.Pages shape pages.old def.now rid was.now owners forests → KeepsBlocksBut P.Pages shape pages.old pages.new def.now owners (λ block. (block ≡ rid.block) ⊎ (block ≡ to.block))) }
+    ensures sound { OnOk result ((owners : List Kind) (forests : TableForests) → IsReadyTable P.Pages shape notes.old (room_of rooms.old) pages.old def.now owners forests
+        → HasThisRow P.Pages shape pages.old def.now rid was.now owners forests
+        → IsSoundBetweenChanges shape def.now (pages_of P.Pages pages.old) → IsSoundBetweenChanges shape def.now (pages_of P.Pages pages.new)) }
+    ensures stands_for { OnOk result ((owners : List Kind) (forests : TableForests) → IsReadyTable P.Pages shape notes.old (room_of rooms.old) pages.old def.now owners forests
+        → HasThisRow P.Pages shape pages.old def.now rid was.now owners forests → IsSoundBetweenChanges shape def.now (pages_of P.Pages pages.old)
+        → (db : Database) → PagesStandFor shape (with_table_page def.now (pages_of P.Pages pages.old)) db
+        → PagesStandFor shape (with_table_page def.now (pages_of P.Pages pages.new)) (changed_at db def.now.number (with_row is.now))) }
+    ensures full { IfErr result (λ fault. IfFull fault (λ cap. (cap ≡ shape.extents) × ((owners : List Kind) (forests : TableForests) → IsReadyTable P.Pages shape notes.old (room_of rooms.old) pages.old def.now owners forests
+        → HasThisRow P.Pages shape pages.old def.now rid was.now owners forests → UpdateRunsFull shape (pages_of P.Pages pages.old) def.now ((row_in_place rid was.now, is.now) ∷ [])))) }
+    ensures runs { RunsOverPages P.Pages (IsExpectedSpace P.Pages shape pages.old def.now (HasThisRow P.Pages shape pages.old def.now rid was.now))
+        (IsExpectedSpace P.Pages shape pages.old def.now (HasThisRow P.Pages shape pages.old def.now rid was.now))
+        (BreaksExpected P.Pages shape pages.old def.now (HasThisRow P.Pages shape pages.old def.now rid was.now)) pages.old pages.new (store_fault_in store_part_of result) }
 {
     if are_of_one_cell(def, &was.values, &is.values) {
-        overwrite_row(alloc, def, ext, rooms, pages, known, rid, is)?;
+        overwrite_row(alloc, def, shape, rooms, pages, known, rid, is)?;
         return Ok(rid);
     }
-    take_row(alloc, def, ext, rooms, pages, rid, was)?;
-    place_row(alloc, def, ext, rooms, pages, is)
+    take_row(alloc, def, shape, notes, rooms, pages, rid, was)?;
+    place_row(alloc, def, shape, notes, rooms, pages, is)
 }

@@ -2,7 +2,6 @@
 ghost use Rattle.std.specs.Prelude.{◌≡◌, [], List, Option, false, length, IsTrue, OnOk};
 ghost use Rattle.store_api.specs.Causes.{fault_of};
 ghost use Rattle.store_api.specs.RunsOverPages.{RunsOverPages};
-ghost use Rattle.extent_map.specs.Owners.{IsSameShape};
 ghost use Rattle.extent_map.specs.declared.kind.Kind.{Kind};
 ghost use Rattle.mdc_ast.specs.declared.row.Row.{Row};
 ghost use Rattle.mdc_ast.specs.Database.{Database, changed_at};
@@ -21,19 +20,20 @@ ghost use Rattle.table_blocks.specs.SeenSlots.{IsMapApart, SeesUsedSlot};
 ghost use Rattle.free_space.specs.RoomNotes.{room_of};
 ghost use Rattle.cell_change.specs.RowChanges.{DeletesRow};
 
-use extent_map::Extents;
+use extent_map::SpaceNotes;
 use mdc_ast::{Row, TableDef};
 use mdc_table::{Rooms, take_row};
 use mdc_values::Rid;
 use std::alloc::Global;
-use store_api::{Pages, StoreFault};
+use store_api::{Pages, Shape, StoreFault};
 
 /// Deletes the row that lies in a place; it is given too. It claims no page. After a fault `undo` goes back to a mark, and the
-/// notes of the extents and of the rooms are to be forgotten.
+/// notes of free space and of the rooms are to be forgotten.
 pub fn delete_row<P: Pages>(
     alloc: Global,
     def: &TableDef,
-    ext: &mut Extents,
+    shape: Shape,
+    notes: &mut SpaceNotes,
     rooms: &mut Rooms,
     pages: &mut P,
     rid: Rid,
@@ -43,24 +43,23 @@ pub fn delete_row<P: Pages>(
     requires no_indexes { def.now.indexes ≡ [] }
     requires row { HasReadValues def.now.columns row.now }
     requires going { (P.state pages.old).ended ≡ false }
-    ensures deletes { OnOk result ((owners : List Kind) (forests : TableForests) → IsReadyTable P.Pages ext.old (room_of rooms.old) pages.old def.now owners forests
-        → HasThisRow P.Pages ext.old pages.old def.now rid row.now owners forests → DeletesRow P.Pages ext.old ext.new (room_of rooms.new) pages.old pages.new def.now row.now rid owners forests) }
-    ensures makes { OnOk result ((owners : List Kind) (forests : TableForests) → IsReadyTable P.Pages ext.old (room_of rooms.old) pages.old def.now owners forests
-        → (slots : List (Option Row)) → IsRowAt (spots_of P.Pages ext.old pages.old def.now owners forests) rid row.now slots
-        → MakesChanges ext.old (pages_of P.Pages pages.old) (taking_changes def.now row.now rid (count_rows slots)) (pages_of P.Pages pages.new)) }
-    ensures seen { OnOk result (IsTrue (P.state pages.old).is_told → IsMapApart P.Pages ext.old pages.old def.now rid.block → SeesSomeRow (SeesUsedSlot P.Pages ext.old pages.old def.now rid)) }
-    ensures stay { (owners : List Kind) (forests : TableForests) → IsReadyTable P.Pages ext.old (room_of rooms.old) pages.old def.now owners forests → KeepsBlocksBut P.Pages ext.old pages.old pages.new def.now owners (λ block. block ≡ rid.block) }
-    ensures sound { OnOk result ((owners : List Kind) (forests : TableForests) → IsReadyTable P.Pages ext.old (room_of rooms.old) pages.old def.now owners forests
-        → HasThisRow P.Pages ext.old pages.old def.now rid row.now owners forests
-        → IsSoundBetweenChanges ext.old def.now (pages_of P.Pages pages.old) → IsSoundBetweenChanges ext.new def.now (pages_of P.Pages pages.new)) }
-    ensures stands_for { OnOk result ((owners : List Kind) (forests : TableForests) → IsReadyTable P.Pages ext.old (room_of rooms.old) pages.old def.now owners forests
-        → HasThisRow P.Pages ext.old pages.old def.now rid row.now owners forests → IsSoundBetweenChanges ext.old def.now (pages_of P.Pages pages.old)
-        → (db : Database) → PagesStandFor ext.old (with_table_page def.now (pages_of P.Pages pages.old)) db
-        → PagesStandFor ext.new (with_table_page def.now (pages_of P.Pages pages.new)) (changed_at db def.now.number (without_row row.now.number))) }
+    ensures deletes { OnOk result ((owners : List Kind) (forests : TableForests) → IsReadyTable P.Pages shape notes.old (room_of rooms.old) pages.old def.now owners forests
+        → HasThisRow P.Pages shape pages.old def.now rid row.now owners forests → DeletesRow P.Pages shape notes.old notes.new (room_of rooms.new) pages.old pages.new def.now row.now rid owners forests) }
+    ensures makes { OnOk result ((owners : List Kind) (forests : TableForests) → IsReadyTable P.Pages shape notes.old (room_of rooms.old) pages.old def.now owners forests
+        → (slots : List (Option Row)) → IsRowAt (spots_of P.Pages shape pages.old def.now owners forests) rid row.now slots
+        → MakesChanges shape (pages_of P.Pages pages.old) (taking_changes def.now row.now rid (count_rows slots)) (pages_of P.Pages pages.new)) }
+    ensures seen { OnOk result (IsTrue (P.state pages.old).is_told → IsMapApart P.Pages shape pages.old def.now rid.block → SeesSomeRow (SeesUsedSlot P.Pages shape pages.old def.now rid)) }
+    ensures stay { (owners : List Kind) (forests : TableForests) → IsReadyTable P.Pages shape notes.old (room_of rooms.old) pages.old def.now owners forests → KeepsBlocksBut P.Pages shape pages.old pages.new def.now owners (λ block. block ≡ rid.block) }
+    ensures sound { OnOk result ((owners : List Kind) (forests : TableForests) → IsReadyTable P.Pages shape notes.old (room_of rooms.old) pages.old def.now owners forests
+        → HasThisRow P.Pages shape pages.old def.now rid row.now owners forests
+        → IsSoundBetweenChanges shape def.now (pages_of P.Pages pages.old) → IsSoundBetweenChanges shape def.now (pages_of P.Pages pages.new)) }
+    ensures stands_for { OnOk result ((owners : List Kind) (forests : TableForests) → IsReadyTable P.Pages shape notes.old (room_of rooms.old) pages.old def.now owners forests
+        → HasThisRow P.Pages shape pages.old def.now rid row.now owners forests → IsSoundBetweenChanges shape def.now (pages_of P.Pages pages.old)
+        → (db : Database) → PagesStandFor shape (with_table_page def.now (pages_of P.Pages pages.old)) db
+        → PagesStandFor shape (with_table_page def.now (pages_of P.Pages pages.new)) (changed_at db def.now.number (without_row row.now.number))) }
     ensures count { length (P.state pages.new).work ≡ length (P.state pages.old).work }
-    ensures shape { IsSameShape ext.old ext.new }
-    ensures runs { RunsOverPages P.Pages (IsTableOrMapPage P.Pages ext.old pages.old def.now) (IsTableOrMapPage P.Pages ext.old pages.old def.now)
-        (BreaksExpected P.Pages ext.old pages.old def.now (HasThisRow P.Pages ext.old pages.old def.now rid row.now)) pages.old pages.new (fault_of result) }
+    ensures runs { RunsOverPages P.Pages (IsTableOrMapPage P.Pages shape pages.old def.now) (IsTableOrMapPage P.Pages shape pages.old def.now)
+        (BreaksExpected P.Pages shape pages.old def.now (HasThisRow P.Pages shape pages.old def.now rid row.now)) pages.old pages.new (fault_of result) }
 {
-    take_row(alloc, def, ext, rooms, pages, rid, row)
+    take_row(alloc, def, shape, notes, rooms, pages, rid, row)
 }

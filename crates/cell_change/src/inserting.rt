@@ -3,7 +3,6 @@ ghost use Rattle.std.specs.Prelude.{◌≡◌, ◌+◌, ◌<◌, ◌^◌, [], �
 ghost use Rattle.store_api.specs.Causes.{store_fault_in};
 ghost use Rattle.store_api.specs.RunsOverPages.{RunsOverPages};
 ghost use Rattle.extent_map.specs.Damages.{IfFull, store_part_of};
-ghost use Rattle.extent_map.specs.Owners.{IsSameShape};
 ghost use Rattle.extent_map.specs.declared.kind.Kind.{Kind};
 ghost use Rattle.mdc_ast.specs.Database.{Database, changed_at, appended};
 ghost use Rattle.mdc_ast.specs.TableLimits.{IsTableDef};
@@ -17,21 +16,22 @@ ghost use Rattle.mdc_sound.specs.StandsForDatabase.{PagesStandFor};
 ghost use Rattle.free_space.specs.RoomNotes.{room_of};
 ghost use Rattle.cell_change.specs.RowChanges.{InsertsRow};
 
-use extent_map::{Extents, SpaceFault};
+use extent_map::{SpaceFault, SpaceNotes};
 use mdc_ast::{Row, TableDef};
 use mdc_table::{Rooms, place_row};
 use mdc_values::Rid;
 use std::alloc::Global;
-use store_api::Pages;
+use store_api::{Pages, Shape};
 
 /// Inserts a row that fits the definition and whose number is the table's next one, which it raises, and answers where the row
 /// lies. It claims no more pages than the row asks for. `Full` says that an INSERT of the row runs full: no Used block of its
 /// cell has room, and what it needs asks for more extents than are free. After a fault the definition is as it was, `undo` goes
-/// back to a mark, and the notes of the extents and of the rooms are to be forgotten.
+/// back to a mark, and the notes of free space and of the rooms are to be forgotten.
 pub fn insert_row<P: Pages>(
     alloc: Global,
     def: &mut TableDef,
-    ext: &mut Extents,
+    shape: Shape,
+    notes: &mut SpaceNotes,
     rooms: &mut Rooms,
     pages: &mut P,
     row: &Row,
@@ -42,25 +42,24 @@ pub fn insert_row<P: Pages>(
     requires number { row.now.number ≡ def.old.next }
     requires more { def.old.next + 1 < 2 ^ 64 }
     requires going { (P.state pages.old).ended ≡ false }
-    ensures inserts { IfOk result (λ rid. (owners : List Kind) (forests : TableForests) → IsReadyTable P.Pages ext.old (room_of rooms.old) pages.old def.old owners forests
-        → InsertsRow P.Pages ext.old ext.new (room_of rooms.new) pages.old pages.new def.old row.now rid owners forests) }
-    ensures makes { IfOk result (λ rid. (owners : List Kind) (forests : TableForests) → IsReadyTable P.Pages ext.old (room_of rooms.old) pages.old def.old owners forests
-        → MakesChanges ext.old (pages_of P.Pages pages.old) (putting_changes def.old row.now rid (slice_index_or (spots_of P.Pages ext.old pages.old def.old owners forests) rid.block OtherBlock)) (pages_of P.Pages pages.new)) }
-    ensures stay { IfOk result (λ rid. (owners : List Kind) (forests : TableForests) → IsReadyTable P.Pages ext.old (room_of rooms.old) pages.old def.old owners forests → KeepsBlocksBut P.Pages ext.old pages.old pages.new def.old owners (λ block. block ≡ rid.block)) }
-    ensures sound { OnOk result ((owners : List Kind) (forests : TableForests) → IsReadyTable P.Pages ext.old (room_of rooms.old) pages.old def.old owners forests
-        → IsSoundBetweenChanges ext.old def.old (pages_of P.Pages pages.old) → IsSoundBetweenChanges ext.new def.new (pages_of P.Pages pages.new)) }
-    ensures stands_for { OnOk result ((owners : List Kind) (forests : TableForests) → IsReadyTable P.Pages ext.old (room_of rooms.old) pages.old def.old owners forests
-        → IsSoundBetweenChanges ext.old def.old (pages_of P.Pages pages.old) → (db : Database) → PagesStandFor ext.old (with_table_page def.old (pages_of P.Pages pages.old)) db
-        → PagesStandFor ext.new (with_table_page def.new (pages_of P.Pages pages.new)) (changed_at db def.old.number (appended (row.now.values ∷ [])))) }
+    ensures inserts { IfOk result (λ rid. (owners : List Kind) (forests : TableForests) → IsReadyTable P.Pages shape notes.old (room_of rooms.old) pages.old def.old owners forests
+        → InsertsRow P.Pages shape notes.old notes.new (room_of rooms.new) pages.old pages.new def.old row.now rid owners forests) }
+    ensures makes { IfOk result (λ rid. (owners : List Kind) (forests : TableForests) → IsReadyTable P.Pages shape notes.old (room_of rooms.old) pages.old def.old owners forests
+        → MakesChanges shape (pages_of P.Pages pages.old) (putting_changes def.old row.now rid (slice_index_or (spots_of P.Pages shape pages.old def.old owners forests) rid.block OtherBlock)) (pages_of P.Pages pages.new)) }
+    ensures stay { IfOk result (λ rid. (owners : List Kind) (forests : TableForests) → IsReadyTable P.Pages shape notes.old (room_of rooms.old) pages.old def.old owners forests → KeepsBlocksBut P.Pages shape pages.old pages.new def.old owners (λ block. block ≡ rid.block)) }
+    ensures sound { OnOk result ((owners : List Kind) (forests : TableForests) → IsReadyTable P.Pages shape notes.old (room_of rooms.old) pages.old def.old owners forests
+        → IsSoundBetweenChanges shape def.old (pages_of P.Pages pages.old) → IsSoundBetweenChanges shape def.new (pages_of P.Pages pages.new)) }
+    ensures stands_for { OnOk result ((owners : List Kind) (forests : TableForests) → IsReadyTable P.Pages shape notes.old (room_of rooms.old) pages.old def.old owners forests
+        → IsSoundBetweenChanges shape def.old (pages_of P.Pages pages.old) → (db : Database) → PagesStandFor shape (with_table_page def.old (pages_of P.Pages pages.old)) db
+        → PagesStandFor shape (with_table_page def.new (pages_of P.Pages pages.new)) (changed_at db def.old.number (appended (row.now.values ∷ [])))) }
     ensures next { OnOk result (def.new ≡ record def.old { next = def.old.next + 1 }) }
     ensures kept { OnErr result (def.new ≡ def.old) }
-    ensures full { IfErr result (λ fault. IfFull fault (λ cap. (cap ≡ ext.old.cap) × ((owners : List Kind) (forests : TableForests) → IsReadyTable P.Pages ext.old (room_of rooms.old) pages.old def.old owners forests
-        → InsertRunsFull ext.old (pages_of P.Pages pages.old) def.old (row.now ∷ [])))) }
-    ensures shape { IsSameShape ext.old ext.new }
-    ensures runs { RunsOverPages P.Pages (IsTableSpace P.Pages ext.old pages.old def.old) (IsTableSpace P.Pages ext.old pages.old def.old)
-        (BreaksTable P.Pages ext.old pages.old def.old) pages.old pages.new (store_fault_in store_part_of result) }
+    ensures full { IfErr result (λ fault. IfFull fault (λ cap. (cap ≡ shape.extents) × ((owners : List Kind) (forests : TableForests) → IsReadyTable P.Pages shape notes.old (room_of rooms.old) pages.old def.old owners forests
+        → InsertRunsFull shape (pages_of P.Pages pages.old) def.old (row.now ∷ [])))) }
+    ensures runs { RunsOverPages P.Pages (IsTableSpace P.Pages shape pages.old def.old) (IsTableSpace P.Pages shape pages.old def.old)
+        (BreaksTable P.Pages shape pages.old def.old) pages.old pages.new (store_fault_in store_part_of result) }
 {
-    let rid = place_row(alloc, def, ext, rooms, pages, row)?;
+    let rid = place_row(alloc, def, shape, notes, rooms, pages, row)?;
     def.next += 1;
     Ok(rid)
 }

@@ -5,7 +5,7 @@ ghost use Rattle.mdc_ast.specs.FittingRows.{RowFits};
 
 use crate::fitting::does_fit;
 use crate::rows::{is_same_row, row_of};
-use crate::tables::{Shape, Table};
+use crate::tables::{Table, TableKind};
 use crate::wrong::Wrong;
 use cell_change::{change_row, delete_row, insert_row};
 use extent_map::SpaceFault;
@@ -27,7 +27,7 @@ pub struct Held {
 // The row of a number and a seed, which fits the definition.
 fn fitting_row(
     alloc: Global,
-    shape: Shape,
+    kind: TableKind,
     def: &TableDef,
     number: u64,
     seed: u64,
@@ -35,7 +35,7 @@ fn fitting_row(
     ensures number { IfOk result (λ row. row.number ≡ number) }
     ensures fits { IfOk result (RowFits def.now) }
 {
-    let row = row_of(alloc, shape, number, seed)?;
+    let row = row_of(alloc, kind, number, seed)?;
     if !does_fit(def, &row) {
         return Err(Fail::new("a row that doesn't fit"));
     }
@@ -58,16 +58,17 @@ pub fn try_insert<P: Pages>(
     ensures marked { (P.state pages.new).marked ≡ (P.state pages.old).marked }
 {
     let Table {
-        shape,
+        kind,
         def,
-        ext,
+        shape,
+        notes,
         rooms,
     } = table;
     if def.next == u64::MAX {
         return Err(Fail::new("no number is left"));
     }
-    let row = fitting_row(alloc, *shape, def, def.next, seed)?;
-    Ok(insert_row(alloc, def, ext, rooms, pages, &row))
+    let row = fitting_row(alloc, *kind, def, def.next, seed)?;
+    Ok(insert_row(alloc, def, *shape, notes, rooms, pages, &row))
 }
 
 /// Inserts the next row.
@@ -131,13 +132,14 @@ pub fn delete<P: Pages>(
     ensures going { (P.state pages.new).ended ≡ false }
 {
     let Table {
-        shape,
+        kind,
         def,
-        ext,
+        shape,
+        notes,
         rooms,
     } = table;
-    let row = fitting_row(alloc, *shape, def, held.number, held.seed)?;
-    delete_row(alloc, def, ext, rooms, pages, held.rid, &row)?;
+    let row = fitting_row(alloc, *kind, def, held.number, held.seed)?;
+    delete_row(alloc, def, *shape, notes, rooms, pages, held.rid, &row)?;
     Ok(())
 }
 
@@ -157,14 +159,17 @@ pub fn change<P: Pages>(
     ensures going { (P.state pages.new).ended ≡ false }
 {
     let Table {
-        shape,
+        kind,
         def,
-        ext,
+        shape,
+        notes,
         rooms,
     } = table;
-    let was = fitting_row(alloc, *shape, def, held.number, held.seed)?;
-    let is = fitting_row(alloc, *shape, def, held.number, seed)?;
-    let rid = change_row(alloc, def, ext, rooms, pages, None, held.rid, &was, &is)?;
+    let was = fitting_row(alloc, *kind, def, held.number, held.seed)?;
+    let is = fitting_row(alloc, *kind, def, held.number, seed)?;
+    let rid = change_row(
+        alloc, def, *shape, notes, rooms, pages, None, held.rid, &was, &is,
+    )?;
     Ok(Held {
         rid,
         number: held.number,
@@ -195,7 +200,7 @@ pub fn blocks_of<P: Pages>(alloc: Global, table: &Table, pages: &mut P) -> Resul
     requires going { (P.state pages.old).ended ≡ false }
     ensures going { (P.state pages.new).ended ≡ false }
 {
-    Ok(account_of(alloc, &table.def, &table.ext, pages)?)
+    Ok(account_of(alloc, &table.def, table.shape, pages)?)
 }
 
 /// Fails where the table has another number of blocks in a state.
@@ -226,8 +231,8 @@ pub fn looked_at<P: Pages>(
     requires going { (P.state pages.old).ended ≡ false }
     ensures going { (P.state pages.new).ended ≡ false }
 {
-    let row = row_of(alloc, table.shape, held.number, held.seed)?;
-    match row_at(alloc, &table.def, &table.ext, pages, held.rid)? {
+    let row = row_of(alloc, table.kind, held.number, held.seed)?;
+    match row_at(alloc, &table.def, table.shape, pages, held.rid)? {
         Some(found) => Ok((is_same_row(&found, &row), false)),
         None => Ok((false, true)),
     }

@@ -24,7 +24,7 @@ ghost use Rattle.mdc_ast.specs.TableLimits.{IsTableDef};
 
 use crate::changes::{insert, try_insert};
 use crate::stores::{fresh_store, store_with_map};
-use crate::tables::{Shape, Table, table_of};
+use crate::tables::{Table, TableKind, table_of};
 use crate::wrong::Wrong;
 use entry_tree_tests::extents_of;
 use extent_map::SpaceFault;
@@ -149,7 +149,8 @@ fn try_claim<P: Pages>(
     ensures going { (P.state pages.new).ended ≡ false }
     ensures unmarked { OnOk result ((P.state pages.new).marked ≡ None) }
 {
-    table.ext = extents_of(claim.extents)?;
+    table.shape = extents_of(claim.extents)?;
+    table.notes.forget();
     let before = all_pages(alloc, pages)?;
     check_claim(alloc, table, pages, before.as_slice(), claim)
 }
@@ -202,7 +203,7 @@ fn run_claims<P: Pages>(
     let Some(first) = claims.first() else {
         return Err(Fail::new("nothing to try"));
     };
-    let mut table = table_of(alloc, Shape::Narrow, first.extents, pages)?;
+    let mut table = table_of(alloc, TableKind::Narrow, first.extents, pages)?;
     fill_and_try(alloc, &mut table, pages, rows, claims)
 }
 

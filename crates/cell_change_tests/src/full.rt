@@ -4,7 +4,7 @@ ghost use Rattle.mdc_ast.specs.TableLimits.{IsTableDef};
 
 use crate::changes::{Held, check_blocks, delete, insert, insert_as, try_insert};
 use crate::stores::fresh_store;
-use crate::tables::{Shape, Table, table_of};
+use crate::tables::{Table, TableKind, table_of};
 use extent_map::SpaceFault;
 use mdc_table::Account;
 use mdc_values::Rid;
@@ -68,7 +68,7 @@ fn insert_and_undo<P: Pages>(alloc: Global, table: &mut Table, pages: &mut P) ->
     pages.mark();
     let answer = try_insert(alloc, table, pages, LAST.seed)?;
     pages.undo();
-    table.ext.forget();
+    table.notes.forget();
     table.rooms.forget();
     if answer != Err(SpaceFault::Full(EXTENTS)) {
         return Err(Fail::new("a file that isn't full"));
@@ -105,7 +105,7 @@ fn run_full<P: Pages>(alloc: Global, pages: &mut P) -> Result<(), Fail>
     requires going { (P.state pages.old).ended ≡ false }
     requires unmarked { (P.state pages.old).marked ≡ None }
 {
-    let mut table = table_of(alloc, Shape::Wide, EXTENTS, pages)?;
+    let mut table = table_of(alloc, TableKind::Wide, EXTENTS, pages)?;
     fill_and_retry(alloc, &mut table, pages)
 }
 

@@ -8,7 +8,7 @@ use crate::plain_list::{PlainList, any_row, no_rows, put_last, row_in, take_out}
 use crate::plain_pages::stand_for_list;
 use crate::rows::{cell_of, is_same_row, row_of, seed_of};
 use crate::stores::fresh_store;
-use crate::tables::{Shape, Table, table_of};
+use crate::tables::{Table, TableKind, table_of};
 use mdc_table::{Hit, rows_of_used_block, used_blocks};
 use std::alloc::Global;
 use std::test::Fail;
@@ -41,7 +41,7 @@ fn change_one<P: Pages>(
     ensures no_indexes { table.new.def.indexes ≡ [] }
     ensures going { (P.state pages.new).ended ≡ false }
 {
-    let seed = seed_of(table.shape, any / 64);
+    let seed = seed_of(table.kind, any / 64);
     let place = any_row(list, any / 4);
     let Some(place) = place else {
         return put_last(list, insert(alloc, table, pages, seed)?);
@@ -94,7 +94,7 @@ fn move_one<P: Pages>(
 {
     let was = take_out(list, place)?;
     let is = change(alloc, table, pages, was, seed)?;
-    if cell_of(table.shape, was.seed) != cell_of(table.shape, seed) {
+    if cell_of(table.kind, was.seed) != cell_of(table.kind, seed) {
         return put_last(list, is);
     }
     if is.rid != was.rid {
@@ -107,25 +107,25 @@ fn move_one<P: Pages>(
 // The cell of a row that was read, or None where it isn't the row that the list has in its place.
 fn cell_of_hit(
     alloc: Global,
-    shape: Shape,
+    kind: TableKind,
     list: &PlainList,
     hit: &Hit,
 ) -> Result<Option<u64>, Fail> {
     let Some(held) = row_in(list, hit.rid) else {
         return Ok(None);
     };
-    let row = row_of(alloc, shape, held.number, held.seed)?;
+    let row = row_of(alloc, kind, held.number, held.seed)?;
     if !is_same_row(&hit.row, &row) {
         return Ok(None);
     }
-    Ok(Some(cell_of(shape, held.seed)))
+    Ok(Some(cell_of(kind, held.seed)))
 }
 
 // Whether the rows of a block are those of the list, and of one cell.
-fn are_right(alloc: Global, shape: Shape, list: &PlainList, hits: &[Hit]) -> Result<bool, Fail> {
+fn are_right(alloc: Global, kind: TableKind, list: &PlainList, hits: &[Hit]) -> Result<bool, Fail> {
     let mut cell = None;
     for hit in hits {
-        let its = cell_of_hit(alloc, shape, list, hit)?;
+        let its = cell_of_hit(alloc, kind, list, hit)?;
         if its.is_none() || (cell.is_some() && cell != its) {
             return Ok(false);
         }
@@ -145,13 +145,18 @@ fn rows_of<P: Pages>(
     requires going { (P.state pages.old).ended ≡ false }
     ensures going { (P.state pages.new).ended ≡ false }
 {
-    let (def, ext) = (&table.def, &table.ext);
-    Ok(rows_of_used_block(alloc, def, ext, pages, block)?)
+    let (def, shape) = (&table.def, table.shape);
+    Ok(rows_of_used_block(alloc, def, shape, pages, block)?)
 }
 
 // How many rows there are of these, which are those of the list, at least one, and of one cell.
-fn count_right(alloc: Global, shape: Shape, list: &PlainList, hits: &[Hit]) -> Result<usize, Fail> {
-    if hits.len() == 0 || !are_right(alloc, shape, list, hits)? {
+fn count_right(
+    alloc: Global,
+    kind: TableKind,
+    list: &PlainList,
+    hits: &[Hit],
+) -> Result<usize, Fail> {
+    if hits.len() == 0 || !are_right(alloc, kind, list, hits)? {
         return Err(Fail::new("other rows"));
     }
     Ok(hits.len())
@@ -169,11 +174,11 @@ fn rows_in<P: Pages>(
     requires going { (P.state pages.old).ended ≡ false }
     ensures going { (P.state pages.new).ended ≡ false }
 {
-    if block >= table.ext.cap {
+    if block >= table.shape.extents {
         return Err(Fail::new("a block that there isn't"));
     }
     let hits = rows_of(alloc, table, pages, block)?;
-    count_right(alloc, table.shape, list, hits.as_slice())
+    count_right(alloc, table.kind, list, hits.as_slice())
 }
 
 // How many rows these blocks have.
@@ -206,7 +211,7 @@ fn look_at_blocks<P: Pages>(
     requires going { (P.state pages.old).ended ≡ false }
     ensures going { (P.state pages.new).ended ≡ false }
 {
-    let blocks = used_blocks(alloc, &table.def, &table.ext, pages)?;
+    let blocks = used_blocks(alloc, &table.def, table.shape, pages)?;
     let rows = rows_in_all(alloc, table, pages, list, blocks.as_slice())?;
     Ok((blocks.len(), rows))
 }
@@ -273,25 +278,35 @@ fn change_and_check<P: Pages>(
 }
 
 // The same of an empty table. Answers how many rows there are at last.
-fn run<P: Pages>(alloc: Global, shape: Shape, pages: &mut P, rounds: u32) -> Result<usize, Fail>
+fn run<P: Pages>(alloc: Global, kind: TableKind, pages: &mut P, rounds: u32) -> Result<usize, Fail>
     requires going { (P.state pages.old).ended ≡ false }
 {
-    let mut table = table_of(alloc, shape, EXTENTS, pages)?;
-    let mut list = no_rows(alloc, shape);
+    let mut table = table_of(alloc, kind, EXTENTS, pages)?;
+    let mut list = no_rows(alloc, kind);
     change_and_check(alloc, &mut table, pages, &mut list, rounds)?;
     Ok(list.rows.len())
 }
 
 #[test]
 fn rows_of_many_cells_are_those_of_a_list(rt: HostRuntime) -> Result<(), Fail> {
-    let many = run(rt.alloc(), Shape::Mixed, &mut fresh_store(rt.alloc())?, 40)?;
+    let many = run(
+        rt.alloc(),
+        TableKind::Mixed,
+        &mut fresh_store(rt.alloc())?,
+        40,
+    )?;
     assert!(rt; many > 18);
     Ok(())
 }
 
 #[test]
 fn rows_of_full_blocks_are_those_of_a_list(rt: HostRuntime) -> Result<(), Fail> {
-    let many = run(rt.alloc(), Shape::Wide, &mut fresh_store(rt.alloc())?, 40)?;
+    let many = run(
+        rt.alloc(),
+        TableKind::Wide,
+        &mut fresh_store(rt.alloc())?,
+        40,
+    )?;
     assert!(rt; many > 40);
     Ok(())
 }

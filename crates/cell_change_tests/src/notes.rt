@@ -4,7 +4,7 @@ ghost use Rattle.mdc_ast.specs.TableLimits.{IsTableDef};
 
 use crate::changes::{Held, delete, held_at, insert};
 use crate::stores::fresh_store;
-use crate::tables::{Shape, Table, table_of};
+use crate::tables::{Table, TableKind, table_of};
 use mdc_values::Rid;
 use std::alloc::Global;
 use std::test::Fail;
@@ -99,7 +99,7 @@ fn put_in_new<P: Pages>(
 ) -> Result<(), Fail>
     requires going { (P.state pages.old).ended ≡ false }
 {
-    let mut table = table_of(alloc, Shape::Wide, 16, pages)?;
+    let mut table = table_of(alloc, TableKind::Wide, 16, pages)?;
     put_and_take(alloc, &mut table, pages, all, forgets)
 }
 

@@ -4,7 +4,7 @@ ghost use Rattle.mdc_ast.specs.TableLimits.{IsTableDef};
 
 use crate::changes::{Held, change_to, check_blocks, check_place, delete, insert_as};
 use crate::stores::fresh_store;
-use crate::tables::{Shape, Table, table_of};
+use crate::tables::{Table, TableKind, table_of};
 use mdc_table::Account;
 use mdc_values::Rid;
 use std::alloc::Global;
@@ -87,7 +87,7 @@ fn play_all<P: Pages>(
 fn run_steps<P: Pages>(alloc: Global, pages: &mut P, steps: &[Step]) -> Result<(), Fail>
     requires going { (P.state pages.old).ended ≡ false }
 {
-    let mut table = table_of(alloc, Shape::Wide, 16, pages)?;
+    let mut table = table_of(alloc, TableKind::Wide, 16, pages)?;
     play_all(alloc, &mut table, pages, steps)
 }
 

@@ -1,7 +1,7 @@
 // A plain list of the rows that should be in a table, and where placing says that the next one goes.
 use crate::changes::Held;
 use crate::rows::{cell_of, slots_of};
-use crate::tables::Shape;
+use crate::tables::TableKind;
 use mdc_values::Rid;
 use std::alloc::Global;
 use std::test::Fail;
@@ -9,15 +9,15 @@ use std::test::Fail;
 /// The rows that should be in a table, and all blocks that it has had, which rise. None is ever given back.
 #[derive(Drop)]
 pub struct PlainList {
-    pub shape: Shape,
+    pub kind: TableKind,
     pub rows: Vec<Held>,
     blocks: Vec<u32>,
 }
 
 /// A list without rows.
-pub fn no_rows(alloc: Global, shape: Shape) -> PlainList {
+pub fn no_rows(alloc: Global, kind: TableKind) -> PlainList {
     PlainList {
-        shape,
+        kind,
         rows: Vec::new(alloc),
         blocks: Vec::new(alloc),
     }
@@ -65,7 +65,7 @@ fn note_block(list: &mut PlainList, rid: Rid) -> Result<(), Fail> {
 
 // Where a row of a seed goes, or None where it takes a block that the table hasn't had.
 fn place_for(list: &PlainList, seed: u64) -> Option<Rid> {
-    let cell = cell_of(list.shape, seed);
+    let cell = cell_of(list.kind, seed);
     for block in &list.blocks {
         if has_cell(list, *block, cell)
             && let Some(slot) = empty_slot(list, *block)
@@ -90,7 +90,7 @@ fn place_for(list: &PlainList, seed: u64) -> Option<Rid> {
 // Whether a row of a block is of a cell.
 fn has_cell(list: &PlainList, block: u32, cell: u64) -> bool {
     for held in &list.rows {
-        if held.rid.block == block && cell_of(list.shape, held.seed) == cell {
+        if held.rid.block == block && cell_of(list.kind, held.seed) == cell {
             return true;
         }
     }
@@ -99,7 +99,7 @@ fn has_cell(list: &PlainList, block: u32, cell: u64) -> bool {
 
 // The lowest slot of a block in which no row lies.
 fn empty_slot(list: &PlainList, block: u32) -> Option<u16> {
-    for slot in 0..slots_of(list.shape) {
+    for slot in 0..slots_of(list.kind) {
         let rid = Rid { block, slot };
         if !list.rows.iter().any(|held| held.rid == rid) {
             return Some(slot);

@@ -27,7 +27,7 @@ pub fn stand_for_list<P: Pages>(
     ensures going { (P.state pages.new).ended ≡ false }
 {
     write_definition(table, pages)?;
-    let tables = read_database(alloc, &table.ext, pages)?;
+    let tables = read_database(alloc, table.shape, pages)?;
     are_one_of_list(alloc, table.def.next, list, tables.as_slice())
 }
 
@@ -82,6 +82,6 @@ fn is_of_list(alloc: Global, list: &PlainList, row: &Row) -> Result<bool, Fail> 
     let Some(held) = row_numbered(list, row.number) else {
         return Ok(false);
     };
-    let wanted = row_of(alloc, list.shape, held.number, held.seed)?;
+    let wanted = row_of(alloc, list.kind, held.number, held.seed)?;
     Ok(is_same_row(row, &wanted))
 }

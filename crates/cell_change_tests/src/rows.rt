@@ -1,7 +1,7 @@
 // The rows of these tests, each told by its number in the table and by a seed.
 ghost use Rattle.std.specs.Prelude.{◌≡◌, IfOk};
 
-use crate::tables::Shape;
+use crate::tables::TableKind;
 use mdc_ast::Row;
 use mdc_values::{Chars, List, Memory, Value};
 use std::alloc::Global;
@@ -19,40 +19,40 @@ const MIXED_CELLS: u64 = 18;
 const NARROW_CELLS: u64 = 1_000;
 
 /// The number of the cell that the row of a seed is of.
-pub fn cell_of(shape: Shape, seed: u64) -> u64 {
-    match shape {
-        Shape::Wide => seed % WIDE_CELLS,
-        Shape::Mixed => seed % MIXED_CELLS,
-        Shape::Narrow => seed % NARROW_CELLS,
+pub fn cell_of(kind: TableKind, seed: u64) -> u64 {
+    match kind {
+        TableKind::Wide => seed % WIDE_CELLS,
+        TableKind::Mixed => seed % MIXED_CELLS,
+        TableKind::Narrow => seed % NARROW_CELLS,
     }
 }
 
 /// A seed for any number: of four cells in the wide table, and of all in the others.
-pub fn seed_of(shape: Shape, any: u64) -> u64 {
-    match shape {
-        Shape::Wide => any % 4 + WIDE_CELLS * (any / 4 % 26),
-        Shape::Mixed => any % (MIXED_CELLS * 30),
-        Shape::Narrow => any % NARROW_CELLS,
+pub fn seed_of(kind: TableKind, any: u64) -> u64 {
+    match kind {
+        TableKind::Wide => any % 4 + WIDE_CELLS * (any / 4 % 26),
+        TableKind::Mixed => any % (MIXED_CELLS * 30),
+        TableKind::Narrow => any % NARROW_CELLS,
     }
 }
 
 /// How many rows a block of the table has.
-pub fn slots_of(shape: Shape) -> u16 {
-    match shape {
-        Shape::Wide => 10,
-        Shape::Mixed => 192,
-        Shape::Narrow => 450,
+pub fn slots_of(kind: TableKind) -> u16 {
+    match kind {
+        TableKind::Wide => 10,
+        TableKind::Mixed => 192,
+        TableKind::Narrow => 450,
     }
 }
 
 /// The row of a number and a seed.
-pub fn row_of(alloc: Global, shape: Shape, number: u64, seed: u64) -> Result<Row, Memory>
+pub fn row_of(alloc: Global, kind: TableKind, number: u64, seed: u64) -> Result<Row, Memory>
     ensures number { IfOk result (λ row. row.number ≡ number) }
 {
-    let values = match shape {
-        Shape::Wide => wide_values(alloc, number, seed)?,
-        Shape::Mixed => mixed_values(alloc, number, seed)?,
-        Shape::Narrow => narrow_values(alloc, seed)?,
+    let values = match kind {
+        TableKind::Wide => wide_values(alloc, number, seed)?,
+        TableKind::Mixed => mixed_values(alloc, number, seed)?,
+        TableKind::Narrow => narrow_values(alloc, seed)?,
     };
     Ok(Row { number, values })
 }

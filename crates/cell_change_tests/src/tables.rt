@@ -4,17 +4,17 @@ ghost use Rattle.mdc_ast.specs.TableLimits.{IsTableDef};
 
 use entry_tree::Tree;
 use entry_tree_tests::extents_of;
-use extent_map::Extents;
+use extent_map::SpaceNotes;
 use mdc_ast::TableDef;
 use mdc_table::Rooms;
 use std::alloc::Global;
 use std::test::Fail;
-use store_api::{Page, Pages, blank_page, put};
+use store_api::{Page, Pages, Shape, blank_page, put};
 use table_page::def_of;
 
 /// Which table.
 #[derive(Clone, Copy)]
-pub enum Shape {
+pub enum TableKind {
     /// `W (D INTEGER, K INTEGER, X CHAR(254), Y CHAR(254), Z CHAR(254))` by D. A row has 780 bytes, so a block has 10.
     Wide,
     /// `W (K INTEGER NOT NULL, D INTEGER, R INTEGER, V BIGINT, T CHAR(8), S DATE)` by D and (R, T). A row has 42 bytes, so a
@@ -27,17 +27,18 @@ pub enum Shape {
 /// A table that is changed, and the notes that go with it.
 #[derive(Drop)]
 pub struct Table {
-    pub shape: Shape,
+    pub kind: TableKind,
     pub def: TableDef,
-    pub ext: Extents,
+    pub shape: Shape,
+    pub notes: SpaceNotes,
     pub rooms: Rooms,
 }
 
 /// An empty table in a database of so many extents of two pages.
 pub fn table_of<P: Pages>(
     alloc: Global,
-    shape: Shape,
-    cap: u32,
+    kind: TableKind,
+    extents: u32,
     pages: &mut P,
 ) -> Result<Table, Fail>
     requires going { (P.state pages.old).ended ≡ false }
@@ -46,50 +47,53 @@ pub fn table_of<P: Pages>(
     ensures going { (P.state pages.new).ended ≡ false }
     ensures marked { (P.state pages.new).marked ≡ (P.state pages.old).marked }
 {
-    let mut ext = extents_of(cap)?;
-    let page = page_of(alloc, shape, &mut ext, pages)?;
+    let shape = extents_of(extents)?;
+    let mut notes = SpaceNotes::new();
+    let page = page_of(alloc, kind, shape, &mut notes, pages)?;
     Ok(Table {
-        shape,
+        kind,
         def: definition_on(alloc, &page)?,
-        ext,
+        shape,
+        notes,
         rooms: Rooms::new(alloc),
     })
 }
 
 // How wide the entries of the index of all dimensions are.
-fn width_of_all(shape: Shape) -> u16
+fn width_of_all(kind: TableKind) -> u16
     ensures wide { 5 ≤ result }
     ensures narrow { result ≤ 134 }
 {
-    match shape {
-        Shape::Wide => 9,
-        Shape::Mixed => 23,
-        Shape::Narrow => 14,
+    match kind {
+        TableKind::Wide => 9,
+        TableKind::Mixed => 23,
+        TableKind::Narrow => 14,
     }
 }
 
 // Makes the trees of a table, and its page.
 fn page_of<P: Pages>(
     alloc: Global,
+    kind: TableKind,
     shape: Shape,
-    ext: &mut Extents,
+    notes: &mut SpaceNotes,
     pages: &mut P,
 ) -> Result<Page, Fail>
     requires going { (P.state pages.old).ended ≡ false }
     ensures going { (P.state pages.new).ended ≡ false }
     ensures marked { (P.state pages.new).marked ≡ (P.state pages.old).marked }
 {
-    let map = root_of(alloc, 7, ext, pages)?;
-    let all = root_of(alloc, width_of_all(shape), ext, pages)?;
-    let by_d = root_of(alloc, 9, ext, pages)?;
-    match shape {
-        Shape::Wide => Ok(wide_page(map, all, by_d)),
-        Shape::Mixed => {
-            let by_rt = root_of(alloc, 18, ext, pages)?;
+    let map = root_of(alloc, 7, shape, notes, pages)?;
+    let all = root_of(alloc, width_of_all(kind), shape, notes, pages)?;
+    let by_d = root_of(alloc, 9, shape, notes, pages)?;
+    match kind {
+        TableKind::Wide => Ok(wide_page(map, all, by_d)),
+        TableKind::Mixed => {
+            let by_rt = root_of(alloc, 18, shape, notes, pages)?;
             Ok(mixed_page(map, all, by_d, by_rt))
         }
-        Shape::Narrow => {
-            let by_s = root_of(alloc, 9, ext, pages)?;
+        TableKind::Narrow => {
+            let by_s = root_of(alloc, 9, shape, notes, pages)?;
             Ok(narrow_page(map, all, by_d, by_s))
         }
     }
@@ -99,7 +103,8 @@ fn page_of<P: Pages>(
 fn root_of<P: Pages>(
     alloc: Global,
     width: u16,
-    ext: &mut Extents,
+    shape: Shape,
+    notes: &mut SpaceNotes,
     pages: &mut P,
 ) -> Result<u32, Fail>
     requires wide { 5 ≤ width }
@@ -108,7 +113,7 @@ fn root_of<P: Pages>(
     ensures going { (P.state pages.new).ended ≡ false }
     ensures marked { (P.state pages.new).marked ≡ (P.state pages.old).marked }
 {
-    Ok(Tree::make(alloc, ext, pages, width)?.root)
+    Ok(Tree::make(alloc, shape, notes, pages, width)?.root)
 }
 
 // The definition on a page of the table 0, which has no indexes.

@@ -1,6 +1,6 @@
 -- Damage that is exact by the definition in hand: a table stands on pages that are sound with its definition in the place of its
 -- table page, so that damage was met only where they aren't.
-use Rattle.std.proofs.Common.{◌≡◌, ◌<◌, ◌+◌, ◌∙◌, ℕ, List, [], Option, Some, None, Result, OnOk, arith, length, subst, sym, get_or-set_same}
+use Rattle.std.proofs.Common.{◌≡◌, ◌<◌, ◌+◌, ◌∙◌, ℕ, List, [], Option, Some, None, Result, OnOk, arith, length, subst, get_or-set_same}
 use Rattle.std.specs.Prelude.{IsTrue}
 use Rattle.mdc_ast.specs.declared.definition.TableDef.{TableDef}
 use Rattle.mdc_ast.specs.declared.row.Row.{Row}
@@ -9,9 +9,8 @@ use Rattle.store_api.specs.declared.fault.Damage.{Damage}
 use Rattle.store_api.specs.declared.fault.StoreFault.{StoreFault}
 use Rattle.store_api.specs.declared.fault.StoreFault.TheVariants.{Damaged}
 use Rattle.store_api.specs.declared.pages.Pages.{Ghosts}
+use Rattle.store_api.specs.declared.shape.Shape.{Shape}
 use Rattle.extent_map.specs.Damages.{IfFull}
-use Rattle.extent_map.specs.Owners.{IsSameShape}
-use Rattle.extent_map.specs.declared.extents.Extents.{Extents}
 use Rattle.extent_map.specs.declared.fault.SpaceFault.{SpaceFault}
 use Rattle.extent_map.specs.declared.fault.SpaceFault.TheVariants.{Full, Store}
 use Rattle.extent_map.specs.declared.kind.Kind.{Kind}
@@ -25,48 +24,45 @@ use Rattle.mdc_sound.specs.SoundDatabase.{IsSoundDatabase, IsSoundWith, with_tab
 use Rattle.mdc_sound.specs.StandingTable.{StandsTable, TableForests, pages_of}
 use Rattle.mdc_sound.specs.TablePages.{DefinesTable}
 use Rattle.mdc_sound.proofs.SoundDatabaseLemmas.{length-with_table_page}
-use Rattle.mdc_sound.proofs.StandingTableLemmas.{forests_of, stands_along, stands_of_sound}
+use Rattle.mdc_sound.proofs.StandingTableLemmas.{forests_of, stands_of_sound}
 use Rattle.mdc_table.specs.NextBlock.{FindsNoPlace}
 use Rattle.stored_catalog.proofs.OpenedTableLemmas.{defined_there}
 use Rattle.stored_catalog.proofs.SavingLemmas.{saved}
-use Rattle.file_check.proofs.BreaksAlongLemmas.{first_break_along}
 use Rattle.checked_table.specs.ExactDamage.{AnswersExactly, IsUnsoundWith, JudgesFault}
 use Rattle.checked_table.specs.MissingPlaces.{LacksPlace}
 use Rattle.checked_table.specs.WholeChanges.{HasSamePages}
 use Rattle.checked_table.proofs.SamePagesLemmas.{pages_back, stands_there}
 
 -- pages that are sound with a definition in the place of its table page are sound with it in hand
-pub sound_in_hand : (ext : Extents) (def : TableDef) (pages : PageList) → IsTableDef def.number def → def.number < 16 → IsSoundDatabase ext (with_table_page def pages) → IsSoundWith ext def pages
-sound_in_hand ext def pages limits low sound =
+pub sound_in_hand : (shape : Shape) (def : TableDef) (pages : PageList) → IsTableDef def.number def → def.number < 16 → IsSoundDatabase shape (with_table_page def pages) → IsSoundWith shape def pages
+sound_in_hand shape def pages limits low sound =
     let written = with_table_page def pages in
     let there : 1 + def.number < length pages = omega (arith, low, sound.1.first.rule1.count.count, length-with_table_page def pages) in
     let defines : DefinesTable written def.number def = record { limits = limits; printed = get_or-set_same pages (1 + def.number) (table_page def) [] there } in
-    let at = defined_there ext written sound.0 def.number def sound.1 low defines in
+    let at = defined_there shape written sound.0 def.number def sound.1 low defines in
     record { view = sound.0; table = at.table; first = sound.1.first; there = at.there; same = at.same }
 
 module _ {S : Type 0} (g : Ghosts S) where
   -- where the table doesn't stand, the pages aren't sound so
-  pub unsound_with : (before ext : Extents) (old new : S) (def : TableDef) → IsTableDef def.number def → def.number < 16 → IsSameShape before ext → HasSamePages g old new
-      → ((owners : List Kind) (forests : TableForests) → StandsTable g before old def owners forests → ⊥) → IsUnsoundWith g ext def new
-  unsound_with before ext old new def limits low shape pages none told sound =
-      let in_hand = sound_in_hand ext def (pages_of g new) limits low sound in
+  pub unsound_with : (shape : Shape) (old new : S) (def : TableDef) → IsTableDef def.number def → def.number < 16 → HasSamePages g old new
+      → ((owners : List Kind) (forests : TableForests) → StandsTable g shape old def owners forests → ⊥) → IsUnsoundWith g shape def new
+  unsound_with shape old new def limits low pages none told sound =
+      let in_hand = sound_in_hand shape def (pages_of g new) limits low sound in
       let owners = in_hand.view.owners in
       let forests = forests_of in_hand.table in
-      none owners forests (stands_there (pages_back pages)
-      (stands_along ext before new def owners forests (record { cap = sym shape.cap; extent_pages = sym shape.extent_pages }) (stands_of_sound g ext new def in_hand told)))
+      none owners forests (stands_there (pages_back pages) (stands_of_sound g shape new def in_hand told))
 
   -- so what was judged is the answer to the damage that was met
-  pub answers_exactly : (before ext : Extents) (old new : S) (def : TableDef) (met answered : Option StoreFault) → IsTableDef def.number def → def.number < 16 → IsSameShape before ext → HasSamePages g old new
-      → ((first : Damage) → met ≡ Some (Damaged first) → (owners : List Kind) (forests : TableForests) → StandsTable g before old def owners forests → ⊥)
-      → JudgesFault g ext def new met answered → AnswersExactly g before def old answered
-  answers_exactly before ext old new def met answered limits low shape pages none judges damage is told =
-      subst (λ (work : PageList). IsFirstBreak before (with_table_page def work) damage.rule damage.page) pages.same
-      (first_break_along ext before (with_table_page def (pages_of g new)) damage.rule damage.page (record { cap = sym shape.cap; extent_pages = sym shape.extent_pages })
-      (judges damage is (λ first was. unsound_with before ext old new def limits low shape pages (none first was)) (pages.told ∙ told)))
+  pub answers_exactly : (shape : Shape) (old new : S) (def : TableDef) (met answered : Option StoreFault) → IsTableDef def.number def → def.number < 16 → HasSamePages g old new
+      → ((first : Damage) → met ≡ Some (Damaged first) → (owners : List Kind) (forests : TableForests) → StandsTable g shape old def owners forests → ⊥)
+      → JudgesFault g shape def new met answered → AnswersExactly g shape def old answered
+  answers_exactly shape old new def met answered limits low pages none judges damage is told =
+      subst (λ (work : PageList). IsFirstBreak shape (with_table_page def work) damage.rule damage.page) pages.same
+      (judges damage is (λ first was. unsound_with shape old new def limits low pages (none first was)) (pages.told ∙ told))
 
   -- where no fault is answered, no damage is
-  pub answers_none : (ext : Extents) (def : TableDef) (s : S) → AnswersExactly g ext def s None
-  answers_none ext def s damage is = absurd (cc)
+  pub answers_none : (shape : Shape) (def : TableDef) (s : S) → AnswersExactly g shape def s None
+  answers_none shape def s damage is = absurd (cc)
 
   -- a definition was written onto its table page
   pub written_there : (result : Result (Unit {0}) StoreFault) (def : TableDef) (p : ℕ) (bytes : List ℕ) (old new : S) → p ≡ 1 + def.number → bytes ≡ table_page def → p < length (g.state old).work
@@ -85,9 +81,9 @@ full_handed_on extents Was Is met (Full cap) so same full =
 full_handed_on extents Was Is met (Store fault) so same full = tt
 
 -- so that a row which found no place under the mark lacks one
-pub lacks_place : {S : Type 0} {g : Ghosts S} {before ext : Extents} {old marked mid : S} {def : TableDef} {row : Row} {owners : List Kind} {forests : TableForests} → HasSamePages g old marked
-    → FindsNoPlace g before ext marked mid def row owners forests → LacksPlace g before old def row owners forests
-lacks_place {before = before} {def = def} {row = row} {owners = owners} {forests = forests} first finds = record {
-  no_room = subst (λ (work : PageList). HoldsNowhere (HasRoomFor def row) (table_spots before work def owners forests.map)) first.same finds.no_room;
-  runs_full = subst (λ (work : PageList). RowRunsFull before work def (table_spots before work def owners forests.map) row) first.same finds.runs_full;
+pub lacks_place : {S : Type 0} {g : Ghosts S} {shape : Shape} {old marked mid : S} {def : TableDef} {row : Row} {owners : List Kind} {forests : TableForests} → HasSamePages g old marked
+    → FindsNoPlace g shape marked mid def row owners forests → LacksPlace g shape old def row owners forests
+lacks_place {shape = shape} {def = def} {row = row} {owners = owners} {forests = forests} first finds = record {
+  no_room = subst (λ (work : PageList). HoldsNowhere (HasRoomFor def row) (table_spots shape work def owners forests.map)) first.same finds.no_room;
+  runs_full = subst (λ (work : PageList). RowRunsFull shape work def (table_spots shape work def owners forests.map) row) first.same finds.runs_full;
 }

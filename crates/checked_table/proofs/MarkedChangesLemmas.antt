@@ -1,5 +1,6 @@
 -- A change between a mark and its end: how it begins, and what it is of the state that was marked, once it is kept.
 use Rattle.std.proofs.Common.{◌≡◌, ◌∙◌, ℕ, None, Ok, Some, ap}
+use Rattle.extent_map.specs.declared.space_notes.SpaceNotes.{SpaceNotes}
 use Rattle.mdc_words.specs.Faults.{CountsFault}
 use Rattle.mdc_words.specs.Time.{OverTime}
 use Rattle.mdc_words.proofs.FaultsLemmas.{counts_fault_then}
@@ -14,8 +15,6 @@ use Rattle.store_api.proofs.CausesLemmas.{cause_still}
 use Rattle.store_api.proofs.FetchingLemmas.{only_same, only_then, only_wider}
 use Rattle.store_api.proofs.FrameLemmas.{touches_same, touches_then, touches_wider}
 use Rattle.store_api.proofs.WorksLemmas.{steady_mark, steady_then}
-use Rattle.extent_map.specs.Owners.{IsSameShape}
-use Rattle.extent_map.specs.declared.extents.Extents.{Extents}
 use Rattle.free_space.specs.declared.rooms.Rooms.{Rooms}
 use Rattle.checked_table.specs.WholeChanges.{BeginsChange, IsWholeChange, KeepsChange}
 
@@ -34,13 +33,12 @@ begun g old new marks count say time =
 
 module _ {S : Type 0} {g : Ghosts S} {old marked mid new : S} {Mine : ℕ → Type 0} {Breaks : Damage → Type 0} where
   -- it was made and is kept
-  pub whole_kept : {X E : Type 0} {x : X} {More : ℕ → Type 0} {before ext : Extents} {rooms : Rooms} → BeginsChange g old marked → RunsOverPages g Mine Mine Breaks marked mid None → ((p : ℕ) → Mine p → More p)
-      → KeepsChange g mid new → CountsFault (None ≡ Some Device) (g.disk_faults mid) (g.disk_faults new) → IsSameShape before ext → IsWholeChange {E = E} g More before ext rooms old new (Ok x) None
-  whole_kept begins runs more keeps faults shape = record {
+  pub whole_kept : {X E : Type 0} {x : X} {More : ℕ → Type 0} {noted : SpaceNotes} {rooms : Rooms} → BeginsChange g old marked → RunsOverPages g Mine Mine Breaks marked mid None → ((p : ℕ) → Mine p → More p)
+      → KeepsChange g mid new → CountsFault (None ≡ Some Device) (g.disk_faults mid) (g.disk_faults new) → IsWholeChange {E = E} g More noted rooms old new (Ok x) None
+  whole_kept begins runs more keeps faults = record {
     back = tt;
     notes = tt;
     forgotten = tt;
-    shape = shape;
     unmarked = keeps.unmarked;
     steady = steady_then (steady_then begins.steady runs.works.steady) keeps.steady;
     device = counts_fault_then (cause_still runs.cause ∙ begins.disk_faults) faults;

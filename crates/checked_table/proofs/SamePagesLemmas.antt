@@ -9,10 +9,11 @@ use Rattle.mdc_ast.specs.Database.{Database}
 use Rattle.store_api.specs.StoreState.{page_at}
 use Rattle.store_api.specs.Frame.{HoldsPage}
 use Rattle.store_api.specs.declared.pages.Pages.{Ghosts}
+use Rattle.store_api.specs.declared.shape.Shape.{Shape}
 use Rattle.store_api.proofs.FrameLemmas.{holds_along}
 use Rattle.extent_map.specs.Map.{root_stating}
-use Rattle.extent_map.specs.declared.extents.Extents.{Extents}
 use Rattle.extent_map.specs.declared.kind.Kind.{Kind}
+use Rattle.extent_map.specs.declared.space_notes.SpaceNotes.{SpaceNotes}
 use Rattle.table_blocks.specs.BlockSteps.{HasThisRow}
 use Rattle.table_trees.specs.SpaceChanges.{MakesChanges}
 use Rattle.table_trees.specs.ToldPages.{PageList}
@@ -31,42 +32,42 @@ module _ {S : Type 0} {g : Ghosts S} {old new : S} where
   pub pages_back : HasSamePages g old new → HasSamePages g new old
   pages_back pages = record { told = sym pages.told; same = sym pages.same }
 
-  pub lies_there : {rid : Rid} {row : Row} {slots : List (Option Row)} (ext : Extents) (def : TableDef) (owners : List Kind) (forests : TableForests) → HasSamePages g old new → IsRowAt (table_spots ext (g.state old).work def owners forests.map) rid row slots
-      → IsRowAt (table_spots ext (g.state new).work def owners forests.map) rid row slots
-  lies_there {rid} {row} {slots} ext def owners forests pages lies = subst (λ (work : PageList). IsRowAt (table_spots ext work def owners forests.map) rid row slots) (sym pages.same) lies
+  pub lies_there : {rid : Rid} {row : Row} {slots : List (Option Row)} (shape : Shape) (def : TableDef) (owners : List Kind) (forests : TableForests) → HasSamePages g old new → IsRowAt (table_spots shape (g.state old).work def owners forests.map) rid row slots
+      → IsRowAt (table_spots shape (g.state new).work def owners forests.map) rid row slots
+  lies_there {rid} {row} {slots} shape def owners forests pages lies = subst (λ (work : PageList). IsRowAt (table_spots shape work def owners forests.map) rid row slots) (sym pages.same) lies
 
-  module _ {ext : Extents} {def : TableDef} where
+  module _ {shape : Shape} {def : TableDef} where
     module _ {owners : List Kind} {forests : TableForests} where
-      pub stands_there : HasSamePages g old new → StandsTable g ext old def owners forests → StandsTable g ext new def owners forests
-      stands_there pages st = stands_same ext old new def owners forests pages.told pages.same st
+      pub stands_there : HasSamePages g old new → StandsTable g shape old def owners forests → StandsTable g shape new def owners forests
+      stands_there pages st = stands_same shape old new def owners forests pages.told pages.same st
 
-      pub ready_there : {rooms : Entry → RoomNote} → HasSamePages g old new → IsReadyTable g ext rooms old def owners forests → IsReadyTable g ext rooms new def owners forests
-      ready_there {rooms} pages ready = record {
+      pub ready_there : {noted : SpaceNotes} {rooms : Entry → RoomNote} → HasSamePages g old new → IsReadyTable g shape noted rooms old def owners forests → IsReadyTable g shape noted rooms new def owners forests
+      ready_there {noted} {rooms} pages ready = record {
         stands = stands_there pages ready.stands;
         notes = ready.notes;
-        rooms = subst (λ (work : PageList). AreRightRooms def rooms (table_spots ext work def owners forests.map)) (sym pages.same) ready.rooms;
+        rooms = subst (λ (work : PageList). AreRightRooms def rooms (table_spots shape work def owners forests.map)) (sym pages.same) ready.rooms;
       }
 
-      pub row_there : {rid : Rid} {row : Row} → HasSamePages g old new → HasThisRow g ext old def rid row owners forests → HasThisRow g ext new def rid row owners forests
+      pub row_there : {rid : Rid} {row : Row} → HasSamePages g old new → HasThisRow g shape old def rid row owners forests → HasThisRow g shape new def rid row owners forests
       row_there pages has = record {
         slots = has.slots;
-        lies = lies_there ext def owners forests pages has.lies;
+        lies = lies_there shape def owners forests pages has.lies;
       }
 
     -- what is so wherever the table stands now is so wherever it stood
-    pub if_stood : {Is : List Kind → TableForests → Type 0} → HasSamePages g old new → ((owners : List Kind) (forests : TableForests) → StandsTable g ext new def owners forests → Is owners forests)
-        → (owners : List Kind) (forests : TableForests) → StandsTable g ext old def owners forests → Is owners forests
+    pub if_stood : {Is : List Kind → TableForests → Type 0} → HasSamePages g old new → ((owners : List Kind) (forests : TableForests) → StandsTable g shape new def owners forests → Is owners forests)
+        → (owners : List Kind) (forests : TableForests) → StandsTable g shape old def owners forests → Is owners forests
     if_stood pages is owners forests st = is owners forests (stands_there pages st)
 
-    pub sound_there : HasSamePages g old new → IsSoundBetweenChanges ext def (pages_of g old) → IsSoundBetweenChanges ext def (pages_of g new)
-    sound_there pages sound = subst (λ (work : PageList). IsSoundBetweenChanges ext def work) (sym pages.same) sound
+    pub sound_there : HasSamePages g old new → IsSoundBetweenChanges shape def (pages_of g old) → IsSoundBetweenChanges shape def (pages_of g new)
+    sound_there pages sound = subst (λ (work : PageList). IsSoundBetweenChanges shape def work) (sym pages.same) sound
 
     -- where all went back, the blocks of the table are as they were
-    pub stays_back : {owners : List Kind} {May : ℕ → Type 0} → (g.state new).work ≡ (g.state old).work → KeepsBlocksBut g ext old new def owners May
+    pub stays_back : {owners : List Kind} {May : ℕ → Type 0} → (g.state new).work ≡ (g.state old).work → KeepsBlocksBut g shape old new def owners May
     stays_back same = record { stay = λ p of not. ap (λ (work : PageList). page_at work p) same }
 
-  pub stands_for_there : (ext : Extents) (def : TableDef) (db : Database) → HasSamePages g old new → PagesStandFor ext (with_table_page def (pages_of g old)) db → PagesStandFor ext (with_table_page def (pages_of g new)) db
-  stands_for_there ext def db pages is = subst (λ (work : PageList). PagesStandFor ext (with_table_page def work) db) (sym pages.same) is
+  pub stands_for_there : (shape : Shape) (def : TableDef) (db : Database) → HasSamePages g old new → PagesStandFor shape (with_table_page def (pages_of g old)) db → PagesStandFor shape (with_table_page def (pages_of g new)) db
+  stands_for_there shape def db pages is = subst (λ (work : PageList). PagesStandFor shape (with_table_page def work) db) (sym pages.same) is
 
 -- ---- what was made between a mark and its end
 
@@ -75,7 +76,7 @@ module _ {S : Type 0} {g : Ghosts S} {old marked mid new : S} (first : HasSamePa
   pub said_between : (P : PageList → PageList → Type 0) → P (g.state marked).work (g.state mid).work → P (g.state old).work (g.state new).work
   said_between P is = subst (λ (work : PageList). P (g.state old).work work) (sym last.same) (subst (λ (work : PageList). P work (g.state mid).work) first.same is)
 
-  grows_between : {before : Extents} → GrowsPages g before old mid → GrowsPages g before old new
+  grows_between : {shape : Shape} → GrowsPages g shape old mid → GrowsPages g shape old new
   grows_between grows =
       let count : length (g.state new).work ≡ length (g.state mid).work = ap length last.same in
       record {
@@ -90,13 +91,12 @@ module _ {S : Type 0} {g : Ghosts S} {old marked mid new : S} (first : HasSamePa
             record { extents = now.extents; within = now.within; count = count ∙ now.count };
       }
 
-  pub changes_between : {before ext : Extents} {def : TableDef} {owners : List Kind} {forests : TableForests} {owners_now : List Kind} {forests_now : TableForests}
-      → ChangesTable g before ext marked mid def owners forests owners_now forests_now → ChangesTable g before ext old new def owners forests owners_now forests_now
-  changes_between {before} {ext} {def} {owners} {forests} {owners_now} {forests_now} made =
-      let begun = changes_along before ext old marked mid def owners forests first.told first.same owners_now forests_now made in
+  pub changes_between : {shape : Shape} {before noted : SpaceNotes} {def : TableDef} {owners : List Kind} {forests : TableForests} {owners_now : List Kind} {forests_now : TableForests}
+      → ChangesTable g shape before noted marked mid def owners forests owners_now forests_now → ChangesTable g shape before noted old new def owners forests owners_now forests_now
+  changes_between {shape} {before} {noted} {def} {owners} {forests} {owners_now} {forests_now} made =
+      let begun = changes_along shape before noted old marked mid def owners forests first.told first.same owners_now forests_now made in
       record {
         stands = stands_there last begun.stands;
-        shape = begun.shape;
         others_blocks = begun.others_blocks;
         no_others_blocks = begun.no_others_blocks;
         others_pages = begun.others_pages;
@@ -106,69 +106,69 @@ module _ {S : Type 0} {g : Ghosts S} {old marked mid new : S} (first : HasSamePa
         notes = begun.notes;
       }
 
-  pub stays_between : {before : Extents} {def : TableDef} {owners : List Kind} {May : ℕ → Type 0} → KeepsBlocksBut g before marked mid def owners May → KeepsBlocksBut g before old new def owners May
+  pub stays_between : {shape : Shape} {def : TableDef} {owners : List Kind} {May : ℕ → Type 0} → KeepsBlocksBut g shape marked mid def owners May → KeepsBlocksBut g shape old new def owners May
   stays_between keeps = record { stay = λ p of not. said_between (λ was is. page_at is p ≡ page_at was p) (keeps.stay p of not) }
 
-  rooms_kept : (ext : Extents) (def : TableDef) (rooms : Entry → RoomNote) (owners : List Kind) (forests : TableForests) → AreRightRooms def rooms (table_spots ext (g.state mid).work def owners forests.map)
-      → AreRightRooms def rooms (table_spots ext (g.state new).work def owners forests.map)
-  rooms_kept ext def rooms owners forests right = said_between (λ was is. AreRightRooms def rooms (table_spots ext is def owners forests.map)) right
+  rooms_kept : (shape : Shape) (def : TableDef) (rooms : Entry → RoomNote) (owners : List Kind) (forests : TableForests) → AreRightRooms def rooms (table_spots shape (g.state mid).work def owners forests.map)
+      → AreRightRooms def rooms (table_spots shape (g.state new).work def owners forests.map)
+  rooms_kept shape def rooms owners forests right = said_between (λ was is. AreRightRooms def rooms (table_spots shape is def owners forests.map)) right
 
-  module _ {before ext : Extents} {rooms : Entry → RoomNote} {def : TableDef} {row : Row} {rid : Rid} {owners : List Kind} {forests : TableForests} where
-    pub places_between : PlacesRow g before ext rooms marked mid def owners forests row rid → PlacesRow g before ext rooms old new def owners forests row rid
+  module _ {shape : Shape} {before noted : SpaceNotes} {rooms : Entry → RoomNote} {def : TableDef} {row : Row} {rid : Rid} {owners : List Kind} {forests : TableForests} where
+    pub places_between : PlacesRow g shape before noted rooms marked mid def owners forests row rid → PlacesRow g shape before noted rooms old new def owners forests row rid
     places_between made = record {
       owners_now = made.owners_now;
       forests_now = made.forests_now;
       changes = changes_between made.changes;
       records = made.records;
-      rooms = rooms_kept ext def rooms made.owners_now made.forests_now made.rooms;
+      rooms = rooms_kept shape def rooms made.owners_now made.forests_now made.rooms;
       mid = made.mid;
-      puts = said_between (λ was is. PutsRow def (block_slot_count before def) (table_spots before was def owners forests.map) row made.mid rid) made.puts;
-      claims = said_between (λ was is. SpotsAfterClaims made.mid (table_spots ext is def made.owners_now made.forests_now.map)) made.claims;
+      puts = said_between (λ was is. PutsRow def (block_slot_count shape def) (table_spots shape was def owners forests.map) row made.mid rid) made.puts;
+      claims = said_between (λ was is. SpotsAfterClaims made.mid (table_spots shape is def made.owners_now made.forests_now.map)) made.claims;
     }
 
-    pub takes_between : TakesRowOut g before ext rooms marked mid def owners forests row rid → TakesRowOut g before ext rooms old new def owners forests row rid
+    pub takes_between : TakesRowOut g shape before noted rooms marked mid def owners forests row rid → TakesRowOut g shape before noted rooms old new def owners forests row rid
     takes_between made = record {
       owners_now = made.owners_now;
       forests_now = made.forests_now;
       changes = changes_between made.changes;
       records = made.records;
-      rooms = rooms_kept ext def rooms made.owners_now made.forests_now made.rooms;
+      rooms = rooms_kept shape def rooms made.owners_now made.forests_now made.rooms;
       mid = made.mid;
-      takes = said_between (λ was is. TakesRow (table_spots before was def owners forests.map) rid row made.mid) made.takes;
-      returns = said_between (λ was is. SpotsAfterReturns made.mid (table_spots ext is def made.owners_now made.forests_now.map)) made.returns;
+      takes = said_between (λ was is. TakesRow (table_spots shape was def owners forests.map) rid row made.mid) made.takes;
+      returns = said_between (λ was is. SpotsAfterReturns made.mid (table_spots shape is def made.owners_now made.forests_now.map)) made.returns;
     }
 
     -- a row more, a row less, and one that became another
-    pub inserts_between : InsertsRow g before ext rooms marked mid def row rid owners forests → InsertsRow g before ext rooms old new def row rid owners forests
+    pub inserts_between : InsertsRow g shape before noted rooms marked mid def row rid owners forests → InsertsRow g shape before noted rooms old new def row rid owners forests
     unfolding places_between
     inserts_between made = record {
       places = places_between made.places;
-      rows = said_between (λ was is. IsPermutation (row_in_place rid row ∷ rows_in_table before was def forests.map) (rows_in_table ext is def made.places.forests_now.map)) made.rows;
+      rows = said_between (λ was is. IsPermutation (row_in_place rid row ∷ rows_in_table shape was def forests.map) (rows_in_table shape is def made.places.forests_now.map)) made.rows;
     }
 
-    pub deletes_between : DeletesRow g before ext rooms marked mid def row rid owners forests → DeletesRow g before ext rooms old new def row rid owners forests
+    pub deletes_between : DeletesRow g shape before noted rooms marked mid def row rid owners forests → DeletesRow g shape before noted rooms old new def row rid owners forests
     unfolding takes_between
     deletes_between made = record {
       takes = takes_between made.takes;
-      rows = said_between (λ was is. IsPermutation (row_in_place rid row ∷ rows_in_table ext is def made.takes.forests_now.map) (rows_in_table before was def forests.map)) made.rows;
+      rows = said_between (λ was is. IsPermutation (row_in_place rid row ∷ rows_in_table shape is def made.takes.forests_now.map) (rows_in_table shape was def forests.map)) made.rows;
     }
 
-    pub turns_between : {other : Row} {to : Rid} → ChangesOneRow g before ext rooms marked mid def row other rid to owners forests → ChangesOneRow g before ext rooms old new def row other rid to owners forests
+    pub turns_between : {other : Row} {to : Rid} → ChangesOneRow g shape before noted rooms marked mid def row other rid to owners forests → ChangesOneRow g shape before noted rooms old new def row other rid to owners forests
     turns_between {other} {to} made = record {
       owners_now = made.owners_now;
       forests_now = made.forests_now;
       changes = changes_between made.changes;
       records = made.records;
-      rooms = rooms_kept ext def rooms made.owners_now made.forests_now made.rooms;
+      rooms = rooms_kept shape def rooms made.owners_now made.forests_now made.rooms;
       mid = made.mid;
-      turns = said_between (λ was is. ChangesRow def (block_slot_count before def) (table_spots before was def owners forests.map) rid row other made.mid to) made.turns;
-      claims = said_between (λ was is. SpotsAfterClaims made.mid (table_spots ext is def made.owners_now made.forests_now.map)) made.claims;
+      turns = said_between (λ was is. ChangesRow def (block_slot_count shape def) (table_spots shape was def owners forests.map) rid row other made.mid to) made.turns;
+      claims = said_between (λ was is. SpotsAfterClaims made.mid (table_spots shape is def made.owners_now made.forests_now.map)) made.claims;
       stay = made.stay;
-      were = said_between (λ was is. IsPermutation (row_in_place rid row ∷ made.stay) (rows_in_table before was def forests.map)) made.were;
-      are = said_between (λ was is. IsPermutation (row_in_place to other ∷ made.stay) (rows_in_table ext is def made.forests_now.map)) made.are;
+      were = said_between (λ was is. IsPermutation (row_in_place rid row ∷ made.stay) (rows_in_table shape was def forests.map)) made.were;
+      are = said_between (λ was is. IsPermutation (row_in_place to other ∷ made.stay) (rows_in_table shape is def made.forests_now.map)) made.are;
       space = record {
         changes = made.space.changes;
-        makes = said_between (λ was is. MakesChanges before was made.space.changes is) made.space.makes;
-        turns = said_between (λ was is. TurnsRowBy def (block_slot_count before def) (table_spots before was def owners forests.map) rid row other (table_spots ext is def made.owners_now made.forests_now.map) made.space.changes) made.space.turns;
+        makes = said_between (λ was is. MakesChanges shape was made.space.changes is) made.space.makes;
+        turns = said_between (λ was is. TurnsRowBy def (block_slot_count shape def) (table_spots shape was def owners forests.map) rid row other (table_spots shape is def made.owners_now made.forests_now.map) made.space.changes) made.space.turns;
       };
     }

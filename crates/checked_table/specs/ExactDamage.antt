@@ -8,7 +8,7 @@ use Rattle.store_api.specs.declared.fault.Damage.{Damage}
 use Rattle.store_api.specs.declared.fault.StoreFault.{StoreFault}
 use Rattle.store_api.specs.declared.fault.StoreFault.TheVariants.{Damaged, Device}
 use Rattle.store_api.specs.declared.pages.Pages.{Ghosts}
-use Rattle.extent_map.specs.declared.extents.Extents.{Extents}
+use Rattle.store_api.specs.declared.shape.Shape.{Shape}
 use Rattle.extent_map.specs.declared.kind.Kind.{Kind}
 use Rattle.mdc_sound.specs.Breaks.{IsFirstBreak}
 use Rattle.mdc_sound.specs.SoundDatabase.{IsSoundDatabase, with_table_page}
@@ -18,37 +18,37 @@ use Rattle.mdc_table.specs.TableReading.{HasUsedBlock}
 
 -- Where the store tells its pages, they break this rule at this page with the definition in the place of its table page: the first
 -- rule that they break, and the lowest page that breaks it.
-abbrev pub IsExactWith : {S : Type 0} → Ghosts S → Extents → TableDef → S → Damage → Type 0
-IsExactWith g ext def s damage = IsTrue (g.state s).is_told → IsFirstBreak ext (with_table_page def (pages_of g s)) damage.rule damage.page
+abbrev pub IsExactWith : {S : Type 0} → Ghosts S → Shape → TableDef → S → Damage → Type 0
+IsExactWith g shape def s damage = IsTrue (g.state s).is_told → IsFirstBreak shape (with_table_page def (pages_of g s)) damage.rule damage.page
 
 -- the damage that a call answers is that of the pages that it began with
-abbrev pub AnswersExactly : {S : Type 0} → Ghosts S → Extents → TableDef → S → Option StoreFault → Type 0
-AnswersExactly g ext def s fault = (damage : Damage) → fault ≡ Some (Damaged damage) → IsExactWith g ext def s damage
+abbrev pub AnswersExactly : {S : Type 0} → Ghosts S → Shape → TableDef → S → Option StoreFault → Type 0
+AnswersExactly g shape def s fault = (damage : Damage) → fault ≡ Some (Damaged damage) → IsExactWith g shape def s damage
 
 -- ---- what a call expects
 
 -- this is so of the table wherever it stands
-abbrev pub IfStanding : {S : Type 0} → Ghosts S → Extents → S → TableDef → (List Kind → TableForests → Type 0) → Type 0
-IfStanding g ext s def Expected = (owners : List Kind) (forests : TableForests) → StandsTable g ext s def owners forests → Expected owners forests
+abbrev pub IfStanding : {S : Type 0} → Ghosts S → Shape → S → TableDef → (List Kind → TableForests → Type 0) → Type 0
+IfStanding g shape s def Expected = (owners : List Kind) (forests : TableForests) → StandsTable g shape s def owners forests → Expected owners forests
 
 -- this row lies in its place, where the table stands
-abbrev pub HasRowIfStanding : {S : Type 0} → Ghosts S → Extents → S → TableDef → Rid → Row → Type 0
-HasRowIfStanding g ext s def rid row = IfStanding g ext s def (HasThisRow g ext s def rid row)
+abbrev pub HasRowIfStanding : {S : Type 0} → Ghosts S → Shape → S → TableDef → Rid → Row → Type 0
+HasRowIfStanding g shape s def rid row = IfStanding g shape s def (HasThisRow g shape s def rid row)
 
 -- the block is a Used one of the table, where that stands
-abbrev pub HasUsedIfStanding : {S : Type 0} → Ghosts S → Extents → S → TableDef → ℕ → Type 0
-HasUsedIfStanding g ext s def block = IfStanding g ext s def (HasUsedBlock block)
+abbrev pub HasUsedIfStanding : {S : Type 0} → Ghosts S → Shape → S → TableDef → ℕ → Type 0
+HasUsedIfStanding g shape s def block = IfStanding g shape s def (HasUsedBlock block)
 
 -- ---- a fault that is judged
 
 -- the pages aren't sound with the definition in the place of its table page, where the store tells them
-abbrev pub IsUnsoundWith : {S : Type 0} → Ghosts S → Extents → TableDef → S → Type 0
-IsUnsoundWith g ext def s = IsTrue (g.state s).is_told → IsSoundDatabase ext (with_table_page def (pages_of g s)) → ⊥
+abbrev pub IsUnsoundWith : {S : Type 0} → Ghosts S → Shape → TableDef → S → Type 0
+IsUnsoundWith g shape def s = IsTrue (g.state s).is_told → IsSoundDatabase shape (with_table_page def (pages_of g s)) → ⊥
 
 -- A fault was met, and this one is answered: its damage is exact, if damage was met on pages that aren't sound.
-abbrev pub JudgesFault : {S : Type 0} → Ghosts S → Extents → TableDef → S → Option StoreFault → Option StoreFault → Type 0
-JudgesFault g ext def s met answered =
-    (damage : Damage) → answered ≡ Some (Damaged damage) → ((first : Damage) → met ≡ Some (Damaged first) → IsUnsoundWith g ext def s) → IsExactWith g ext def s damage
+abbrev pub JudgesFault : {S : Type 0} → Ghosts S → Shape → TableDef → S → Option StoreFault → Option StoreFault → Type 0
+JudgesFault g shape def s met answered =
+    (damage : Damage) → answered ≡ Some (Damaged damage) → ((first : Damage) → met ≡ Some (Damaged first) → IsUnsoundWith g shape def s) → IsExactWith g shape def s damage
 
 -- where the faults of the disk were counted by the fault that was met, they are counted by the one that is answered
 abbrev pub CountsAnswer : {S : Type 0} → Ghosts S → S → S → Option StoreFault → Option StoreFault → Type 0

@@ -9,9 +9,10 @@ use Rattle.store_api.specs.Works.{Steady}
 use Rattle.store_api.specs.declared.fault.StoreFault.{StoreFault}
 use Rattle.store_api.specs.declared.fault.StoreFault.TheVariants.{Device}
 use Rattle.store_api.specs.declared.pages.Pages.{Ghosts}
-use Rattle.extent_map.specs.Owners.{AreRightNotes, IsSameShape}
-use Rattle.extent_map.specs.declared.extents.Extents.{Extents}
+use Rattle.store_api.specs.declared.shape.Shape.{Shape}
+use Rattle.extent_map.specs.Owners.{AreRightNotes}
 use Rattle.extent_map.specs.declared.kind.Kind.{Kind}
+use Rattle.extent_map.specs.declared.space_notes.SpaceNotes.{SpaceNotes}
 use Rattle.table_trees.specs.ToldPages.{PageList}
 use Rattle.free_space.specs.RoomNotes.{IsForgotten}
 use Rattle.free_space.specs.declared.rooms.Rooms.{Rooms}
@@ -60,12 +61,10 @@ pub record UndoesChange {S : Type 0} (g : Ghosts S) (old new : S) : Type 0 where
   -- the base stands, also in a crash
   pub steady : Steady g old new
 
--- what was noted of the extents and of rooms is forgotten
-pub record ForgetsNotes (before ext : Extents) (rooms : Rooms) : Type 0 where
-  -- the extents have the shape that they had
-  pub shape : IsSameShape before ext
-  -- what is noted of them is right, whoever owns them
-  pub notes : (owners : List Kind) → AreRightNotes ext owners
+-- what was noted of free space and of rooms is forgotten
+pub record ForgetsNotes (noted : SpaceNotes) (rooms : Rooms) : Type 0 where
+  -- what is noted of free space is right, whatever extents there are and whoever owns them
+  pub notes : (shape : Shape) (owners : List Kind) → AreRightNotes shape noted owners
   -- nothing is noted of rooms
   pub forgotten : IsForgotten rooms
 
@@ -73,15 +72,13 @@ pub record ForgetsNotes (before ext : Extents) (rooms : Rooms) : Type 0 where
 
 -- A change of the pages of a store, of which these are mine, that ends with this result, and with this fault of the store if any. It
 -- is kept, or all is as it was.
-pub record IsWholeChange {S X E : Type 0} (g : Ghosts S) (Mine : ℕ → Type 0) (before ext : Extents) (rooms : Rooms) (old new : S) (result : Result X E) (fault : Option StoreFault) : Type 0 where
+pub record IsWholeChange {S X E : Type 0} (g : Ghosts S) (Mine : ℕ → Type 0) (noted : SpaceNotes) (rooms : Rooms) (old new : S) (result : Result X E) (fault : Option StoreFault) : Type 0 where
   -- after a fault all pages are those that there were
   pub back : OnErr result ((g.state new).work ≡ (g.state old).work)
-  -- what is noted of the extents then is right, whoever owns them
-  pub notes : OnErr result ((owners : List Kind) → AreRightNotes ext owners)
+  -- what is noted of free space then is right, whatever extents there are and whoever owns them
+  pub notes : OnErr result ((shape : Shape) (owners : List Kind) → AreRightNotes shape noted owners)
   -- and nothing is noted of rooms
   pub forgotten : OnErr result (IsForgotten rooms)
-  -- the extents have the shape that they had
-  pub shape : IsSameShape before ext
   -- no mark is open
   pub unmarked : (g.state new).marked ≡ None
   -- the base stands, also in a crash

@@ -19,12 +19,12 @@ ghost use Rattle.checked_table.specs.ExactDamage.{AnswersExactly, HasRowIfStandi
 ghost use Rattle.checked_table.specs.WholeChanges.{IsWholeChange};
 
 use crate::ending::{begin_change, forget_notes, keep_or_undo, undo_space_change};
-use extent_map::{Extents, SpaceFault};
+use extent_map::{SpaceFault, SpaceNotes};
 use free_space::Rooms;
 use mdc_ast::{Row, TableDef};
 use mdc_values::Rid;
 use std::alloc::Global;
-use store_api::Pages;
+use store_api::{Pages, Shape};
 
 /// Makes the row in a place, which is given, another one that fits the definition and has its number, and answers where that
 /// lies: in the same place where the cell is the same, else where placing puts it once the old one is out. It claims no more pages
@@ -34,7 +34,8 @@ use store_api::Pages;
 pub fn change_row<P: Pages>(
     alloc: Global,
     def: &TableDef,
-    ext: &mut Extents,
+    shape: Shape,
+    notes: &mut SpaceNotes,
     rooms: &mut Rooms,
     pages: &mut P,
     rid: Rid,
@@ -49,32 +50,32 @@ pub fn change_row<P: Pages>(
     requires number { is.now.number ≡ was.now.number }
     requires going { (P.state pages.old).ended ≡ false }
     requires unmarked { (P.state pages.old).marked ≡ None }
-    ensures changes { IfOk result (λ to. (owners : List Kind) (forests : TableForests) → IsReadyTable P.Pages ext.old (room_of rooms.old) pages.old def.now owners forests
-        → HasThisRow P.Pages ext.old pages.old def.now rid was.now owners forests
-        → ChangesOneRow P.Pages ext.old ext.new (room_of rooms.new) pages.old pages.new def.now was.now is.now rid to owners forests) }
-    ensures stay { IfOk result (λ to. (owners : List Kind) (forests : TableForests) → IsReadyTable P.Pages ext.old (room_of rooms.old) pages.old def.now owners forests
-        → HasThisRow P.Pages ext.old pages.old def.now rid was.now owners forests → KeepsBlocksBut P.Pages ext.old pages.old pages.new def.now owners (λ block. (block ≡ rid.block) ⊎ (block ≡ to.block))) }
-    ensures sound { OnOk result ((owners : List Kind) (forests : TableForests) → IsReadyTable P.Pages ext.old (room_of rooms.old) pages.old def.now owners forests
-        → HasThisRow P.Pages ext.old pages.old def.now rid was.now owners forests
-        → IsSoundBetweenChanges ext.old def.now (pages_of P.Pages pages.old) → IsSoundBetweenChanges ext.new def.now (pages_of P.Pages pages.new)) }
-    ensures stands_for { OnOk result ((owners : List Kind) (forests : TableForests) → IsReadyTable P.Pages ext.old (room_of rooms.old) pages.old def.now owners forests
-        → HasThisRow P.Pages ext.old pages.old def.now rid was.now owners forests → IsSoundBetweenChanges ext.old def.now (pages_of P.Pages pages.old)
-        → (db : Database) → PagesStandFor ext.old (with_table_page def.now (pages_of P.Pages pages.old)) db
-        → PagesStandFor ext.new (with_table_page def.now (pages_of P.Pages pages.new)) (changed_at db def.now.number (with_row is.now))) }
-    ensures full { IfErr result (λ fault. IfFull fault (λ cap. (cap ≡ ext.old.cap) × ((owners : List Kind) (forests : TableForests) → IsReadyTable P.Pages ext.old (room_of rooms.old) pages.old def.now owners forests
-        → HasThisRow P.Pages ext.old pages.old def.now rid was.now owners forests → UpdateRunsFull ext.old (pages_of P.Pages pages.old) def.now ((row_in_place rid was.now, is.now) ∷ [])))) }
-    ensures exact { HasRowIfStanding P.Pages ext.old pages.old def.now rid was.now → AnswersExactly P.Pages ext.old def.now pages.old (store_fault_in store_part_of result) }
-    ensures whole { IsWholeChange P.Pages (IsExpectedSpace P.Pages ext.old pages.old def.now (HasThisRow P.Pages ext.old pages.old def.now rid was.now)) ext.old ext.new rooms.new pages.old pages.new result (store_fault_in store_part_of result) }
+    ensures changes { IfOk result (λ to. (owners : List Kind) (forests : TableForests) → IsReadyTable P.Pages shape notes.old (room_of rooms.old) pages.old def.now owners forests
+        → HasThisRow P.Pages shape pages.old def.now rid was.now owners forests
+        → ChangesOneRow P.Pages shape notes.old notes.new (room_of rooms.new) pages.old pages.new def.now was.now is.now rid to owners forests) }
+    ensures stay { IfOk result (λ to. (owners : List Kind) (forests : TableForests) → IsReadyTable P.Pages shape notes.old (room_of rooms.old) pages.old def.now owners forests
+        → HasThisRow P.Pages shape pages.old def.now rid was.now owners forests → KeepsBlocksBut P.Pages shape pages.old pages.new def.now owners (λ block. (block ≡ rid.block) ⊎ (block ≡ to.block))) }
+    ensures sound { OnOk result ((owners : List Kind) (forests : TableForests) → IsReadyTable P.Pages shape notes.old (room_of rooms.old) pages.old def.now owners forests
+        → HasThisRow P.Pages shape pages.old def.now rid was.now owners forests
+        → IsSoundBetweenChanges shape def.now (pages_of P.Pages pages.old) → IsSoundBetweenChanges shape def.now (pages_of P.Pages pages.new)) }
+    ensures stands_for { OnOk result ((owners : List Kind) (forests : TableForests) → IsReadyTable P.Pages shape notes.old (room_of rooms.old) pages.old def.now owners forests
+        → HasThisRow P.Pages shape pages.old def.now rid was.now owners forests → IsSoundBetweenChanges shape def.now (pages_of P.Pages pages.old)
+        → (db : Database) → PagesStandFor shape (with_table_page def.now (pages_of P.Pages pages.old)) db
+        → PagesStandFor shape (with_table_page def.now (pages_of P.Pages pages.new)) (changed_at db def.now.number (with_row is.now))) }
+    ensures full { IfErr result (λ fault. IfFull fault (λ cap. (cap ≡ shape.extents) × ((owners : List Kind) (forests : TableForests) → IsReadyTable P.Pages shape notes.old (room_of rooms.old) pages.old def.now owners forests
+        → HasThisRow P.Pages shape pages.old def.now rid was.now owners forests → UpdateRunsFull shape (pages_of P.Pages pages.old) def.now ((row_in_place rid was.now, is.now) ∷ [])))) }
+    ensures exact { HasRowIfStanding P.Pages shape pages.old def.now rid was.now → AnswersExactly P.Pages shape def.now pages.old (store_fault_in store_part_of result) }
+    ensures whole { IsWholeChange P.Pages (IsExpectedSpace P.Pages shape pages.old def.now (HasThisRow P.Pages shape pages.old def.now rid was.now)) notes.new rooms.new pages.old pages.new result (store_fault_in store_part_of result) }
 {
     begin_change(pages);
-    match cell_change::change_row(alloc, def, ext, rooms, pages, None, rid, was, is) {
+    match cell_change::change_row(alloc, def, shape, notes, rooms, pages, None, rid, was, is) {
         Ok(to) => match keep_or_undo(pages) {
             Ok(()) => Ok(to),
             Err(fault) => {
-                forget_notes(ext, rooms);
+                forget_notes(notes, rooms);
                 Err(SpaceFault::Store(fault))
             }
         },
-        Err(fault) => Err(undo_space_change(alloc, def, ext, rooms, pages, fault)),
+        Err(fault) => Err(undo_space_change(alloc, def, shape, notes, rooms, pages, fault)),
     }
 }

@@ -20,19 +20,20 @@ ghost use Rattle.checked_table.specs.ExactDamage.{AnswersExactly, HasRowIfStandi
 ghost use Rattle.checked_table.specs.WholeChanges.{IsWholeChange};
 
 use crate::ending::{begin_change, forget_notes, keep_or_undo, undo_change};
-use extent_map::Extents;
+use extent_map::SpaceNotes;
 use free_space::Rooms;
 use mdc_ast::{Row, TableDef};
 use mdc_values::Rid;
 use std::alloc::Global;
-use store_api::{Pages, StoreFault};
+use store_api::{Pages, Shape, StoreFault};
 
 /// Deletes the row that lies in a place; it is given too. It claims no page. After a fault all pages are as they were, the notes are
 /// forgotten, and where the row lies there if the table stands, damage is exact.
 pub fn delete_row<P: Pages>(
     alloc: Global,
     def: &TableDef,
-    ext: &mut Extents,
+    shape: Shape,
+    notes: &mut SpaceNotes,
     rooms: &mut Rooms,
     pages: &mut P,
     rid: Rid,
@@ -44,32 +45,32 @@ pub fn delete_row<P: Pages>(
     requires row { HasReadValues def.now.columns row.now }
     requires going { (P.state pages.old).ended ≡ false }
     requires unmarked { (P.state pages.old).marked ≡ None }
-    ensures deletes { OnOk result ((owners : List Kind) (forests : TableForests) → IsReadyTable P.Pages ext.old (room_of rooms.old) pages.old def.now owners forests
-        → HasThisRow P.Pages ext.old pages.old def.now rid row.now owners forests → DeletesRow P.Pages ext.old ext.new (room_of rooms.new) pages.old pages.new def.now row.now rid owners forests) }
-    ensures makes { OnOk result ((owners : List Kind) (forests : TableForests) → IsReadyTable P.Pages ext.old (room_of rooms.old) pages.old def.now owners forests
-        → (slots : List (Option Row)) → IsRowAt (spots_of P.Pages ext.old pages.old def.now owners forests) rid row.now slots
-        → MakesChanges ext.old (pages_of P.Pages pages.old) (taking_changes def.now row.now rid (count_rows slots)) (pages_of P.Pages pages.new)) }
-    ensures stay { (owners : List Kind) (forests : TableForests) → IsReadyTable P.Pages ext.old (room_of rooms.old) pages.old def.now owners forests → KeepsBlocksBut P.Pages ext.old pages.old pages.new def.now owners (λ block. block ≡ rid.block) }
-    ensures sound { OnOk result ((owners : List Kind) (forests : TableForests) → IsReadyTable P.Pages ext.old (room_of rooms.old) pages.old def.now owners forests
-        → HasThisRow P.Pages ext.old pages.old def.now rid row.now owners forests
-        → IsSoundBetweenChanges ext.old def.now (pages_of P.Pages pages.old) → IsSoundBetweenChanges ext.new def.now (pages_of P.Pages pages.new)) }
-    ensures stands_for { OnOk result ((owners : List Kind) (forests : TableForests) → IsReadyTable P.Pages ext.old (room_of rooms.old) pages.old def.now owners forests
-        → HasThisRow P.Pages ext.old pages.old def.now rid row.now owners forests → IsSoundBetweenChanges ext.old def.now (pages_of P.Pages pages.old)
-        → (db : Database) → PagesStandFor ext.old (with_table_page def.now (pages_of P.Pages pages.old)) db
-        → PagesStandFor ext.new (with_table_page def.now (pages_of P.Pages pages.new)) (changed_at db def.now.number (without_row row.now.number))) }
+    ensures deletes { OnOk result ((owners : List Kind) (forests : TableForests) → IsReadyTable P.Pages shape notes.old (room_of rooms.old) pages.old def.now owners forests
+        → HasThisRow P.Pages shape pages.old def.now rid row.now owners forests → DeletesRow P.Pages shape notes.old notes.new (room_of rooms.new) pages.old pages.new def.now row.now rid owners forests) }
+    ensures makes { OnOk result ((owners : List Kind) (forests : TableForests) → IsReadyTable P.Pages shape notes.old (room_of rooms.old) pages.old def.now owners forests
+        → (slots : List (Option Row)) → IsRowAt (spots_of P.Pages shape pages.old def.now owners forests) rid row.now slots
+        → MakesChanges shape (pages_of P.Pages pages.old) (taking_changes def.now row.now rid (count_rows slots)) (pages_of P.Pages pages.new)) }
+    ensures stay { (owners : List Kind) (forests : TableForests) → IsReadyTable P.Pages shape notes.old (room_of rooms.old) pages.old def.now owners forests → KeepsBlocksBut P.Pages shape pages.old pages.new def.now owners (λ block. block ≡ rid.block) }
+    ensures sound { OnOk result ((owners : List Kind) (forests : TableForests) → IsReadyTable P.Pages shape notes.old (room_of rooms.old) pages.old def.now owners forests
+        → HasThisRow P.Pages shape pages.old def.now rid row.now owners forests
+        → IsSoundBetweenChanges shape def.now (pages_of P.Pages pages.old) → IsSoundBetweenChanges shape def.now (pages_of P.Pages pages.new)) }
+    ensures stands_for { OnOk result ((owners : List Kind) (forests : TableForests) → IsReadyTable P.Pages shape notes.old (room_of rooms.old) pages.old def.now owners forests
+        → HasThisRow P.Pages shape pages.old def.now rid row.now owners forests → IsSoundBetweenChanges shape def.now (pages_of P.Pages pages.old)
+        → (db : Database) → PagesStandFor shape (with_table_page def.now (pages_of P.Pages pages.old)) db
+        → PagesStandFor shape (with_table_page def.now (pages_of P.Pages pages.new)) (changed_at db def.now.number (without_row row.now.number))) }
     ensures count { length (P.state pages.new).work ≡ length (P.state pages.old).work }
-    ensures exact { HasRowIfStanding P.Pages ext.old pages.old def.now rid row.now → AnswersExactly P.Pages ext.old def.now pages.old (fault_of result) }
-    ensures whole { IsWholeChange P.Pages (IsTableOrMapPage P.Pages ext.old pages.old def.now) ext.old ext.new rooms.new pages.old pages.new result (fault_of result) }
+    ensures exact { HasRowIfStanding P.Pages shape pages.old def.now rid row.now → AnswersExactly P.Pages shape def.now pages.old (fault_of result) }
+    ensures whole { IsWholeChange P.Pages (IsTableOrMapPage P.Pages shape pages.old def.now) notes.new rooms.new pages.old pages.new result (fault_of result) }
 {
     begin_change(pages);
-    match cell_change::delete_row(alloc, def, ext, rooms, pages, rid, row) {
+    match cell_change::delete_row(alloc, def, shape, notes, rooms, pages, rid, row) {
         Ok(()) => match keep_or_undo(pages) {
             Ok(()) => Ok(()),
             Err(fault) => {
-                forget_notes(ext, rooms);
+                forget_notes(notes, rooms);
                 Err(fault)
             }
         },
-        Err(fault) => Err(undo_change(alloc, def, ext, rooms, pages, fault)),
+        Err(fault) => Err(undo_change(alloc, def, shape, notes, rooms, pages, fault)),
     }
 }

@@ -11,11 +11,11 @@ ghost use Rattle.checked_table.specs.ExactDamage.{CountsAnswer, JudgesFault};
 ghost use Rattle.checked_table.specs.WholeChanges.{BeginsChange, ForgetsNotes, KeepsChange, UndoesChange};
 
 use crate::judging::exact_fault;
-use extent_map::{Extents, SpaceFault};
+use extent_map::{SpaceFault, SpaceNotes};
 use free_space::Rooms;
 use mdc_ast::TableDef;
 use std::alloc::Global;
-use store_api::{Pages, StoreFault};
+use store_api::{Pages, Shape, StoreFault};
 
 /// Marks the pages that a change begins with.
 pub(crate) fn begin_change<P: Pages>(pages: &mut P)
@@ -44,11 +44,11 @@ pub(crate) fn keep_or_undo<P: Pages>(pages: &mut P) -> Result<(), StoreFault>
     }
 }
 
-/// Forgets what is noted of the extents and of the rooms, which isn't known to be right where the pages went back.
-pub(crate) fn forget_notes(ext: &mut Extents, rooms: &mut Rooms)
-    ensures { ForgetsNotes ext.old ext.new rooms.new }
+/// Forgets what is noted of free space and of the rooms, which isn't known to be right where the pages went back.
+pub(crate) fn forget_notes(notes: &mut SpaceNotes, rooms: &mut Rooms)
+    ensures { ForgetsNotes notes.new rooms.new }
 {
-    ext.forget();
+    notes.forget();
     rooms.forget();
 }
 
@@ -56,7 +56,8 @@ pub(crate) fn forget_notes(ext: &mut Extents, rooms: &mut Rooms)
 pub(crate) fn undo_change<P: Pages>(
     alloc: Global,
     def: &TableDef,
-    ext: &mut Extents,
+    shape: Shape,
+    notes: &mut SpaceNotes,
     rooms: &mut Rooms,
     pages: &mut P,
     fault: StoreFault,
@@ -65,21 +66,22 @@ pub(crate) fn undo_change<P: Pages>(
     requires place { def.now.number < 16 }
     requires going { (P.state pages.old).ended ≡ false }
     requires marked { IsSome (P.state pages.old).marked }
-    ensures exact { JudgesFault P.Pages ext.new def.now pages.new (Some fault) (Some result) }
+    ensures exact { JudgesFault P.Pages shape def.now pages.new (Some fault) (Some result) }
     ensures undoes { UndoesChange P.Pages pages.old pages.new }
     ensures device { CountsAnswer P.Pages pages.old pages.new (Some fault) (Some result) }
-    ensures forgets { ForgetsNotes ext.old ext.new rooms.new }
+    ensures forgets { ForgetsNotes notes.new rooms.new }
 {
     pages.undo();
-    forget_notes(ext, rooms);
-    exact_fault(alloc, def, ext, pages, fault)
+    forget_notes(notes, rooms);
+    exact_fault(alloc, def, shape, pages, fault)
 }
 
 /// The same for a change that may run full.
 pub(crate) fn undo_space_change<P: Pages>(
     alloc: Global,
     def: &TableDef,
-    ext: &mut Extents,
+    shape: Shape,
+    notes: &mut SpaceNotes,
     rooms: &mut Rooms,
     pages: &mut P,
     fault: SpaceFault,
@@ -88,19 +90,19 @@ pub(crate) fn undo_space_change<P: Pages>(
     requires place { def.now.number < 16 }
     requires going { (P.state pages.old).ended ≡ false }
     requires marked { IsSome (P.state pages.old).marked }
-    ensures exact { JudgesFault P.Pages ext.new def.now pages.new (store_part_of fault) (store_part_of result) }
+    ensures exact { JudgesFault P.Pages shape def.now pages.new (store_part_of fault) (store_part_of result) }
     ensures full { IfFull result (λ cap. fault ≡ space.Full cap) }
     ensures undoes { UndoesChange P.Pages pages.old pages.new }
     ensures device { CountsAnswer P.Pages pages.old pages.new (store_part_of fault) (store_part_of result) }
-    ensures forgets { ForgetsNotes ext.old ext.new rooms.new }
+    ensures forgets { ForgetsNotes notes.new rooms.new }
 {
     match fault {
         SpaceFault::Store(fault) => {
-            SpaceFault::Store(undo_change(alloc, def, ext, rooms, pages, fault))
+            SpaceFault::Store(undo_change(alloc, def, shape, notes, rooms, pages, fault))
         }
         SpaceFault::Full(extents) => {
             pages.undo();
-            forget_notes(ext, rooms);
+            forget_notes(notes, rooms);
             SpaceFault::Full(extents)
         }
     }

@@ -14,19 +14,18 @@ ghost use Rattle.file_check.specs.Looking.{AnyPage};
 ghost use Rattle.file_check.specs.Verdicts.{IsVerdictOf};
 ghost use Rattle.checked_table.specs.ExactDamage.{CountsAnswer, IsExactWith, IsUnsoundWith, JudgesFault};
 
-use extent_map::Extents;
 use file_check::{Verdict, check};
 use mdc_ast::TableDef;
 use std::alloc::Global;
 use store_api::layout::FIRST_TABLE_PAGE;
-use store_api::{Damage, Pages, StoreFault, blank_page, write_page};
+use store_api::{Damage, Pages, Shape, StoreFault, blank_page, write_page};
 use table_page::def_page;
 
 /// The fault to answer where a call met one: damage is made exact. The pages stay.
 pub(crate) fn exact_fault<P: Pages>(
     alloc: Global,
     def: &TableDef,
-    ext: &Extents,
+    shape: Shape,
     pages: &mut P,
     fault: StoreFault,
 ) -> StoreFault
@@ -34,14 +33,14 @@ pub(crate) fn exact_fault<P: Pages>(
     requires place { def.now.number < 16 }
     requires going { (P.state pages.old).ended ≡ false }
     requires unmarked { (P.state pages.old).marked ≡ None }
-    ensures exact { JudgesFault P.Pages ext.now def.now pages.new (Some fault) (Some result) }
+    ensures exact { JudgesFault P.Pages shape def.now pages.new (Some fault) (Some result) }
     ensures same { (P.state pages.new).work ≡ (P.state pages.old).work }
     ensures unmarked { (P.state pages.new).marked ≡ None }
     ensures steady { Steady P.Pages pages.old pages.new }
     ensures device { CountsAnswer P.Pages pages.old pages.new (Some fault) (Some result) }
 {
     match fault {
-        StoreFault::Damaged(met) => judged(alloc, def, ext, pages, met),
+        StoreFault::Damaged(met) => judged(alloc, def, shape, pages, met),
         StoreFault::Device => StoreFault::Device,
         StoreFault::Memory => StoreFault::Memory,
     }
@@ -52,7 +51,7 @@ pub(crate) fn exact_fault<P: Pages>(
 fn judged<P: Pages>(
     alloc: Global,
     def: &TableDef,
-    ext: &Extents,
+    shape: Shape,
     pages: &mut P,
     met: Damage,
 ) -> StoreFault
@@ -60,14 +59,14 @@ fn judged<P: Pages>(
     requires place { def.now.number < 16 }
     requires going { (P.state pages.old).ended ≡ false }
     requires unmarked { (P.state pages.old).marked ≡ None }
-    ensures exact { (damage : Damage) → result ≡ store.Damaged damage → IsUnsoundWith P.Pages ext.now def.now pages.new → IsExactWith P.Pages ext.now def.now pages.new damage }
+    ensures exact { (damage : Damage) → result ≡ store.Damaged damage → IsUnsoundWith P.Pages shape def.now pages.new → IsExactWith P.Pages shape def.now pages.new damage }
     ensures same { (P.state pages.new).work ≡ (P.state pages.old).work }
     ensures unmarked { (P.state pages.new).marked ≡ None }
     ensures steady { Steady P.Pages pages.old pages.new }
     ensures device { CountsFault (Some result ≡ Some store.Device) (P.disk_faults pages.old) (P.disk_faults pages.new) }
 {
     pages.mark();
-    let verdict = verdict_with(alloc, def, ext, pages);
+    let verdict = verdict_with(alloc, def, shape, pages);
     pages.undo();
     match verdict {
         Ok(Verdict::Broken(damage)) => StoreFault::Damaged(damage),
@@ -80,16 +79,16 @@ fn judged<P: Pages>(
 fn verdict_with<P: Pages>(
     alloc: Global,
     def: &TableDef,
-    ext: &Extents,
+    shape: Shape,
     pages: &mut P,
 ) -> Result<Verdict, StoreFault>
     requires defined { IsTableDef def.now.number def.now }
     requires going { (P.state pages.old).ended ≡ false }
-    ensures verdict { IfOk result (λ verdict. IsTrue (P.state pages.old).is_told → IsVerdictOf ext.now (with_table_page def.now (pages_of P.Pages pages.old)) verdict) }
+    ensures verdict { IfOk result (λ verdict. IsTrue (P.state pages.old).is_told → IsVerdictOf shape (with_table_page def.now (pages_of P.Pages pages.old)) verdict) }
     ensures runs { RunsOverPages P.Pages (OnlyPage (1 + def.now.number)) AnyPage NoDamage pages.old pages.new (fault_of result) }
 {
     write_definition(def, pages)?;
-    let verdict = check(alloc, ext, pages)?;
+    let verdict = check(alloc, shape, pages)?;
     Ok(verdict)
 }
 

@@ -15,12 +15,12 @@ ghost use Rattle.checked_table.specs.MissingPlaces.{LacksPlace};
 ghost use Rattle.checked_table.specs.WholeChanges.{IsWholeChange};
 
 use crate::ending::{begin_change, forget_notes, keep_or_undo, undo_space_change};
-use extent_map::{Extents, SpaceFault};
+use extent_map::{SpaceFault, SpaceNotes};
 use free_space::Rooms;
 use mdc_ast::{Row, TableDef};
 use mdc_values::Rid;
 use std::alloc::Global;
-use store_api::Pages;
+use store_api::{Pages, Shape};
 
 /// Puts a row that fits the definition where placing says, and answers where it lies. The table's other blocks stay, and it claims
 /// no more pages than the row asks for. `Full` says that no Used block of its cell has room, and that it asks for more extents
@@ -28,7 +28,8 @@ use store_api::Pages;
 pub fn place_row<P: Pages>(
     alloc: Global,
     def: &TableDef,
-    ext: &mut Extents,
+    shape: Shape,
+    notes: &mut SpaceNotes,
     rooms: &mut Rooms,
     pages: &mut P,
     row: &Row,
@@ -38,26 +39,26 @@ pub fn place_row<P: Pages>(
     requires fits { RowFits def.now row.now }
     requires going { (P.state pages.old).ended ≡ false }
     requires unmarked { (P.state pages.old).marked ≡ None }
-    ensures places { IfOk result (λ rid. (owners : List Kind) (forests : TableForests) → IsReadyTable P.Pages ext.old (room_of rooms.old) pages.old def.now owners forests
-        → PlacesRow P.Pages ext.old ext.new (room_of rooms.new) pages.old pages.new def.now owners forests row.now rid) }
-    ensures full { IfErr result (λ fault. IfFull fault (λ cap. (cap ≡ ext.old.cap) × ((owners : List Kind) (forests : TableForests) → IsReadyTable P.Pages ext.old (room_of rooms.old) pages.old def.now owners forests
-        → LacksPlace P.Pages ext.old pages.old def.now row.now owners forests))) }
-    ensures makes { IfOk result (λ rid. (owners : List Kind) (forests : TableForests) → IsReadyTable P.Pages ext.old (room_of rooms.old) pages.old def.now owners forests
-        → MakesChanges ext.old (pages_of P.Pages pages.old) (block_changes def.now row.now rid.block (slice_index_or (spots_of P.Pages ext.old pages.old def.now owners forests) rid.block OtherBlock)) (pages_of P.Pages pages.new)) }
-    ensures stay { IfOk result (λ rid. (owners : List Kind) (forests : TableForests) → IsReadyTable P.Pages ext.old (room_of rooms.old) pages.old def.now owners forests
-        → KeepsBlocksBut P.Pages ext.old pages.old pages.new def.now owners (λ block. block ≡ rid.block)) }
-    ensures exact { AnswersExactly P.Pages ext.old def.now pages.old (store_fault_in store_part_of result) }
-    ensures whole { IsWholeChange P.Pages (IsTableSpace P.Pages ext.old pages.old def.now) ext.old ext.new rooms.new pages.old pages.new result (store_fault_in store_part_of result) }
+    ensures places { IfOk result (λ rid. (owners : List Kind) (forests : TableForests) → IsReadyTable P.Pages shape notes.old (room_of rooms.old) pages.old def.now owners forests
+        → PlacesRow P.Pages shape notes.old notes.new (room_of rooms.new) pages.old pages.new def.now owners forests row.now rid) }
+    ensures full { IfErr result (λ fault. IfFull fault (λ cap. (cap ≡ shape.extents) × ((owners : List Kind) (forests : TableForests) → IsReadyTable P.Pages shape notes.old (room_of rooms.old) pages.old def.now owners forests
+        → LacksPlace P.Pages shape pages.old def.now row.now owners forests))) }
+    ensures makes { IfOk result (λ rid. (owners : List Kind) (forests : TableForests) → IsReadyTable P.Pages shape notes.old (room_of rooms.old) pages.old def.now owners forests
+        → MakesChanges shape (pages_of P.Pages pages.old) (block_changes def.now row.now rid.block (slice_index_or (spots_of P.Pages shape pages.old def.now owners forests) rid.block OtherBlock)) (pages_of P.Pages pages.new)) }
+    ensures stay { IfOk result (λ rid. (owners : List Kind) (forests : TableForests) → IsReadyTable P.Pages shape notes.old (room_of rooms.old) pages.old def.now owners forests
+        → KeepsBlocksBut P.Pages shape pages.old pages.new def.now owners (λ block. block ≡ rid.block)) }
+    ensures exact { AnswersExactly P.Pages shape def.now pages.old (store_fault_in store_part_of result) }
+    ensures whole { IsWholeChange P.Pages (IsTableSpace P.Pages shape pages.old def.now) notes.new rooms.new pages.old pages.new result (store_fault_in store_part_of result) }
 {
     begin_change(pages);
-    match mdc_table::place_row(alloc, def, ext, rooms, pages, row) {
+    match mdc_table::place_row(alloc, def, shape, notes, rooms, pages, row) {
         Ok(rid) => match keep_or_undo(pages) {
             Ok(()) => Ok(rid),
             Err(fault) => {
-                forget_notes(ext, rooms);
+                forget_notes(notes, rooms);
                 Err(SpaceFault::Store(fault))
             }
         },
-        Err(fault) => Err(undo_space_change(alloc, def, ext, rooms, pages, fault)),
+        Err(fault) => Err(undo_space_change(alloc, def, shape, notes, rooms, pages, fault)),
     }
 }

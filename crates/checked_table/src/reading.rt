@@ -22,18 +22,17 @@ ghost use Rattle.table_scan.specs.SeenTable.{HasSeenTable};
 ghost use Rattle.checked_table.specs.ExactDamage.{AnswersExactly, HasUsedIfStanding};
 
 use crate::judging::exact_fault;
-use extent_map::Extents;
 use mdc_ast::{Pred, Row, TableDef};
 use mdc_table::{Account, Hit, rows_of_used_block};
 use mdc_values::{Blocks, Rid};
 use std::alloc::Global;
-use store_api::{Pages, StoreFault};
+use store_api::{Pages, Shape, StoreFault};
 
 /// A copy of the row in a place. None exactly where the block isn't Used, or the slot is empty. Damage is exact.
 pub fn row_at<P: Pages>(
     alloc: Global,
     def: &TableDef,
-    ext: &Extents,
+    shape: Shape,
     pages: &mut P,
     rid: Rid,
 ) -> Result<Option<Row>, StoreFault>
@@ -41,19 +40,19 @@ pub fn row_at<P: Pages>(
     requires place { def.now.number < 16 }
     requires going { (P.state pages.old).ended ≡ false }
     requires unmarked { (P.state pages.old).marked ≡ None }
-    ensures found { IfOk result (λ row. (owners : List Kind) (forests : TableForests) → StandsTable P.Pages ext.now pages.old def.now owners forests
-        → row ≡ row_at_spot (spots_of P.Pages ext.now pages.old def.now owners forests) rid) }
+    ensures found { IfOk result (λ row. (owners : List Kind) (forests : TableForests) → StandsTable P.Pages shape pages.old def.now owners forests
+        → row ≡ row_at_spot (spots_of P.Pages shape pages.old def.now owners forests) rid) }
     ensures keyed { IfOk result (λ row. IfSome row (HasReadValues def.now.columns)) }
-    ensures exact { AnswersExactly P.Pages ext.now def.now pages.old (fault_of result) }
+    ensures exact { AnswersExactly P.Pages shape def.now pages.old (fault_of result) }
     ensures same { (P.state pages.new).work ≡ (P.state pages.old).work }
     ensures unmarked { (P.state pages.new).marked ≡ None }
     ensures steady { Steady P.Pages pages.old pages.new }
     ensures device { CountsFault (fault_of result ≡ Some store.Device) (P.disk_faults pages.old) (P.disk_faults pages.new) }
-    ensures brings { OnOk result (BringsOnly P.Pages (IsRowLook P.Pages ext.now pages.old def.now rid.block) pages.old pages.new) }
+    ensures brings { OnOk result (BringsOnly P.Pages (IsRowLook P.Pages shape pages.old def.now rid.block) pages.old pages.new) }
 {
-    match mdc_table::row_at(alloc, def, ext, pages, rid) {
+    match mdc_table::row_at(alloc, def, shape, pages, rid) {
         Ok(row) => Ok(row),
-        Err(fault) => Err(exact_fault(alloc, def, ext, pages, fault)),
+        Err(fault) => Err(exact_fault(alloc, def, shape, pages, fault)),
     }
 }
 
@@ -62,7 +61,7 @@ pub fn row_at<P: Pages>(
 pub fn rows_of_block<P: Pages>(
     alloc: Global,
     def: &TableDef,
-    ext: &Extents,
+    shape: Shape,
     pages: &mut P,
     block: u32,
 ) -> Result<Vec<Hit>, StoreFault>
@@ -70,19 +69,19 @@ pub fn rows_of_block<P: Pages>(
     requires place { def.now.number < 16 }
     requires going { (P.state pages.old).ended ≡ false }
     requires unmarked { (P.state pages.old).marked ≡ None }
-    ensures rows { IfOk result (λ hits. (owners : List Kind) (forests : TableForests) → StandsTable P.Pages ext.now pages.old def.now owners forests → Contains (lines.used_blocks forests.map) block
-        → map placed_row hits.items ≡ rows_in_block ext.now (pages_of P.Pages pages.old) def.now block) }
+    ensures rows { IfOk result (λ hits. (owners : List Kind) (forests : TableForests) → StandsTable P.Pages shape pages.old def.now owners forests → Contains (lines.used_blocks forests.map) block
+        → map placed_row hits.items ≡ rows_in_block shape (pages_of P.Pages pages.old) def.now block) }
     ensures keyed { IfOk result (λ hits. HaveReadValues def.now.columns hits.items) }
-    ensures exact { HasUsedIfStanding P.Pages ext.now pages.old def.now block → AnswersExactly P.Pages ext.now def.now pages.old (fault_of result) }
+    ensures exact { HasUsedIfStanding P.Pages shape pages.old def.now block → AnswersExactly P.Pages shape def.now pages.old (fault_of result) }
     ensures same { (P.state pages.new).work ≡ (P.state pages.old).work }
     ensures unmarked { (P.state pages.new).marked ≡ None }
     ensures steady { Steady P.Pages pages.old pages.new }
     ensures device { CountsFault (fault_of result ≡ Some store.Device) (P.disk_faults pages.old) (P.disk_faults pages.new) }
-    ensures once { OnOk result (BringsOnce P.Pages (IsPageOfBlock ext.now block) pages.old pages.new) }
+    ensures once { OnOk result (BringsOnce P.Pages (IsPageOfBlock shape block) pages.old pages.new) }
 {
-    match rows_of_used_block(alloc, def, ext, pages, block) {
+    match rows_of_used_block(alloc, def, shape, pages, block) {
         Ok(hits) => Ok(hits),
-        Err(fault) => Err(exact_fault(alloc, def, ext, pages, fault)),
+        Err(fault) => Err(exact_fault(alloc, def, shape, pages, fault)),
     }
 }
 
@@ -90,24 +89,24 @@ pub fn rows_of_block<P: Pages>(
 pub fn used_blocks<P: Pages>(
     alloc: Global,
     def: &TableDef,
-    ext: &Extents,
+    shape: Shape,
     pages: &mut P,
 ) -> Result<Blocks, StoreFault>
     requires defined { IsTableDef def.now.number def.now }
     requires place { def.now.number < 16 }
     requires going { (P.state pages.old).ended ≡ false }
     requires unmarked { (P.state pages.old).marked ≡ None }
-    ensures listed { IfOk result (λ blocks. (owners : List Kind) (forests : TableForests) → StandsTable P.Pages ext.now pages.old def.now owners forests → blocks ≡ lines.used_blocks forests.map) }
-    ensures exact { AnswersExactly P.Pages ext.now def.now pages.old (fault_of result) }
+    ensures listed { IfOk result (λ blocks. (owners : List Kind) (forests : TableForests) → StandsTable P.Pages shape pages.old def.now owners forests → blocks ≡ lines.used_blocks forests.map) }
+    ensures exact { AnswersExactly P.Pages shape def.now pages.old (fault_of result) }
     ensures same { (P.state pages.new).work ≡ (P.state pages.old).work }
     ensures unmarked { (P.state pages.new).marked ≡ None }
     ensures steady { Steady P.Pages pages.old pages.new }
     ensures device { CountsFault (fault_of result ≡ Some store.Device) (P.disk_faults pages.old) (P.disk_faults pages.new) }
     ensures brings { OnOk result (BringsOnly P.Pages (IsTreePageAt P.Pages pages.old (map_place def.now)) pages.old pages.new) }
 {
-    match mdc_table::used_blocks(alloc, def, ext, pages) {
+    match mdc_table::used_blocks(alloc, def, shape, pages) {
         Ok(blocks) => Ok(blocks),
-        Err(fault) => Err(exact_fault(alloc, def, ext, pages, fault)),
+        Err(fault) => Err(exact_fault(alloc, def, shape, pages, fault)),
     }
 }
 
@@ -115,24 +114,24 @@ pub fn used_blocks<P: Pages>(
 pub fn account_of<P: Pages>(
     alloc: Global,
     def: &TableDef,
-    ext: &Extents,
+    shape: Shape,
     pages: &mut P,
 ) -> Result<Account, StoreFault>
     requires defined { IsTableDef def.now.number def.now }
     requires place { def.now.number < 16 }
     requires going { (P.state pages.old).ended ≡ false }
     requires unmarked { (P.state pages.old).marked ≡ None }
-    ensures counts { IfOk result (λ account. (owners : List Kind) (forests : TableForests) → StandsTable P.Pages ext.now pages.old def.now owners forests → CountsBlocks forests.map account) }
-    ensures exact { AnswersExactly P.Pages ext.now def.now pages.old (fault_of result) }
+    ensures counts { IfOk result (λ account. (owners : List Kind) (forests : TableForests) → StandsTable P.Pages shape pages.old def.now owners forests → CountsBlocks forests.map account) }
+    ensures exact { AnswersExactly P.Pages shape def.now pages.old (fault_of result) }
     ensures same { (P.state pages.new).work ≡ (P.state pages.old).work }
     ensures unmarked { (P.state pages.new).marked ≡ None }
     ensures steady { Steady P.Pages pages.old pages.new }
     ensures device { CountsFault (fault_of result ≡ Some store.Device) (P.disk_faults pages.old) (P.disk_faults pages.new) }
     ensures brings { OnOk result (BringsOnly P.Pages (IsTreePageAt P.Pages pages.old (map_place def.now)) pages.old pages.new) }
 {
-    match mdc_table::account_of(alloc, def, ext, pages) {
+    match mdc_table::account_of(alloc, def, shape, pages) {
         Ok(account) => Ok(account),
-        Err(fault) => Err(exact_fault(alloc, def, ext, pages, fault)),
+        Err(fault) => Err(exact_fault(alloc, def, shape, pages, fault)),
     }
 }
 
@@ -142,7 +141,7 @@ pub fn account_of<P: Pages>(
 pub fn find_rows<P: Pages>(
     alloc: Global,
     def: &TableDef,
-    ext: &Extents,
+    shape: Shape,
     pages: &mut P,
     pred: &Option<Pred>,
 ) -> Result<Vec<Hit>, StoreFault>
@@ -151,20 +150,20 @@ pub fn find_rows<P: Pages>(
     requires judged { (row : Row) → HasReadValues def.now.columns row → IsTrue (may_filter pred.now row.values) }
     requires going { (P.state pages.old).ended ≡ false }
     requires unmarked { (P.state pages.old).marked ≡ None }
-    ensures finds { IfOk result (λ hits. (owners : List Kind) (forests : TableForests) → StandsTable P.Pages ext.now pages.old def.now owners forests
-        → FindsRows P.Pages ext.now pages.old def.now pred.now hits.items forests) }
-    ensures seen { IfOk result (λ hits. IsTrue (P.state pages.old).is_told → HasSeenTable P.Pages ext.now pages.old def.now pred.now hits.items) }
+    ensures finds { IfOk result (λ hits. (owners : List Kind) (forests : TableForests) → StandsTable P.Pages shape pages.old def.now owners forests
+        → FindsRows P.Pages shape pages.old def.now pred.now hits.items forests) }
+    ensures seen { IfOk result (λ hits. IsTrue (P.state pages.old).is_told → HasSeenTable P.Pages shape pages.old def.now pred.now hits.items) }
     ensures keyed { IfOk result (λ hits. HaveReadValues def.now.columns hits.items) }
-    ensures exact { AnswersExactly P.Pages ext.now def.now pages.old (fault_of result) }
+    ensures exact { AnswersExactly P.Pages shape def.now pages.old (fault_of result) }
     ensures same { (P.state pages.new).work ≡ (P.state pages.old).work }
     ensures unmarked { (P.state pages.new).marked ≡ None }
     ensures steady { Steady P.Pages pages.old pages.new }
     ensures device { CountsFault (fault_of result ≡ Some store.Device) (P.disk_faults pages.old) (P.disk_faults pages.new) }
-    ensures once { OnOk result (ScansOnce P.Pages (IsChoicePage P.Pages ext.now pages.old def.now) (IsChosenRowPage P.Pages ext.now pages.old def.now pred.now) pages.old pages.new) }
-    ensures brings { OnOk result (BringsOnly P.Pages (IsScannedPage P.Pages ext.now pages.old def.now pred.now) pages.old pages.new) }
+    ensures once { OnOk result (ScansOnce P.Pages (IsChoicePage P.Pages shape pages.old def.now) (IsChosenRowPage P.Pages shape pages.old def.now pred.now) pages.old pages.new) }
+    ensures brings { OnOk result (BringsOnly P.Pages (IsScannedPage P.Pages shape pages.old def.now pred.now) pages.old pages.new) }
 {
-    match table_scan::find_rows(alloc, def, ext, pages, pred) {
+    match table_scan::find_rows(alloc, def, shape, pages, pred) {
         Ok(hits) => Ok(hits),
-        Err(fault) => Err(exact_fault(alloc, def, ext, pages, fault)),
+        Err(fault) => Err(exact_fault(alloc, def, shape, pages, fault)),
     }
 }

@@ -10,12 +10,12 @@ use Rattle.store_api.specs.RunsOverPages.{RunsOverPages}
 use Rattle.store_api.specs.declared.fault.Damage.{Damage}
 use Rattle.store_api.specs.declared.fault.StoreFault.{StoreFault}
 use Rattle.store_api.specs.declared.pages.Pages.{Ghosts}
-use Rattle.extent_map.specs.Damages.{BreaksUsedPage}
+use Rattle.store_api.specs.declared.shape.Shape.{Shape}
 use Rattle.extent_map.specs.Damages.{BreaksUsedPage}
 use Rattle.extent_map.specs.Map.{HoldsMap, IsMapPage}
-use Rattle.extent_map.specs.Owners.{AreRightNotes, IsSameShape, IsUsedPage, without_page}
-use Rattle.extent_map.specs.declared.extents.Extents.{Extents}
+use Rattle.extent_map.specs.Owners.{AreRightNotes, IsUsedPage, without_page}
 use Rattle.extent_map.specs.declared.kind.Kind.{Kind}
+use Rattle.extent_map.specs.declared.space_notes.SpaceNotes.{SpaceNotes}
 use Rattle.extent_map.proofs.HoldsMapLemmas.{holds_map_run}
 use Rattle.entry_tree.specs.Forest.{Forest}
 use Rattle.entry_tree.specs.HeldTrees.{nodes_in}
@@ -27,7 +27,7 @@ use Rattle.entry_tree.specs.declared.tree.Tree.{Tree}
 use Rattle.entry_tree.proofs.DroppingLemmas.{IsPruned-agree, drops_inner, drops_other, node_above, other_above}
 use Rattle.entry_tree.proofs.HeldTreesLemmas.{nodes_same}
 use Rattle.entry_tree.proofs.LentNodesLemmas.{nodes_in-some, nodes_kept_all}
-use Rattle.entry_tree.proofs.ReturnedPagesLemmas.{apart_from_map, map_page-shape, without_page-shape}
+use Rattle.entry_tree.proofs.ReturnedPagesLemmas.{apart_from_map}
 
 pub breaks_where : {tree : Tree} {Wide Expected : Type 0} {damage : Damage} → BreaksWhere tree Wide damage → (Expected → Wide) → BreaksWhere tree Expected damage
 breaks_where b wider = record { page = b.page; rule = b.rule; not_so = λ e. b.not_so (wider e) }
@@ -75,19 +75,19 @@ module _ {S : Type 0} (g : Ghosts S) (s : S) (tree : Tree) (leaf page at : ℕ) 
       let o = other_above d.0 (nodes_in tree.width (g.state s)) tree.root d.1 d.2 d.3 leaf page at other d.4 b.0 b.1 in
       (λ (k : nodes_in tree.width (g.state m) other ≡ NoNode). o.is_node (sym same ∙ k))
 
-module _ {S : Type 0} {g : Ghosts S} {ext : Extents} {s : S} {tree : Tree} {leaf page at : ℕ} where
+module _ {S : Type 0} {g : Ghosts S} {shape : Shape} {s : S} {tree : Tree} {leaf page at : ℕ} where
   module _ {owners : List Kind} {was : ℕ → Node} {t : Forest} {f : Frame} {fs : List Frame} where
     -- the map stands while the node above is written
-    pub map_stands : {m0 m1 : S} {K0 K1 : ℕ → Type 0} {B0 B1 : Damage → Type 0} {fault : Option StoreFault} → IsDropping g ext s tree owners was t f fs leaf page at
-        → RunsOverPages g NoPage K0 B0 s m0 None → RunsOverPages g (OnlyPage page) K1 B1 m0 m1 fault → HoldsMap g ext m1 owners
+    pub map_stands : {m0 m1 : S} {K0 K1 : ℕ → Type 0} {B0 B1 : Damage → Type 0} {fault : Option StoreFault} → IsDropping g shape s tree owners was t f fs leaf page at
+        → RunsOverPages g NoPage K0 B0 s m0 None → RunsOverPages g (OnlyPage page) K1 B1 m0 m1 fault → HoldsMap g shape m1 owners
     map_stands d first second =
         let n = node_above was (nodes_in tree.width (g.state s)) tree.root t f fs leaf page at d.emptied in
-        holds_map_run second (λ p map is. apart_from_map ext page (d.used page n.there).page (subst (IsMapPage ext) is map)) (holds_map_run first (λ p map none. none) d.map)
+        holds_map_run second (λ p map is. apart_from_map shape page (d.used page n.there).page (subst (IsMapPage shape) is map)) (holds_map_run first (λ p map none. none) d.map)
 
-    pub leaf_used : IsDropping g ext s tree owners was t f fs leaf page at → IsUsedPage ext owners leaf
+    pub leaf_used : IsDropping g shape s tree owners was t f fs leaf page at → IsUsedPage shape owners leaf
     leaf_used d = d.used leaf (node_above was (nodes_in tree.width (g.state s)) tree.root t f fs leaf page at d.emptied).leaf_there
 
-    pub other_used : (other : ℕ) → IsDropping g ext s tree owners was t f fs leaf page at → HasBeside (nodes_in tree.width (g.state s) page) at (Some other) → IsUsedPage ext owners other × (other ≢ leaf)
+    pub other_used : (other : ℕ) → IsDropping g shape s tree owners was t f fs leaf page at → HasBeside (nodes_in tree.width (g.state s) page) at (Some other) → IsUsedPage shape owners other × (other ≢ leaf)
     other_used other d beside =
         let n = node_above was (nodes_in tree.width (g.state s)) tree.root t f fs leaf page at d.emptied in
         let b = beside_some (nodes_in tree.width (g.state s) page) at other n.seps n.children n.node beside in
@@ -95,14 +95,14 @@ module _ {S : Type 0} {g : Ghosts S} {ext : Extents} {s : S} {tree : Tree} {leaf
         (d.used other o.there, o.apart)
 
     -- what a leaf that goes from a node with more children leaves
-    pub drops_none : {m0 m1 m2 : S} {after : Extents} {K0 K1 K2 : ℕ → Type 0} {B0 B1 B2 : Damage → Type 0} {fault : Option StoreFault} → IsDropping g ext s tree owners was t f fs leaf page at
+    pub drops_none : {m0 m1 m2 : S} {noted after : SpaceNotes} {K0 K1 K2 : ℕ → Type 0} {B0 B1 B2 : Damage → Type 0} {fault : Option StoreFault} → IsDropping g shape s tree owners was t f fs leaf page at
         → HasBeside (nodes_in tree.width (g.state s) page) at None → RunsOverPages g NoPage K0 B0 s m0 None → (g.state m0).work ≡ (g.state s).work
         → ((seps : List Entry) (children : List ℕ) → nodes_in tree.width (g.state m0) page ≡ InnerNode seps children → at ≤ length seps → 1 < length seps
         → IsPut (nodes_in tree.width (g.state m0)) (nodes_in tree.width (g.state m1)) page (InnerNode (remove seps (at - 1)) (remove children at)))
-        → RunsOverPages g (OnlyPage page) K1 B1 m0 m1 None → RunsOverPages g (IsMapPage ext) K2 B2 m1 m2 fault → length (g.state m2).work ≡ length (g.state m1).work
-        → ((o : List Kind) → HoldsMap g ext m1 o → HoldsMap g after m2 (without_page ext o leaf))
-        → ((o : List Kind) → HoldsMap g ext m1 o → AreRightNotes ext o → AreRightNotes after (without_page ext o leaf))
-        → DropsLeaf g ext after m2 tree owners t (f ∷ fs)
+        → RunsOverPages g (OnlyPage page) K1 B1 m0 m1 None → RunsOverPages g (IsMapPage shape) K2 B2 m1 m2 fault → length (g.state m2).work ≡ length (g.state m1).work
+        → ((o : List Kind) → HoldsMap g shape m1 o → HoldsMap g shape m2 (without_page shape o leaf))
+        → ((o : List Kind) → HoldsMap g shape m1 o → AreRightNotes shape noted o → AreRightNotes shape after (without_page shape o leaf))
+        → DropsLeaf g shape noted after m2 tree owners t (f ∷ fs)
     drops_none {m0} {m1} {m2} d beside run0 same0 taken run1 run2 count gives notes =
         let n = node_above was (nodes_in tree.width (g.state s)) tree.root t f fs leaf page at d.emptied in
         let more = beside_none (nodes_in tree.width (g.state s) page) at n.seps n.children n.node beside in
@@ -112,25 +112,25 @@ module _ {S : Type 0} {g : Ghosts S} {ext : Extents} {s : S} {tree : Tree} {leaf
         record {
           gone = leaf ∷ [];
           pruned = IsPruned-agree (nodes_in tree.width (g.state m1)) (nodes_in tree.width (g.state m2)) tree.root t (f ∷ fs) [] (leaf ∷ [])
-              (λ p there. nodes_kept_all tree.width p run2.touches run2.works.steady.is_told count (apart_from_map ext p (d.used p there).page))
+              (λ p there. nodes_kept_all tree.width p run2.touches run2.works.steady.is_told count (apart_from_map shape p (d.used p there).page))
               (drops_inner was (nodes_in tree.width (g.state s)) (nodes_in tree.width (g.state m1)) tree.root t f fs leaf page at d.emptied more put);
           map = gives owners map;
           notes = notes owners map;
         }
 
     -- and one that goes from a node with one child more
-    pub drops_some : {m0 m1 m2 m3 : S} {now after : Extents} (other : ℕ) {K0 K1 K2 K3 : ℕ → Type 0} {B0 B1 B2 B3 : Damage → Type 0} {fault : Option StoreFault} → IsDropping g ext s tree owners was t f fs leaf page at
+    pub drops_some : {m0 m1 m2 m3 : S} {noted now after : SpaceNotes} (other : ℕ) {K0 K1 K2 K3 : ℕ → Type 0} {B0 B1 B2 B3 : Damage → Type 0} {fault : Option StoreFault} → IsDropping g shape s tree owners was t f fs leaf page at
         → HasBeside (nodes_in tree.width (g.state s) page) at (Some other) → RunsOverPages g NoPage K0 B0 s m0 None → (g.state m0).work ≡ (g.state s).work
         → (IsSomeNode (nodes_in tree.width (g.state m0) other) → IsPut (nodes_in tree.width (g.state m0)) (nodes_in tree.width (g.state m1)) page (nodes_in tree.width (g.state m0) other))
         → RunsOverPages g (OnlyPage page) K1 B1 m0 m1 None
-        → RunsOverPages g (IsMapPage ext) K2 B2 m1 m2 None → length (g.state m2).work ≡ length (g.state m1).work → IsSameShape ext now
-        → RunsOverPages g (IsMapPage now) K3 B3 m2 m3 fault → length (g.state m3).work ≡ length (g.state m2).work
-        → ((o : List Kind) → HoldsMap g ext m1 o → HoldsMap g now m2 (without_page ext o other))
-        → ((o : List Kind) → HoldsMap g ext m1 o → AreRightNotes ext o → AreRightNotes now (without_page ext o other))
-        → ((o : List Kind) → HoldsMap g now m2 o → HoldsMap g after m3 (without_page now o leaf))
-        → ((o : List Kind) → HoldsMap g now m2 o → AreRightNotes now o → AreRightNotes after (without_page now o leaf))
-        → DropsLeaf g ext after m3 tree owners t (f ∷ fs)
-    drops_some {m0} {m1} {m2} {m3} {now} {after} other d beside run0 same0 taken run1 run2 count2 shape run3 count3 gives notes gives_last notes_last =
+        → RunsOverPages g (IsMapPage shape) K2 B2 m1 m2 None → length (g.state m2).work ≡ length (g.state m1).work
+        → RunsOverPages g (IsMapPage shape) K3 B3 m2 m3 fault → length (g.state m3).work ≡ length (g.state m2).work
+        → ((o : List Kind) → HoldsMap g shape m1 o → HoldsMap g shape m2 (without_page shape o other))
+        → ((o : List Kind) → HoldsMap g shape m1 o → AreRightNotes shape noted o → AreRightNotes shape now (without_page shape o other))
+        → ((o : List Kind) → HoldsMap g shape m2 o → HoldsMap g shape m3 (without_page shape o leaf))
+        → ((o : List Kind) → HoldsMap g shape m2 o → AreRightNotes shape now o → AreRightNotes shape after (without_page shape o leaf))
+        → DropsLeaf g shape noted after m3 tree owners t (f ∷ fs)
+    drops_some {m0} {m1} {m2} {m3} other d beside run0 same0 taken run1 run2 count2 run3 count3 gives notes gives_last notes_last =
         let n = node_above was (nodes_in tree.width (g.state s)) tree.root t f fs leaf page at d.emptied in
         let b = beside_some (nodes_in tree.width (g.state s) page) at other n.seps n.children n.node beside in
         let o = other_above was (nodes_in tree.width (g.state s)) tree.root t f fs leaf page at other d.emptied b.0 b.1 in
@@ -139,21 +139,20 @@ module _ {S : Type 0} {g : Ghosts S} {ext : Extents} {s : S} {tree : Tree} {leaf
         let put_here : IsPut (nodes_in tree.width (g.state s)) (nodes_in tree.width (g.state m1)) page (nodes_in tree.width (g.state s) other) =
         record { there = put.there ∙ same other; others = λ k apart. put.others k apart ∙ same k } in
         let map = map_stands d run0 run1 in
-        let shaped = without_page-shape ext now (without_page ext owners other) leaf shape in
         record {
           gone = other ∷ leaf ∷ [];
           pruned = IsPruned-agree (nodes_in tree.width (g.state m1)) (nodes_in tree.width (g.state m3)) tree.root t (f ∷ fs) [] (other ∷ leaf ∷ [])
               (λ p there.
-              let apart = apart_from_map ext p (d.used p there).page in
-              nodes_kept_all tree.width p run3.touches run3.works.steady.is_told count3 (λ is. apart (map_page-shape ext now p shape is))
+              let apart = apart_from_map shape p (d.used p there).page in
+              nodes_kept_all tree.width p run3.touches run3.works.steady.is_told count3 apart
               ∙ nodes_kept_all tree.width p run2.touches run2.works.steady.is_told count2 apart)
               (drops_other was (nodes_in tree.width (g.state s)) (nodes_in tree.width (g.state m1)) tree.root t f fs leaf page at other d.emptied b.0 b.1 put_here);
-          map = subst (HoldsMap g after m3) shaped (gives_last (without_page ext owners other) (gives owners map));
-          notes = λ right. subst (AreRightNotes after) shaped (notes_last (without_page ext owners other) (gives owners map) (notes owners map right));
+          map = gives_last (without_page shape owners other) (gives owners map);
+          notes = λ right. notes_last (without_page shape owners other) (gives owners map) (notes owners map right);
         }
 
   -- what a return may name
-  pub giving : {now : Extents} {mid : S} {p : ℕ} {damage : Damage} → IsSameShape ext now → BreaksUsedPage g now mid p damage
-      → ((owners : List Kind) → IsDroppable g ext s tree leaf page at owners → (more : List Kind) × HoldsMap g now mid more × IsUsedPage now more p)
-      → BreaksDrop g ext s tree leaf page at damage
-  giving {now} {mid} {p} shape u told = inr (record { mid = mid; ext = now; shape = shape; page = p; map = told; breaks = u })
+  pub giving : {mid : S} {p : ℕ} {damage : Damage} → BreaksUsedPage g shape mid p damage
+      → ((owners : List Kind) → IsDroppable g shape s tree leaf page at owners → (more : List Kind) × HoldsMap g shape mid more × IsUsedPage shape more p)
+      → BreaksDrop g shape s tree leaf page at damage
+  giving {mid} {p} u told = inr (record { mid = mid; page = p; map = told; breaks = u })

@@ -8,19 +8,20 @@ use Rattle.mdc_words.proofs.ListedLemmas.{get_or-listed, length-listed}
 use Rattle.node_page.specs.Node.{Node, node_of}
 use Rattle.node_page.specs.Node.Node.{InnerNode, LeafNode, NoNode}
 use Rattle.node_page.specs.Looked.{SeenNode, children_in, entries_in, is_leaf_node, seen_node}
-use Rattle.store_api.specs.Extents.{first_count, map_pages}
+use Rattle.store_api.specs.Extents.{map_pages}
 use Rattle.store_api.specs.RunsOverPages.{RunsOverPages}
 use Rattle.store_api.specs.Works.{Steady}
 use Rattle.store_api.specs.declared.fault.Damage.{Damage}
 use Rattle.store_api.specs.declared.fault.StoreFault.{StoreFault}
 use Rattle.store_api.specs.declared.fault.StoreFault.TheVariants.{Damaged}
 use Rattle.store_api.specs.declared.pages.Pages.{Ghosts}
+use Rattle.store_api.specs.declared.shape.Shape.{Shape}
 use Rattle.store_api.proofs.RunsOverPagesLemmas.{runs_damage}
 use Rattle.extent_map.specs.Damages.{BreaksUsedPage}
 use Rattle.extent_map.specs.Map.{IsMapPage, map_page_of}
-use Rattle.extent_map.specs.Owners.{IsExtentPage, IsSameShape, extent_of}
-use Rattle.extent_map.specs.declared.extents.Extents.{Extents}
+use Rattle.extent_map.specs.Owners.{IsExtentPage, extent_of}
 use Rattle.extent_map.specs.declared.kind.Kind.{Kind}
+use Rattle.extent_map.specs.declared.space_notes.SpaceNotes.{SpaceNotes}
 use Rattle.extent_map.proofs.DamagesLemmas.{breaks_used_page_never}
 use Rattle.extent_map.proofs.ExtentsLemmas.{extent_below}
 use Rattle.extent_map.proofs.HoldsMapLemmas.{holds_map_same, is_map_page}
@@ -84,66 +85,63 @@ module _ {S : Type 0} {g : Ghosts S} where
       subst (λ (f : StoreFault). RunsOverPages g Mine Kd (BreaksNode g old tree page) old new (Some f)) (sym is) (runs_damage run breaks)
 
   -- a run that finds the tree broken
-  pub runs_freeing : {Mine Kd : ℕ → Type 0} {ext : Extents} {old new : S} {tree : Tree} (fault : StoreFault) → fault ≡ Damaged (record { page = tree.root; rule = 4 })
-      → RunsOverPages g Mine Kd (BreaksFreeing g ext old tree) old new None → ((owners : List Kind) (t : Forest) → StandsTree g ext old tree owners t → ⊥)
-      → RunsOverPages g Mine Kd (BreaksFreeing g ext old tree) old new (Some fault)
-  runs_freeing {Mine} {Kd} {ext} {old} {new} {tree} fault is run broken =
-      subst (λ (f : StoreFault). RunsOverPages g Mine Kd (BreaksFreeing g ext old tree) old new (Some f)) (sym is)
+  pub runs_freeing : {Mine Kd : ℕ → Type 0} {shape : Shape} {old new : S} {tree : Tree} (fault : StoreFault) → fault ≡ Damaged (record { page = tree.root; rule = 4 })
+      → RunsOverPages g Mine Kd (BreaksFreeing g shape old tree) old new None → ((owners : List Kind) (t : Forest) → StandsTree g shape old tree owners t → ⊥)
+      → RunsOverPages g Mine Kd (BreaksFreeing g shape old tree) old new (Some fault)
+  runs_freeing {Mine} {Kd} {shape} {old} {new} {tree} fault is run broken =
+      subst (λ (f : StoreFault). RunsOverPages g Mine Kd (BreaksFreeing g shape old tree) old new (Some f)) (sym is)
       (runs_damage run (record { named = inl (refl, refl); broken = λ owners t h. broken owners t h }))
 
   -- and one that meets a page that isn't used
-  pub runs_outside : {Mine Kd : ℕ → Type 0} {ext : Extents} {old new : S} {tree : Tree} (damage : Damage) → damage.rule ≡ 5
-      → RunsOverPages g Mine Kd (BreaksFreeing g ext old tree) old new None → ((owners : List Kind) (t : Forest) → StandsTree g ext old tree owners t → ⊥)
-      → RunsOverPages g Mine Kd (BreaksFreeing g ext old tree) old new (Some (Damaged damage))
+  pub runs_outside : {Mine Kd : ℕ → Type 0} {shape : Shape} {old new : S} {tree : Tree} (damage : Damage) → damage.rule ≡ 5
+      → RunsOverPages g Mine Kd (BreaksFreeing g shape old tree) old new None → ((owners : List Kind) (t : Forest) → StandsTree g shape old tree owners t → ⊥)
+      → RunsOverPages g Mine Kd (BreaksFreeing g shape old tree) old new (Some (Damaged damage))
   runs_outside damage is run broken = runs_damage run (record { named = inr (inr (inr is)); broken = λ owners t h. broken owners t h })
 
   -- a page that is to be done is a page of the tree
-  pub freeing_kind : {before ext : Extents} {s now : S} {tree : Tree} (todo rest : List ℕ) (page steps p : ℕ)
-      → ((owners : List Kind) (t : Forest) → StandsTree g before s tree owners t → IsFreeing g before ext now tree owners t todo steps) → todo ≡ rest ++ page ∷ [] → p ≡ page → IsFreeingPage g before s tree p
-  freeing_kind {before} {ext} {s} {now} {tree} todo rest page steps p f e q = λ owners t h.
-      inl (subst (λ (n : ℕ). 0 < times n t) (sym q) (freeing_page owners t rest page steps h (subst (λ (l : List ℕ). IsFreeing g before ext now tree owners t l steps) e (f owners t h))))
+  pub freeing_kind : {shape : Shape} {before noted : SpaceNotes} {s now : S} {tree : Tree} (todo rest : List ℕ) (page steps p : ℕ)
+      → ((owners : List Kind) (t : Forest) → StandsTree g shape s tree owners t → IsFreeing g shape before noted now tree owners t todo steps) → todo ≡ rest ++ page ∷ [] → p ≡ page → IsFreeingPage g shape s tree p
+  freeing_kind {shape} {before} {noted} {s} {now} {tree} todo rest page steps p f e q = λ owners t h.
+      inl (subst (λ (n : ℕ). 0 < times n t) (sym q) (freeing_page owners t rest page steps h (subst (λ (l : List ℕ). IsFreeing g shape before noted now tree owners t l steps) e (f owners t h))))
 
   -- which is a node
-  pub freeing_breaks_node : {before ext : Extents} {s now : S} {tree : Tree} (todo rest : List ℕ) (page steps : ℕ) (damage : Damage)
-      → ((owners : List Kind) (t : Forest) → StandsTree g before s tree owners t → IsFreeing g before ext now tree owners t todo steps) → todo ≡ rest ++ page ∷ []
-      → BreaksNode g now tree page damage → BreaksFreeing g before s tree damage
-  freeing_breaks_node {before} {ext} {s} {now} {tree} todo rest page steps damage f e b = record {
+  pub freeing_breaks_node : {shape : Shape} {before noted : SpaceNotes} {s now : S} {tree : Tree} (todo rest : List ℕ) (page steps : ℕ) (damage : Damage)
+      → ((owners : List Kind) (t : Forest) → StandsTree g shape s tree owners t → IsFreeing g shape before noted now tree owners t todo steps) → todo ≡ rest ++ page ∷ []
+      → BreaksNode g now tree page damage → BreaksFreeing g shape s tree damage
+  freeing_breaks_node {shape} {before} {noted} {s} {now} {tree} todo rest page steps damage f e b = record {
     named = inl (b.page, b.rule);
-    broken = λ owners t h. freeing_node owners t rest page steps (subst (λ (l : List ℕ). IsFreeing g before ext now tree owners t l steps) e (f owners t h)) b.leaf b.inner;
+    broken = λ owners t h. freeing_node owners t rest page steps (subst (λ (l : List ℕ). IsFreeing g shape before noted now tree owners t l steps) e (f owners t h)) b.leaf b.inner;
   }
 
   -- in an extent
-  pub freeing_extent : {before ext : Extents} {s now : S} {tree : Tree} (todo rest : List ℕ) (page steps : ℕ)
-      → ((owners : List Kind) (t : Forest) → StandsTree g before s tree owners t → IsFreeing g before ext now tree owners t todo steps) → todo ≡ rest ++ page ∷ [] → IsSameShape before ext
-      → (owners : List Kind) (t : Forest) → StandsTree g before s tree owners t → IsExtentPage ext page
-  freeing_extent {before} {ext} {s} {now} {tree} todo rest page steps f e shape owners t h =
-      (freeing_used_page owners t rest page steps h (subst (λ (l : List ℕ). IsFreeing g before ext now tree owners t l steps) e (f owners t h)) shape).page
+  pub freeing_extent : {shape : Shape} {before noted : SpaceNotes} {s now : S} {tree : Tree} (todo rest : List ℕ) (page steps : ℕ)
+      → ((owners : List Kind) (t : Forest) → StandsTree g shape s tree owners t → IsFreeing g shape before noted now tree owners t todo steps) → todo ≡ rest ++ page ∷ []
+      → (owners : List Kind) (t : Forest) → StandsTree g shape s tree owners t → IsExtentPage shape page
+  freeing_extent {shape} {before} {noted} {s} {now} {tree} todo rest page steps f e owners t h =
+      (freeing_used_page owners t rest page steps h (subst (λ (l : List ℕ). IsFreeing g shape before noted now tree owners t l steps) e (f owners t h))).page
 
   -- and a used page, so that the map isn't broken there
-  pub freeing_breaks_map : {before ext : Extents} {s now mid : S} {tree : Tree} (todo rest : List ℕ) (page steps : ℕ) (damage : Damage)
-      → ((owners : List Kind) (t : Forest) → StandsTree g before s tree owners t → IsFreeing g before ext now tree owners t todo steps) → todo ≡ rest ++ page ∷ [] → IsSameShape before ext
+  pub freeing_breaks_map : {shape : Shape} {before noted : SpaceNotes} {s now mid : S} {tree : Tree} (todo rest : List ℕ) (page steps : ℕ) (damage : Damage)
+      → ((owners : List Kind) (t : Forest) → StandsTree g shape s tree owners t → IsFreeing g shape before noted now tree owners t todo steps) → todo ≡ rest ++ page ∷ []
       → Steady g now mid → (g.state mid).work ≡ (g.state now).work → length (g.state now).work ≡ length (g.state s).work
-      → BreaksUsedPage g ext mid page damage → BreaksFreeing g before s tree damage
-  freeing_breaks_map {before} {ext} {s} {now} {mid} {tree} todo rest page steps damage f e shape steady same count b = record {
+      → BreaksUsedPage g shape mid page damage → BreaksFreeing g shape s tree damage
+  freeing_breaks_map {shape} {before} {noted} {s} {now} {mid} {tree} todo rest page steps damage f e steady same count b = record {
     named = inr (names b);
     broken = λ owners t h.
-        let k = subst (λ (l : List ℕ). IsFreeing g before ext now tree owners t l steps) e (f owners t h) in
-        breaks_used_page_never page damage (holds_map_same steady.is_told same k.map) (freeing_used_page owners t rest page steps h k shape) b;
+        let k = subst (λ (l : List ℕ). IsFreeing g shape before noted now tree owners t l steps) e (f owners t h) in
+        breaks_used_page_never page damage (holds_map_same steady.is_told same k.map) (freeing_used_page owners t rest page steps h k) b;
   }
     where
-      on_map : (i : ℕ) → damage.page ≡ 17 + i → i < map_pages ext.cap → IsMapPage before damage.page
-      on_map i p l = (omega (arith, p), subst (λ (c : ℕ). damage.page < first_count c) shape.cap (omega (arith, p, l)))
+      on_map : (i : ℕ) → damage.page ≡ 17 + i → i < map_pages shape.extents → IsMapPage shape damage.page
+      on_map i p l = (omega (arith, p), (omega (arith, p, l)))
 
-      names : BreaksUsedPage g ext mid page damage → ((damage.page ≡ 0) × (damage.rule ≡ 1)) ⊎ ((IsMapPage before damage.page × (damage.rule ≡ 2)) ⊎ (damage.rule ≡ 5))
+      names : BreaksUsedPage g shape mid page damage → ((damage.page ≡ 0) × (damage.rule ≡ 1)) ⊎ ((IsMapPage shape damage.page × (damage.rule ≡ 2)) ⊎ (damage.rule ≡ 5))
       names (inl (inl c)) = inl (c.page, c.rule)
       names (inl (inr (i, m))) = inr (inl (on_map i m.page m.on_map, m.rule))
       names (inr m) = inr (inr m.rule)
 
 -- what is written is a page of the map
-pub freeing_map_page : {before ext : Extents} (page p : ℕ) → IsSameShape before ext → IsExtentPage ext page → p ≡ map_page_of (extent_of ext page) → IsMapPage before p
-freeing_map_page {before} {ext} page p shape x e =
-    let m = is_map_page ext (extent_of ext page) p (extent_below ext page x) e in
-    (m.0, subst (λ (c : ℕ). p < first_count c) shape.cap m.1)
-
-pub shape_then : (one two three : Extents) → IsSameShape one two → IsSameShape two three → IsSameShape one three
-shape_then one two three a b = record { cap = b.cap ∙ a.cap; extent_pages = b.extent_pages ∙ a.extent_pages }
+pub freeing_map_page : {shape : Shape} (page p : ℕ) → IsExtentPage shape page → p ≡ map_page_of (extent_of shape page) → IsMapPage shape p
+freeing_map_page {shape} page p x e =
+    let m = is_map_page shape (extent_of shape page) p (extent_below shape page x) e in
+    (m.0, m.1)

@@ -6,18 +6,19 @@ use Rattle.std.proofs.lemmas.List.{get_or_past}
 use Rattle.std.proofs.Math.Seq.{drop-append_seam, take-append_seam}
 use Rattle.node_page.specs.Node.{Node}
 use Rattle.node_page.specs.Node.Node.{InnerNode, LeafNode, NoNode}
-use Rattle.store_api.specs.Extents.{first_count, first_page_of}
+use Rattle.store_api.specs.Extents.{first_page_of}
 use Rattle.store_api.specs.Frame.{OnlyPage}
 use Rattle.store_api.specs.RunsOverPages.{RunsOverPages}
 use Rattle.store_api.specs.Works.{Steady}
 use Rattle.store_api.specs.declared.fault.Damage.{Damage}
 use Rattle.store_api.specs.declared.pages.Pages.{Ghosts}
+use Rattle.store_api.specs.declared.shape.Shape.{Shape}
 use Rattle.extent_map.specs.Kinds.{is_used_place, without_place}
 use Rattle.extent_map.specs.Map.{HoldsMap, map_page_of}
-use Rattle.extent_map.specs.Owners.{AreRightNotes, IsExtentPage, IsSameShape, IsUsedPage, extent_of, owner_of, place_in_extent, without_page}
-use Rattle.extent_map.specs.declared.extents.Extents.{Extents}
+use Rattle.extent_map.specs.Owners.{AreRightNotes, IsExtentPage, IsUsedPage, extent_of, owner_of, place_in_extent, without_page}
 use Rattle.extent_map.specs.declared.kind.Kind.{Kind}
 use Rattle.extent_map.specs.declared.kind.Kind.TheVariants.{Free}
+use Rattle.extent_map.specs.declared.space_notes.SpaceNotes.{SpaceNotes}
 use Rattle.extent_map.proofs.BitsLemmas.{used_place-without_place_other}
 use Rattle.extent_map.proofs.ExtentsLemmas.{extent_below, extent_limits, page_of-parts, place_below}
 use Rattle.extent_map.proofs.HoldsMapLemmas.{holds_map_same, is_map_page}
@@ -78,46 +79,46 @@ few_among c ps d h = omega (arith, all_low_among c ps h, few_low_among c ps d)
 -- ---- owners once pages were given back
 
 -- another used page stays used
-used_beside : (ext : Extents) (owners : List Kind) (p q : ℕ) → IsUsedPage ext owners p → IsExtentPage ext q → p ≢ q → IsUsedPage ext (without_page ext owners q) p
-used_beside ext owners p q u x d = record { page = u.page; used = go (cases_eq (extent_of ext p) (extent_of ext q)) }
+used_beside : (shape : Shape) (owners : List Kind) (p q : ℕ) → IsUsedPage shape owners p → IsExtentPage shape q → p ≢ q → IsUsedPage shape (without_page shape owners q) p
+used_beside shape owners p q u x d = record { page = u.page; used = go (cases_eq (extent_of shape p) (extent_of shape q)) }
   where
-    few : ext.extent_pages ≤ 32
-    few = (extent_limits ext).1
+    few : shape.extent_pages ≤ 32
+    few = (extent_limits shape).1
 
     kind : Kind
-    kind = without_place (place_in_extent ext q) (owner_of owners (extent_of ext q))
+    kind = without_place (place_in_extent shape q) (owner_of owners (extent_of shape q))
 
-    apart : extent_of ext p ≡ extent_of ext q → place_in_extent ext p ≢ place_in_extent ext q
-    apart e k = d (sym (page_of-parts ext p u.page) ∙ ap (λ (n : ℕ). first_page_of ext.cap ext.extent_pages n + place_in_extent ext p) e ∙ ap (λ (n : ℕ). first_page_of ext.cap ext.extent_pages (extent_of ext q) + n) k ∙ page_of-parts ext q x)
+    apart : extent_of shape p ≡ extent_of shape q → place_in_extent shape p ≢ place_in_extent shape q
+    apart e k = d (sym (page_of-parts shape p u.page) ∙ ap (λ (n : ℕ). first_page_of shape.extents shape.extent_pages n + place_in_extent shape p) e ∙ ap (λ (n : ℕ). first_page_of shape.extents shape.extent_pages (extent_of shape q) + n) k ∙ page_of-parts shape q x)
 
-    go : (extent_of ext p ≡ extent_of ext q) ⊎ (extent_of ext p ≢ extent_of ext q) → IsTrue (is_used_place (place_in_extent ext p) (owner_of (without_page ext owners q) (extent_of ext p)))
-    go (inl e) = elim (cases_lt (extent_of ext q) (length owners)) [
+    go : (extent_of shape p ≡ extent_of shape q) ⊎ (extent_of shape p ≢ extent_of shape q) → IsTrue (is_used_place (place_in_extent shape p) (owner_of (without_page shape owners q) (extent_of shape p)))
+    go (inl e) = elim (cases_lt (extent_of shape q) (length owners)) [
       | inl within ↦
-          let there : owner_of (without_page ext owners q) (extent_of ext p) ≡ kind =
-          ap (λ (k : ℕ). owner_of (without_page ext owners q) k) e ∙ get_or-set_same owners (extent_of ext q) kind Free within in
-          let same : is_used_place (place_in_extent ext p) kind ≡ is_used_place (place_in_extent ext p) (owner_of owners (extent_of ext q)) =
-          used_place-without_place_other (place_in_extent ext p) (place_in_extent ext q) (owner_of owners (extent_of ext q)) (omega (arith, few, place_below ext p)) (omega (arith, few, place_below ext q)) (apart e) in
-          let was : IsTrue (is_used_place (place_in_extent ext p) (owner_of owners (extent_of ext q))) = subst (λ (k : ℕ). IsTrue (is_used_place (place_in_extent ext p) (owner_of owners k))) e u.used in
-          subst (λ (k : Kind). IsTrue (is_used_place (place_in_extent ext p) k)) (sym there) (same ∙ was)
+          let there : owner_of (without_page shape owners q) (extent_of shape p) ≡ kind =
+          ap (λ (k : ℕ). owner_of (without_page shape owners q) k) e ∙ get_or-set_same owners (extent_of shape q) kind Free within in
+          let same : is_used_place (place_in_extent shape p) kind ≡ is_used_place (place_in_extent shape p) (owner_of owners (extent_of shape q)) =
+          used_place-without_place_other (place_in_extent shape p) (place_in_extent shape q) (owner_of owners (extent_of shape q)) (omega (arith, few, place_below shape p)) (omega (arith, few, place_below shape q)) (apart e) in
+          let was : IsTrue (is_used_place (place_in_extent shape p) (owner_of owners (extent_of shape q))) = subst (λ (k : ℕ). IsTrue (is_used_place (place_in_extent shape p) (owner_of owners k))) e u.used in
+          subst (λ (k : Kind). IsTrue (is_used_place (place_in_extent shape p) k)) (sym there) (same ∙ was)
       | inr past ↦
-          let none : owner_of owners (extent_of ext p) ≡ Free = ap (λ (k : ℕ). owner_of owners k) e ∙ get_or_past owners (extent_of ext q) Free past in
-          let wrong : IsTrue (is_used_place (place_in_extent ext p) Free) = subst (λ (k : Kind). IsTrue (is_used_place (place_in_extent ext p) k)) none u.used in cc
+          let none : owner_of owners (extent_of shape p) ≡ Free = ap (λ (k : ℕ). owner_of owners k) e ∙ get_or_past owners (extent_of shape q) Free past in
+          let wrong : IsTrue (is_used_place (place_in_extent shape p) Free) = subst (λ (k : Kind). IsTrue (is_used_place (place_in_extent shape p) k)) none u.used in cc
     ]
-    go (inr n) = subst (λ (k : Kind). IsTrue (is_used_place (place_in_extent ext p) k)) (sym (get_or-set_other owners (extent_of ext q) (extent_of ext p) kind Free n)) u.used
+    go (inr n) = subst (λ (k : Kind). IsTrue (is_used_place (place_in_extent shape p) k)) (sym (get_or-set_other owners (extent_of shape q) (extent_of shape p) kind Free n)) u.used
 
 -- the owners once these pages were given back, the last one first
-abbrev pub owners_without : Extents → List Kind → List ℕ → List Kind
-owners_without ext owners [] = owners
-owners_without ext owners (p ∷ given) = without_page ext (owners_without ext owners given) p
+abbrev pub owners_without : Shape → List Kind → List ℕ → List Kind
+owners_without shape owners [] = owners
+owners_without shape owners (p ∷ given) = without_page shape (owners_without shape owners given) p
 
-without_pages-push : (ext : Extents) (owners : List Kind) (given : List ℕ) (p : ℕ) → without_pages ext owners (given ++ p ∷ []) ≡ without_page ext (without_pages ext owners given) p
-without_pages-push ext owners [] p = refl
-without_pages-push ext owners (q ∷ given) p = without_pages-push ext (without_page ext owners q) given p
+without_pages-push : (shape : Shape) (owners : List Kind) (given : List ℕ) (p : ℕ) → without_pages shape owners (given ++ p ∷ []) ≡ without_page shape (without_pages shape owners given) p
+without_pages-push shape owners [] p = refl
+without_pages-push shape owners (q ∷ given) p = without_pages-push shape (without_page shape owners q) given p
 
-without_pages-reverse : (ext : Extents) (owners : List Kind) (given : List ℕ) → without_pages ext owners (reverse given) ≡ owners_without ext owners given
-without_pages-reverse ext owners [] = refl
-without_pages-reverse ext owners (p ∷ given) =
-    ap (without_pages ext owners) (reverse-append (p ∷ []) given) ∙ (without_pages-push ext owners (reverse given) p ∙ ap (λ (o : List Kind). without_page ext o p) (without_pages-reverse ext owners given))
+without_pages-reverse : (shape : Shape) (owners : List Kind) (given : List ℕ) → without_pages shape owners (reverse given) ≡ owners_without shape owners given
+without_pages-reverse shape owners [] = refl
+without_pages-reverse shape owners (p ∷ given) =
+    ap (without_pages shape owners) (reverse-append (p ∷ []) given) ∙ (without_pages-push shape owners (reverse given) p ∙ ap (λ (o : List Kind). without_page shape o p) (without_pages-reverse shape owners given))
 
 times_among-push : (n : ℕ) (given : List ℕ) (p : ℕ) → times_among n (given ++ p ∷ []) ≡ times_among n given + once n p
 times_among-push n [] p = omega arith
@@ -128,26 +129,13 @@ times_among-reverse n [] = refl
 times_among-reverse n (p ∷ given) = omega (arith, ap (times_among n) (reverse-append (p ∷ []) given), times_among-push n (reverse given) p, times_among-reverse n given)
 
 -- also after many
-used_still : (ext : Extents) (owners : List Kind) (given : List ℕ) (p : ℕ) → IsUsedPage ext owners p → ((q : ℕ) → 0 < times_among q given → IsExtentPage ext q) → times_among p given ≡ 0
-    → IsUsedPage ext (owners_without ext owners given) p
-used_still ext owners [] p u x z = u
-used_still ext owners (q ∷ given) p u x z =
+used_still : (shape : Shape) (owners : List Kind) (given : List ℕ) (p : ℕ) → IsUsedPage shape owners p → ((q : ℕ) → 0 < times_among q given → IsExtentPage shape q) → times_among p given ≡ 0
+    → IsUsedPage shape (owners_without shape owners given) p
+used_still shape owners [] p u x z = u
+used_still shape owners (q ∷ given) p u x z =
     let off : once p q ≡ 0 = omega arith in
-    used_beside ext (owners_without ext owners given) p q (used_still ext owners given p u (λ n l. x n (omega arith)) (omega arith))
+    used_beside shape (owners_without shape owners given) p q (used_still shape owners given p u (λ n l. x n (omega arith)) (omega arith))
     (x q (omega (arith, once_same q))) (λ (e : p ≡ q). let one : once p q ≡ 1 = subst (λ (v : ℕ). once v q ≡ 1) (sym e) (once_same q) in omega arith)
-
--- the owners don't depend on the notes
-without_page-shape : (before after : Extents) (owners : List Kind) (p : ℕ) → IsSameShape before after → without_page after owners p ≡ without_page before owners p
-without_page-shape before after owners p s = rw (s.cap, s.extent_pages) refl
-
-extent_page-shape : (before after : Extents) (p : ℕ) → IsSameShape before after → IsExtentPage before p → IsExtentPage after p
-extent_page-shape before after p s x = record {
-  behind = subst (λ (c : ℕ). first_count c ≤ p) (sym s.cap) x.behind;
-  within = rw (s.cap, s.extent_pages) x.within;
-}
-
-used_page-shape : (before after : Extents) (owners : List Kind) (p : ℕ) → IsSameShape before after → IsUsedPage before owners p → IsUsedPage after owners p
-used_page-shape before after owners p s u = record { page = extent_page-shape before after p s u.page; used = rw (s.cap, s.extent_pages) u.used }
 
 -- ---- the last tree of a row
 
@@ -188,15 +176,15 @@ no_heads (Leaf p items next) e = cc
 no_heads (Fork p seps kids next) e = cc
 
 -- what is still to be done of a tree, and what was given back
-pub record IsFreeing {S : Type 0} (g : Ghosts S) (before ext : Extents) (now : S) (tree : Tree) (owners : List Kind) (t : Forest) (todo : List ℕ) (steps : ℕ) : Type 0 where
+pub record IsFreeing {S : Type 0} (g : Ghosts S) (shape : Shape) (before noted : SpaceNotes) (now : S) (tree : Tree) (owners : List Kind) (t : Forest) (todo : List ℕ) (steps : ℕ) : Type 0 where
   pub left : Forest
   pub given : List ℕ
   pub heads_are : heads left ≡ todo
   pub holds : HoldsForest (nodes_in tree.width (g.state now)) left
   pub matched : EachNode IsMatchedNode left
   pub counts : (n : ℕ) → times n left + times_among n given ≡ times n t
-  pub map : HoldsMap g ext now (owners_without before owners given)
-  pub notes : AreRightNotes before owners → AreRightNotes ext (owners_without before owners given)
+  pub map : HoldsMap g shape now (owners_without shape owners given)
+  pub notes : AreRightNotes shape before owners → AreRightNotes shape noted (owners_without shape owners given)
   pub done : length given ≡ steps
 
 -- the pages of a tree lie below a number where its nodes do
@@ -212,8 +200,8 @@ each_below c (Fork p seps kids next) n h k =
     either (suc m) e a b = a (omega (arith, e))
 
 module _ {S : Type 0} {g : Ghosts S} where
-  pub freeing_begins : {ext : Extents} {s : S} {tree : Tree} (owners : List Kind) (t : Forest) → StandsTree g ext s tree owners t → IsFreeing g ext ext s tree owners t (tree.root ∷ []) 0
-  freeing_begins {ext} {s} {tree} owners t h = record {
+  pub freeing_begins : {shape : Shape} {noted : SpaceNotes} {s : S} {tree : Tree} (owners : List Kind) (t : Forest) → StandsTree g shape s tree owners t → IsFreeing g shape noted noted s tree owners t (tree.root ∷ []) 0
+  freeing_begins {shape} {noted} {s} {tree} owners t h = record {
     left = t;
     given = [];
     heads_are = h.held.is_tree.head;
@@ -225,40 +213,39 @@ module _ {S : Type 0} {g : Ghosts S} where
     done = refl;
   }
 
-  pub freeing_ends : {before ext : Extents} {now : S} {tree : Tree} (owners : List Kind) (t : Forest) (steps : ℕ) → IsFreeing g before ext now tree owners t [] steps → FreesTree g before ext now owners t
-  freeing_ends {before} {ext} {now} {tree} owners t steps f = record {
+  pub freeing_ends : {shape : Shape} {before noted : SpaceNotes} {now : S} {tree : Tree} (owners : List Kind) (t : Forest) (steps : ℕ) → IsFreeing g shape before noted now tree owners t [] steps → FreesTree g shape before noted now owners t
+  freeing_ends {shape} {before} {noted} {now} {tree} owners t steps f = record {
     given = reverse f.given;
     counts = λ n. omega (arith, times_among-reverse n f.given, f.counts n, ap (times n) (no_heads f.left f.heads_are));
-    map = subst (HoldsMap g ext now) (sym (without_pages-reverse before owners f.given)) f.map;
-    notes = λ right. subst (AreRightNotes ext) (sym (without_pages-reverse before owners f.given)) (f.notes right);
+    map = subst (HoldsMap g shape now) (sym (without_pages-reverse shape owners f.given)) f.map;
+    notes = λ right. subst (AreRightNotes shape noted) (sym (without_pages-reverse shape owners f.given)) (f.notes right);
   }
 
   -- a page that is to be done is one of the tree, and wasn't given back
-  pub freeing_page : {before ext : Extents} {s now : S} {tree : Tree} (owners : List Kind) (t : Forest) (todo : List ℕ) (page steps : ℕ) → StandsTree g before s tree owners t
-      → IsFreeing g before ext now tree owners t (todo ++ page ∷ []) steps → 0 < times page t
-  freeing_page {before} {ext} {s} {now} {tree} owners t todo page steps h f =
+  pub freeing_page : {shape : Shape} {before noted : SpaceNotes} {s now : S} {tree : Tree} (owners : List Kind) (t : Forest) (todo : List ℕ) (page steps : ℕ) → StandsTree g shape s tree owners t
+      → IsFreeing g shape before noted now tree owners t (todo ++ page ∷ []) steps → 0 < times page t
+  freeing_page {shape} {before} {noted} {s} {now} {tree} owners t todo page steps h f =
       let l = split_last f.left todo page f.heads_are in
       omega (arith, f.counts page, ap (times page) l.whole, times-and page l.init l.last, place_times l.last l.last [] page refl l.heads_last)
 
-  freeing_used : {before ext : Extents} {s now : S} {tree : Tree} (owners : List Kind) (t : Forest) (todo : List ℕ) (steps p : ℕ) → StandsTree g before s tree owners t
-      → (f : IsFreeing g before ext now tree owners t todo steps) → IsSameShape before ext → 0 < times p f.left → IsUsedPage ext (owners_without before owners f.given) p
-  freeing_used {before} {ext} {s} {now} {tree} owners t todo steps p h f shape l =
-      used_page-shape before ext (owners_without before owners f.given) p shape
-      (used_still before owners f.given p (h.used p (omega (arith, l, f.counts p)))
+  freeing_used : {shape : Shape} {before noted : SpaceNotes} {s now : S} {tree : Tree} (owners : List Kind) (t : Forest) (todo : List ℕ) (steps p : ℕ) → StandsTree g shape s tree owners t
+      → (f : IsFreeing g shape before noted now tree owners t todo steps) → 0 < times p f.left → IsUsedPage shape (owners_without shape owners f.given) p
+  freeing_used {shape} {before} {noted} {s} {now} {tree} owners t todo steps p h f l =
+      (used_still shape owners f.given p (h.used p (omega (arith, l, f.counts p)))
       (λ q k. (h.used q (omega (arith, k, f.counts q))).page) (omega (arith, l, f.counts p, h.held.is_tree.distinct p)))
 
-  pub freeing_used_page : {before ext : Extents} {s now : S} {tree : Tree} (owners : List Kind) (t : Forest) (todo : List ℕ) (page steps : ℕ) → StandsTree g before s tree owners t
-      → (f : IsFreeing g before ext now tree owners t (todo ++ page ∷ []) steps) → IsSameShape before ext → IsUsedPage ext (owners_without before owners f.given) page
-  freeing_used_page {before} {ext} {s} {now} {tree} owners t todo page steps h f shape =
+  pub freeing_used_page : {shape : Shape} {before noted : SpaceNotes} {s now : S} {tree : Tree} (owners : List Kind) (t : Forest) (todo : List ℕ) (page steps : ℕ) → StandsTree g shape s tree owners t
+      → (f : IsFreeing g shape before noted now tree owners t (todo ++ page ∷ []) steps) → IsUsedPage shape (owners_without shape owners f.given) page
+  freeing_used_page {shape} {before} {noted} {s} {now} {tree} owners t todo page steps h f =
       let l = split_last f.left todo page f.heads_are in
-      freeing_used owners t (todo ++ page ∷ []) steps page h f shape
+      freeing_used owners t (todo ++ page ∷ []) steps page h f
       (omega (arith, ap (times page) l.whole, times-and page l.init l.last, place_times l.last l.last [] page refl l.heads_last))
 
   -- so it is a node
-  pub freeing_node : {before ext : Extents} {now : S} {tree : Tree} (owners : List Kind) (t : Forest) (todo : List ℕ) (page steps : ℕ)
-      → IsFreeing g before ext now tree owners t (todo ++ page ∷ []) steps
+  pub freeing_node : {shape : Shape} {before noted : SpaceNotes} {now : S} {tree : Tree} (owners : List Kind) (t : Forest) (todo : List ℕ) (page steps : ℕ)
+      → IsFreeing g shape before noted now tree owners t (todo ++ page ∷ []) steps
       → ((items : List Entry) → nodes_in tree.width (g.state now) page ≡ LeafNode items → ⊥) → ((seps : List Entry) (children : List ℕ) → nodes_in tree.width (g.state now) page ≡ InnerNode seps children → ⊥) → ⊥
-  freeing_node {before} {ext} {now} {tree} owners t todo page steps f leaf inner =
+  freeing_node {shape} {before} {noted} {now} {tree} owners t todo page steps f leaf inner =
       let l = split_last f.left todo page f.heads_are in
       go l.last l.heads_last (EachNode-from_and (HasNode (nodes_in tree.width (g.state now))) l.init l.last (subst (HoldsForest (nodes_in tree.width (g.state now))) l.whole f.holds)).1
     where
@@ -268,9 +255,9 @@ module _ {S : Type 0} {g : Ghosts S} where
       go (Fork p seps kids next) e h = let same : p ≡ page = cc in inner seps (heads kids) (ap (nodes_in tree.width (g.state now)) (sym same) ∙ h.0)
 
   -- no more pages are given back than there are
-  pub freeing_few : {before ext : Extents} {s now : S} {tree : Tree} (owners : List Kind) (t : Forest) (todo : List ℕ) (page steps : ℕ) → StandsTree g before s tree owners t
-      → IsFreeing g before ext now tree owners t (todo ++ page ∷ []) steps → steps < length (g.state s).work
-  freeing_few {before} {ext} {s} {now} {tree} owners t todo page steps h f =
+  pub freeing_few : {shape : Shape} {before noted : SpaceNotes} {s now : S} {tree : Tree} (owners : List Kind) (t : Forest) (todo : List ℕ) (page steps : ℕ) → StandsTree g shape s tree owners t
+      → IsFreeing g shape before noted now tree owners t (todo ++ page ∷ []) steps → steps < length (g.state s).work
+  freeing_few {shape} {before} {noted} {s} {now} {tree} owners t todo page steps h f =
       let l = split_last f.left todo page f.heads_are in
       let some : 0 < times page f.left = omega (arith, ap (times page) l.whole, times-and page l.init l.last, place_times l.last l.last [] page refl l.heads_last) in
       let few = few_among (length (g.state s).work) (page ∷ f.given)
@@ -288,41 +275,38 @@ module _ {S : Type 0} {g : Ghosts S} where
       below_count n k = each_below (length (g.state s).work) t n (tree_below h.held) k
 
   -- one page more is given back
-  pub freeing_goes_on : {before ext after : Extents} {s now mid new : S} {tree : Tree} {Kd : ℕ → Type 0} {Br : Damage → Type 0} (owners : List Kind) (t : Forest) (todo : List ℕ) (page steps : ℕ) (more : List ℕ)
-      → StandsTree g before s tree owners t → IsFreeing g before ext now tree owners t (todo ++ page ∷ []) steps → IsSameShape before ext
+  pub freeing_goes_on : {shape : Shape} {before noted after : SpaceNotes} {s now mid new : S} {tree : Tree} {Kd : ℕ → Type 0} {Br : Damage → Type 0} (owners : List Kind) (t : Forest) (todo : List ℕ) (page steps : ℕ) (more : List ℕ)
+      → StandsTree g shape s tree owners t → IsFreeing g shape before noted now tree owners t (todo ++ page ∷ []) steps
       → Steady g now mid → (g.state mid).work ≡ (g.state now).work → Continues (nodes_in tree.width (g.state now) page) todo more
-      → ((os : List Kind) → HoldsMap g ext mid os → HoldsMap g after new (without_page ext os page))
-      → ((os : List Kind) → HoldsMap g ext mid os → AreRightNotes ext os → AreRightNotes after (without_page ext os page))
-      → RunsOverPages g (OnlyPage (map_page_of (extent_of ext page))) Kd Br mid new None
-      → IsFreeing g before after new tree owners t more (steps + 1)
-  freeing_goes_on {before} {ext} {after} {s} {now} {mid} {new} {tree} {Kd} {Br} owners t todo page steps more h f shape steady same c gives right run =
+      → ((os : List Kind) → HoldsMap g shape mid os → HoldsMap g shape new (without_page shape os page))
+      → ((os : List Kind) → HoldsMap g shape mid os → AreRightNotes shape noted os → AreRightNotes shape after (without_page shape os page))
+      → RunsOverPages g (OnlyPage (map_page_of (extent_of shape page))) Kd Br mid new None
+      → IsFreeing g shape before after new tree owners t more (steps + 1)
+  freeing_goes_on {shape} {before} {noted} {after} {s} {now} {mid} {new} {tree} {Kd} {Br} owners t todo page steps more h f steady same c gives right run =
       let l = split_last f.left todo page f.heads_are in
       let held = EachNode-from_and (HasNode (nodes_in tree.width (g.state now))) l.init l.last (subst (HoldsForest (nodes_in tree.width (g.state now))) l.whole f.holds) in
       let match = EachNode-from_and IsMatchedNode l.init l.last (subst (EachNode IsMatchedNode) l.whole f.matched) in
       go l.init l.last l.whole l.heads_init l.heads_last held.0 held.1 match.0 match.1
     where
       owners_now : List Kind
-      owners_now = owners_without before owners f.given
+      owners_now = owners_without shape owners f.given
 
-      map_mid : HoldsMap g ext mid owners_now
+      map_mid : HoldsMap g shape mid owners_now
       map_mid = holds_map_same steady.is_told same f.map
-
-      is_shape : without_page ext owners_now page ≡ without_page before owners_now page
-      is_shape = without_page-shape before ext owners_now page shape
 
       -- a page of the tree isn't on the map
       stays : (n : ℕ) → 0 < times n f.left → nodes_in tree.width (g.state new) n ≡ nodes_in tree.width (g.state now) n
       stays n k =
-          let u = freeing_used owners t (todo ++ page ∷ []) steps n h f shape k in
-          let here = freeing_used_page owners t todo page steps h f shape in
-          let m = is_map_page ext (extent_of ext page) (map_page_of (extent_of ext page)) (extent_below ext page here.page) refl in
-          nodes_kept g (OnlyPage (map_page_of (extent_of ext page))) mid new tree.width n run.touches run.works.steady.is_told
+          let u = freeing_used owners t (todo ++ page ∷ []) steps n h f k in
+          let here = freeing_used_page owners t todo page steps h f in
+          let m = is_map_page shape (extent_of shape page) (map_page_of (extent_of shape page)) (extent_below shape page here.page) refl in
+          nodes_kept g (OnlyPage (map_page_of (extent_of shape page))) mid new tree.width n run.touches run.works.steady.is_told
           (omega (arith, each_below (length (g.state now).work) f.left n (HoldsForest-below tree.width (g.state now) f.left f.holds) k, ap length same))
-          (λ (e : n ≡ map_page_of (extent_of ext page)). omega (arith, e, m.1, u.page.behind))
+          (λ (e : n ≡ map_page_of (extent_of shape page)). omega (arith, e, m.1, u.page.behind))
           ∙ nodes_same tree.width (g.state now) (g.state mid) n steady.is_told same
 
       goes : (left : Forest) → heads left ≡ more → HoldsForest (nodes_in tree.width (g.state now)) left → EachNode IsMatchedNode left → ((n : ℕ) → times n left + once n page ≡ times n f.left)
-          → IsFreeing g before after new tree owners t more (steps + 1)
+          → IsFreeing g shape before after new tree owners t more (steps + 1)
       goes left e k m z = record {
         left = left;
         given = page ∷ f.given;
@@ -330,13 +314,13 @@ module _ {S : Type 0} {g : Ghosts S} where
         holds = HoldsForest-agree (nodes_in tree.width (g.state now)) (nodes_in tree.width (g.state new)) left (λ n l. stays n (omega (arith, l, z n))) k;
         matched = m;
         counts = λ n. omega (arith, z n, f.counts n);
-        map = subst (HoldsMap g after new) is_shape (gives owners_now map_mid);
-        notes = λ r. subst (AreRightNotes after) is_shape (right owners_now map_mid (f.notes r));
+        map = gives owners_now map_mid;
+        notes = λ r. right owners_now map_mid (f.notes r);
         done = omega (arith, f.done);
       }
 
       go : (init last : Forest) → f.left ≡ init & last → heads init ≡ todo → heads last ≡ page ∷ [] → HoldsForest (nodes_in tree.width (g.state now)) init → HoldsForest (nodes_in tree.width (g.state now)) last
-          → EachNode IsMatchedNode init → EachNode IsMatchedNode last → IsFreeing g before after new tree owners t more (steps + 1)
+          → EachNode IsMatchedNode init → EachNode IsMatchedNode last → IsFreeing g shape before after new tree owners t more (steps + 1)
       go init (Leaf p items Nil) w i e hi hl mi ml =
           let same_page : p ≡ page = cc in
           let node : nodes_in tree.width (g.state now) page ≡ LeafNode items = ap (nodes_in tree.width (g.state now)) (sym same_page) ∙ hl.0 in

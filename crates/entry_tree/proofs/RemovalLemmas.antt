@@ -10,10 +10,11 @@ use Rattle.store_api.specs.RunsOverPages.{RunsOverPages}
 use Rattle.store_api.specs.declared.fault.Damage.{Damage}
 use Rattle.store_api.specs.declared.fault.StoreFault.{StoreFault}
 use Rattle.store_api.specs.declared.pages.Pages.{Ghosts}
+use Rattle.store_api.specs.declared.shape.Shape.{Shape}
 use Rattle.extent_map.specs.Map.{HoldsMap, IsMapPage}
-use Rattle.extent_map.specs.Owners.{AreRightNotes, IsExtentPage, IsSameShape, IsUsedPage, without_page}
-use Rattle.extent_map.specs.declared.extents.Extents.{Extents}
+use Rattle.extent_map.specs.Owners.{AreRightNotes, IsExtentPage, IsUsedPage, without_page}
 use Rattle.extent_map.specs.declared.kind.Kind.{Kind}
+use Rattle.extent_map.specs.declared.space_notes.SpaceNotes.{SpaceNotes}
 use Rattle.extent_map.proofs.HoldsMapLemmas.{holds_map_run, holds_map_same}
 use Rattle.entry_tree.specs.EntryBounds.{AtLeast, Bound, Climbs, IsEntryOf, Rises, Under, with_entry}
 use Rattle.entry_tree.specs.Forest.{Fits, Forest, IsTree, IsTrimTree, leaf_entries, once, times}
@@ -32,7 +33,7 @@ use Rattle.entry_tree.proofs.EntryBoundsLemmas.{AllAbove, AllAbove-and, AllBelow
 use Rattle.entry_tree.proofs.ForestLemmas.{once_same}
 use Rattle.entry_tree.proofs.HeldTreesLemmas.{nodes_same}
 use Rattle.entry_tree.proofs.PruningLemmas.{pruned_leaf}
-use Rattle.entry_tree.proofs.ReturnedPagesLemmas.{apart_from_map, used_beside, used-shape}
+use Rattle.entry_tree.proofs.ReturnedPagesLemmas.{apart_from_map, used_beside}
 use Rattle.entry_tree.proofs.SublistLemmas.{IsSublist-remove, Rises-sublist}
 use Rattle.entry_tree.proofs.TreePlacesLemmas.{Fits-plug, leaf_entries-plug}
 use Rattle.entry_tree.proofs.WayLemmas.{place_times}
@@ -94,38 +95,37 @@ removed_entries above page items at m f l =
     (plain ∙ (ap (λ (k : List Entry). entries_before above ++ (k ++ entries_behind above)) parts ∙ r.0), r.1)
 
 -- a page that isn't given back stays in use
-used_without : (ext : Extents) (owners : List Kind) (gone : List ℕ) (p : ℕ) → ((q : ℕ) → 0 < times_among q gone → IsExtentPage ext q) → times_among p gone ≡ 0 → IsUsedPage ext owners p
-    → IsUsedPage ext (without_pages ext owners gone) p
-used_without ext owners [] p are out is = is
-used_without ext owners (q ∷ gone) p are out is =
-    used_without ext (without_page ext owners q) gone p (λ r there. are r (omega arith)) (omega arith)
-    (used_beside ext owners p q is (are q (omega (arith, once_here))) (λ (e : p ≡ q). omega (arith, out, subst (λ (v : ℕ). once v q ≡ 1) (sym e) once_here)))
+used_without : (shape : Shape) (owners : List Kind) (gone : List ℕ) (p : ℕ) → ((q : ℕ) → 0 < times_among q gone → IsExtentPage shape q) → times_among p gone ≡ 0 → IsUsedPage shape owners p
+    → IsUsedPage shape (without_pages shape owners gone) p
+used_without shape owners [] p are out is = is
+used_without shape owners (q ∷ gone) p are out is =
+    used_without shape (without_page shape owners q) gone p (λ r there. are r (omega arith)) (omega arith)
+    (used_beside shape owners p q is (are q (omega (arith, once_here))) (λ (e : p ≡ q). omega (arith, out, subst (λ (v : ℕ). once v q ≡ 1) (sym e) once_here)))
   where
     once_here : once q q ≡ 1
     once_here = once_same q
 
-module _ {S : Type 0} {g : Ghosts S} {before : Extents} {s : S} {tree : Tree} {owners : List Kind} {t : Forest} where
+module _ {S : Type 0} {g : Ghosts S} {shape : Shape} {s : S} {tree : Tree} {owners : List Kind} {t : Forest} where
   -- a tree whose leaf has lost entries still stands, where the map has lost its pages
-  pub stands_pruned : {after : Extents} {new : S} {gone : List ℕ} {above : List Frame} {kept : List Entry} → StandsTree g before s tree owners t
-      → (p : IsPruned (nodes_in tree.width (g.state new)) tree.root t above kept gone) → HoldsMap g after new (without_pages before owners gone) → IsSameShape before after
-      → StandsTree g after new tree (without_pages before owners gone) p.after
-  stands_pruned {after} {new} {gone} {above} {kept} st p map shape = record {
+  pub stands_pruned : {new : S} {gone : List ℕ} {above : List Frame} {kept : List Entry} → StandsTree g shape s tree owners t
+      → (p : IsPruned (nodes_in tree.width (g.state new)) tree.root t above kept gone) → HoldsMap g shape new (without_pages shape owners gone)
+      → StandsTree g shape new tree (without_pages shape owners gone) p.after
+  stands_pruned {new} {gone} {above} {kept} st p map = record {
     map = map;
     held = record { is_tree = p.tree; trim = p.trim };
-    used = λ q there. used-shape before after (without_pages before owners gone) q shape
-        (used_without before owners gone q (λ k among. (st.used k (omega (arith, p.counts k))).page) (omega (arith, p.counts q, st.held.is_tree.distinct q)) (st.used q (omega (arith, p.counts q))));
+    used = λ q there. used_without shape owners gone q (λ k among. (st.used k (omega (arith, p.counts k))).page) (omega (arith, p.counts q, st.held.is_tree.distinct q)) (st.used q (omega (arith, p.counts q)));
   }
 
   -- a tree whose leaf has lost an entry, with what its pages are
-  pub removes : {after : Extents} {new : S} {gone : List ℕ} (page : ℕ) (items : List Entry) (at : ℕ) (above : List Frame) → StandsTree g before s tree owners t → t ≡ plug above (Leaf page items Nil) → AreMatched above → at < length items
-      → IsPruned (nodes_in tree.width (g.state new)) tree.root t above (remove items at) gone → HoldsMap g after new (without_pages before owners gone)
-      → (AreRightNotes before owners → AreRightNotes after (without_pages before owners gone)) → IsSameShape before after → RemovesEntry g before after new tree (get_or items at []) owners t
-  removes {after} {new} {gone} page items at above st whole m l p map notes shape =
+  pub removes : {before after : SpaceNotes} {new : S} {gone : List ℕ} (page : ℕ) (items : List Entry) (at : ℕ) (above : List Frame) → StandsTree g shape s tree owners t → t ≡ plug above (Leaf page items Nil) → AreMatched above → at < length items
+      → IsPruned (nodes_in tree.width (g.state new)) tree.root t above (remove items at) gone → HoldsMap g shape new (without_pages shape owners gone)
+      → (AreRightNotes shape before owners → AreRightNotes shape after (without_pages shape owners gone)) → RemovesEntry g shape before after new tree (get_or items at []) owners t
+  removes {before} {after} {new} {gone} page items at above st whole m l p map notes =
       let r = removed_entries above page items at m (subst (Fits None None []) whole st.held.is_tree.fits) l in
       record {
         gone = gone;
         after = p.after;
-        stands = stands_pruned st p map shape;
+        stands = stands_pruned st p map;
         takes = ap leaf_entries whole ∙ (r.0 ∙ ap (with_entry (get_or items at [])) (sym p.entries));
         absent = λ i. r.1 (subst (IsEntryOf (get_or items at [])) p.entries i);
         pages = p.counts;
@@ -133,11 +133,11 @@ module _ {S : Type 0} {g : Ghosts S} {before : Extents} {s : S} {tree : Tree} {o
       }
 
   -- a leaf that keeps an entry, or is the root
-  pub removes_here : {m new : S} {K : ℕ → Type 0} {B : Damage → Type 0} {fault : Option StoreFault} {parent : Option (ℕ × ℕ)} (page at : ℕ) → StandsTree g before s tree owners t → (sp : IsItemSpot (nodes_in tree.width (g.state s)) t page at parent)
+  pub removes_here : {before : SpaceNotes} {m new : S} {K : ℕ → Type 0} {B : Damage → Type 0} {fault : Option StoreFault} {parent : Option (ℕ × ℕ)} (page at : ℕ) → StandsTree g shape s tree owners t → (sp : IsItemSpot (nodes_in tree.width (g.state s)) t page at parent)
       → (remove sp.items at ≡ [] → sp.above ≡ []) → (g.state m).is_told ≡ (g.state s).is_told → (g.state m).work ≡ (g.state s).work
       → ((items : List Entry) → nodes_in tree.width (g.state m) page ≡ LeafNode items → at < length items → IsPut (nodes_in tree.width (g.state m)) (nodes_in tree.width (g.state new)) page (LeafNode (remove items at)))
-      → RunsOverPages g (OnlyPage page) K B m new fault → RemovesEntry g before before new tree (get_or sp.items at []) owners t
-  removes_here {m} {new} page at st sp some told same taken run =
+      → RunsOverPages g (OnlyPage page) K B m new fault → RemovesEntry g shape before before new tree (get_or sp.items at []) owners t
+  removes_here {before} {m} {new} page at st sp some told same taken run =
       let w : IsTree (nodes_in tree.width (g.state s)) tree.root (plug sp.above (Leaf page sp.items Nil)) = subst (IsTree (nodes_in tree.width (g.state s)) tree.root) sp.whole st.held.is_tree in
       let fit = Fits-plug None None sp.above (Leaf page sp.items Nil) page sp.matched refl w.fits in
       let put = taken sp.items (nodes_same tree.width (g.state s) (g.state m) page told same ∙ sp.leaf) sp.within in
@@ -146,15 +146,14 @@ module _ {S : Type 0} {g : Ghosts S} {before : Extents} {s : S} {tree : Tree} {o
       (subst (λ (u : Forest). IsPruned (nodes_in tree.width (g.state new)) tree.root u sp.above (remove sp.items at) []) (sym sp.whole)
       (pruned_leaf (nodes_in tree.width (g.state s)) (nodes_in tree.width (g.state new)) tree.root page sp.items (remove sp.items at) sp.above sp.matched w (subst IsTrimTree sp.whole st.held.trim)
       (Rises-sublist _ _ (IsSublist-remove sp.items at) fit.0.1) some put.there (λ n d. put.others n d ∙ nodes_same tree.width (g.state s) (g.state m) n told same)))
-      (holds_map_run run (λ p map is. apart_from_map before page (st.used page there).page (subst (IsMapPage before) is map)) (holds_map_same told same st.map)) (λ notes. notes)
-      (record { cap = refl; extent_pages = refl })
+      (holds_map_run run (λ p map is. apart_from_map shape page (st.used page there).page (subst (IsMapPage shape) is map)) (holds_map_same told same st.map)) (λ notes. notes)
 
 -- the frames above a leaf that isn't the root, and what its going needs
-pub record SpotToDrop {S : Type 0} (g : Ghosts S) (ext : Extents) (s m : S) (tree : Tree) (owners : List Kind) (t : Forest) (above : List Frame) (leaf page at : ℕ) : Type 0 where
+pub record SpotToDrop {S : Type 0} (g : Ghosts S) (shape : Shape) (s m : S) (tree : Tree) (owners : List Kind) (t : Forest) (above : List Frame) (leaf page at : ℕ) : Type 0 where
   pub frame : Frame
   pub upper : List Frame
   pub above_is : above ≡ frame ∷ upper
-  pub dropping : IsDropping g ext m tree owners (nodes_in tree.width (g.state s)) t frame upper leaf page at
+  pub dropping : IsDropping g shape m tree owners (nodes_in tree.width (g.state s)) t frame upper leaf page at
 
 -- the same of the tree alone
 pub spot_emptied : {S : Type 0} {g : Ghosts S} {s m : S} {tree : Tree} {t : Forest} {leaf place page at : ℕ} → HoldsTree g s tree t
@@ -181,12 +180,12 @@ spot_emptied {S} {g} {s} {m} {tree} {t} {leaf} {place} {page} {at} h sp told sam
       },
     )
 
-pub spot_to_drop : {S : Type 0} {g : Ghosts S} {ext : Extents} {s m : S} {tree : Tree} {owners : List Kind} {t : Forest} {leaf place page at : ℕ} → StandsTree g ext s tree owners t
+pub spot_to_drop : {S : Type 0} {g : Ghosts S} {shape : Shape} {s m : S} {tree : Tree} {owners : List Kind} {t : Forest} {leaf place page at : ℕ} → StandsTree g shape s tree owners t
     → (sp : IsItemSpot (nodes_in tree.width (g.state s)) t leaf place (Some (page, at))) → (g.state m).is_told ≡ (g.state s).is_told → (g.state m).work ≡ (g.state s).work
-    → SpotToDrop g ext s m tree owners t sp.above leaf page at
-spot_to_drop {S} {g} {ext} {s} {m} {tree} {owners} {t} {leaf} {place} {page} {at} st sp told same = go sp.above sp.whole sp.matched sp.parent_is
+    → SpotToDrop g shape s m tree owners t sp.above leaf page at
+spot_to_drop {S} {g} {shape} {s} {m} {tree} {owners} {t} {leaf} {place} {page} {at} st sp told same = go sp.above sp.whole sp.matched sp.parent_is
   where
-    go : (above : List Frame) → t ≡ plug above (Leaf leaf sp.items Nil) → AreMatched above → IsParent above (Some (page, at)) → SpotToDrop g ext s m tree owners t above leaf page at
+    go : (above : List Frame) → t ≡ plug above (Leaf leaf sp.items Nil) → AreMatched above → IsParent above (Some (page, at)) → SpotToDrop g shape s m tree owners t above leaf page at
     go [] whole matched is = absurd is
     go (f ∷ fs) whole matched is = record {
       frame = f;
@@ -212,21 +211,21 @@ pub item_leaf : {nodes : ℕ → Node} {t : Forest} {page at : ℕ} {parent : Op
 item_leaf sp = record { items = sp.items; leaf = sp.leaf; within = sp.within }
 
 -- what isn't met where the tree stands
-pub breaks_unmet : {S : Type 0} {g : Ghosts S} {ext : Extents} {s : S} {tree : Tree} {Expected : Type 0} {damage : Damage} → BreaksWhere tree Expected damage
-    → ((t : Forest) → HoldsTree g s tree t → Expected) → BreaksTreeOrReturn g ext s tree damage
+pub breaks_unmet : {S : Type 0} {g : Ghosts S} {shape : Shape} {s : S} {tree : Tree} {Expected : Type 0} {damage : Damage} → BreaksWhere tree Expected damage
+    → ((t : Forest) → HoldsTree g s tree t → Expected) → BreaksTreeOrReturn g shape s tree damage
 breaks_unmet b met = inl (record { page = b.page; rule = b.rule; broken = λ t h. b.not_so (met t h) })
 
-module _ {S : Type 0} {g : Ghosts S} {ext : Extents} {s : S} {tree : Tree} {leaf place : ℕ} {parent : Option (ℕ × ℕ)} where
+module _ {S : Type 0} {g : Ghosts S} {shape : Shape} {s : S} {tree : Tree} {leaf place : ℕ} {parent : Option (ℕ × ℕ)} where
   -- the leaf is a page of the tree
-  pub only_leaf : {p : ℕ} → ((t : Forest) → HoldsTree g s tree t → IsItemSpot (nodes_in tree.width (g.state s)) t leaf place parent) → p ≡ leaf → IsTreeOrMapPage g ext s tree p
+  pub only_leaf : {p : ℕ} → ((t : Forest) → HoldsTree g s tree t → IsItemSpot (nodes_in tree.width (g.state s)) t leaf place parent) → p ≡ leaf → IsTreeOrMapPage g shape s tree p
   only_leaf {p} spot is owners t st =
       let sp = spot t st.held in
       inl (subst (λ (v : ℕ). 0 < times v t) (sym is) (place_times t (Leaf leaf sp.items Nil) sp.above leaf sp.whole refl))
 
-module _ {S : Type 0} {g : Ghosts S} {ext : Extents} {s m : S} {tree : Tree} {leaf place page at : ℕ} where
+module _ {S : Type 0} {g : Ghosts S} {shape : Shape} {s m : S} {tree : Tree} {leaf place page at : ℕ} where
   -- the pages of a leaf's going are those of the tree and the map
   pub only_drop : (p : ℕ) → ((t : Forest) → HoldsTree g s tree t → IsItemSpot (nodes_in tree.width (g.state s)) t leaf place (Some (page, at))) → (g.state m).is_told ≡ (g.state s).is_told
-      → (g.state m).work ≡ (g.state s).work → IsDropPage ext page p → IsTreeOrMapPage g ext s tree p
+      → (g.state m).work ≡ (g.state s).work → IsDropPage shape page p → IsTreeOrMapPage g shape s tree p
   only_drop p spot told same (inr map) owners t st = inr map
   only_drop p spot told same (inl is) owners t st =
       let d = spot_to_drop st (spot t st.held) told same in
@@ -234,7 +233,7 @@ module _ {S : Type 0} {g : Ghosts S} {ext : Extents} {s m : S} {tree : Tree} {le
       inl (subst (λ (v : ℕ). 0 < times v t) (sym is) n.there)
 
   pub only_look : (p : ℕ) → ((t : Forest) → HoldsTree g s tree t → IsItemSpot (nodes_in tree.width (g.state s)) t leaf place (Some (page, at))) → (g.state m).is_told ≡ (g.state s).is_told
-      → (g.state m).work ≡ (g.state s).work → IsDropLook ext (nodes_in tree.width (g.state m) page) page at p → IsTreeOrMapPage g ext s tree p
+      → (g.state m).work ≡ (g.state s).work → IsDropLook shape (nodes_in tree.width (g.state m) page) page at p → IsTreeOrMapPage g shape s tree p
   only_look p spot told same (inl is) = only_drop p spot told same is
   only_look p spot told same (inr other) = λ owners t st.
       let d = spot_to_drop st (spot t st.held) told same in
@@ -244,7 +243,7 @@ module _ {S : Type 0} {g : Ghosts S} {ext : Extents} {s m : S} {tree : Tree} {le
 
   -- what it names
   pub breaks_drop : {damage : Damage} → ((t : Forest) → HoldsTree g s tree t → IsItemSpot (nodes_in tree.width (g.state s)) t leaf place (Some (page, at))) → (g.state m).is_told ≡ (g.state s).is_told
-      → (g.state m).work ≡ (g.state s).work → BreaksDrop g ext m tree leaf page at damage → BreaksTreeOrReturn g ext s tree damage
+      → (g.state m).work ≡ (g.state s).work → BreaksDrop g shape m tree leaf page at damage → BreaksTreeOrReturn g shape s tree damage
   breaks_drop spot told same (inl w) = inl (record {
     page = w.page;
     rule = w.rule;
@@ -252,8 +251,6 @@ module _ {S : Type 0} {g : Ghosts S} {ext : Extents} {s m : S} {tree : Tree} {le
   })
   breaks_drop spot told same (inr r) = inr (record {
     mid = r.mid;
-    ext = r.ext;
-    shape = r.shape;
     page = r.page;
     map = λ owners held.
         let d = spot_to_drop held.1 (spot held.0 held.1.held) told same in
@@ -262,17 +259,17 @@ module _ {S : Type 0} {g : Ghosts S} {ext : Extents} {s m : S} {tree : Tree} {le
   })
 
   -- and what it leaves
-  pub removes_drop : {after : Extents} {new : S} {owners : List Kind} {t : Forest} → StandsTree g ext s tree owners t → (sp : IsItemSpot (nodes_in tree.width (g.state s)) t leaf place (Some (page, at)))
-      → (g.state m).is_told ≡ (g.state s).is_told → (g.state m).work ≡ (g.state s).work → length sp.items ≤ 1 → IsSameShape ext after
-      → ((o : List Kind) (was : ℕ → Node) (u : Forest) (f : Frame) (fs : List Frame) → IsDropping g ext m tree o was u f fs leaf page at → DropsLeaf g ext after new tree o u (f ∷ fs))
-      → RemovesEntry g ext after new tree (get_or sp.items place []) owners t
-  removes_drop {after} {new} {owners} {t} st sp told same few shape drops =
+  pub removes_drop : {noted after : SpaceNotes} {new : S} {owners : List Kind} {t : Forest} → StandsTree g shape s tree owners t → (sp : IsItemSpot (nodes_in tree.width (g.state s)) t leaf place (Some (page, at)))
+      → (g.state m).is_told ≡ (g.state s).is_told → (g.state m).work ≡ (g.state s).work → length sp.items ≤ 1
+      → ((o : List Kind) (was : ℕ → Node) (u : Forest) (f : Frame) (fs : List Frame) → IsDropping g shape m tree o was u f fs leaf page at → DropsLeaf g shape noted after new tree o u (f ∷ fs))
+      → RemovesEntry g shape noted after new tree (get_or sp.items place []) owners t
+  removes_drop {noted} {after} {new} {owners} {t} st sp told same few drops =
       let d = spot_to_drop st sp told same in
       let gone = drops owners (nodes_in tree.width (g.state s)) t d.frame d.upper d.dropping in
       removes leaf sp.items place sp.above st sp.whole sp.matched sp.within
       (subst (λ (k : List Entry). IsPruned (nodes_in tree.width (g.state new)) tree.root t sp.above k gone.gone) (sym (removed_none sp.items place sp.within few))
       (subst (λ (fs : List Frame). IsPruned (nodes_in tree.width (g.state new)) tree.root t fs [] gone.gone) (sym d.above_is) gone.pruned))
-      gone.map gone.notes shape
+      gone.map gone.notes
 
 -- a leaf with no node above is alone
 pub root_alone : (above : List Frame) → IsParent above None → above ≡ []
@@ -284,13 +281,13 @@ pub some_kept : {nodes : ℕ → Node} {t : Forest} {page at len : ℕ} {parent 
 some_kept {at = at} sp is many none = absurd (omega (arith, length-removed sp.items at sp.within, ap length none))
 
 -- the entries of a leaf are those that its page shows
-pub same_item : {nodes : ℕ → Node} {t : Forest} {page at : ℕ} {parent : Option (ℕ × ℕ)} {S : Type 0} {g : Ghosts S} {before after : Extents} {new : S} {tree : Tree} {owners : List Kind}
-    → (sp : IsItemSpot nodes t page at parent) → (items : List Entry) → nodes page ≡ LeafNode items → RemovesEntry g before after new tree (get_or sp.items at []) owners t
-    → RemovesEntry g before after new tree (get_or items at []) owners t
-same_item {nodes} {t} {page} {at} {parent} {S} {g} {before} {after} {new} {tree} {owners} sp items is r =
+pub same_item : {nodes : ℕ → Node} {t : Forest} {page at : ℕ} {parent : Option (ℕ × ℕ)} {S : Type 0} {g : Ghosts S} {shape : Shape} {before after : SpaceNotes} {new : S} {tree : Tree} {owners : List Kind}
+    → (sp : IsItemSpot nodes t page at parent) → (items : List Entry) → nodes page ≡ LeafNode items → RemovesEntry g shape before after new tree (get_or sp.items at []) owners t
+    → RemovesEntry g shape before after new tree (get_or items at []) owners t
+same_item {nodes} {t} {page} {at} {parent} {S} {g} {shape} {before} {after} {new} {tree} {owners} sp items is r =
     let both : LeafNode sp.items ≡ LeafNode items = sym sp.leaf ∙ is in
     let same : sp.items ≡ items = cc in
-    subst (λ (l : List Entry). RemovesEntry g before after new tree (get_or l at []) owners t) same r
+    subst (λ (l : List Entry). RemovesEntry g shape before after new tree (get_or l at []) owners t) same r
 
 pub leaf_as : {one other : Node} {at : ℕ} → one ≡ other → HasLeafEntry other at → HasLeafEntry one at
 leaf_as same l = record { items = l.items; leaf = same ∙ l.leaf; within = l.within }

@@ -5,8 +5,9 @@ use Rattle.mdc_words.specs.ByteOrder.{Entry}
 use Rattle.node_page.specs.Node.{Node}
 use Rattle.store_api.specs.declared.fault.Damage.{Damage}
 use Rattle.store_api.specs.declared.pages.Pages.{Ghosts}
-use Rattle.extent_map.specs.declared.extents.Extents.{Extents}
+use Rattle.store_api.specs.declared.shape.Shape.{Shape}
 use Rattle.extent_map.specs.declared.kind.Kind.{Kind}
+use Rattle.extent_map.specs.declared.space_notes.SpaceNotes.{SpaceNotes}
 use Rattle.extent_map.proofs.HoldsMapLemmas.{holds_map_same}
 use Rattle.entry_tree.specs.Forest.{Forest}
 use Rattle.entry_tree.specs.HeldTrees.{nodes_in, BreaksTree, HoldsTree, IsTreePage}
@@ -38,7 +39,7 @@ module _ {S : Type 0} {g : Ghosts S} {s m : S} {tree : Tree} {t : Forest} where
     trim = h.trim;
   }
 
-  pub stands_same : {ext : Extents} {owners : List Kind} → (g.state m).is_told ≡ (g.state s).is_told → (g.state m).work ≡ (g.state s).work → StandsTree g ext s tree owners t → StandsTree g ext m tree owners t
+  pub stands_same : {shape : Shape} {owners : List Kind} → (g.state m).is_told ≡ (g.state s).is_told → (g.state m).work ≡ (g.state s).work → StandsTree g shape s tree owners t → StandsTree g shape m tree owners t
   stands_same told same st = record { map = holds_map_same told same st.map; held = held_same told same st.held; used = st.used }
 
 pub item_same : {t : Forest} {page at : ℕ} {parent : Option (ℕ × ℕ)} (old new : ℕ → Node) → new page ≡ old page → IsItemSpot old t page at parent → IsItemSpot new t page at parent
@@ -53,22 +54,22 @@ item_same old new same sp = record {
 }
 
 -- the page of a tree, and what breaks it
-pub tree_page : {S : Type 0} {g : Ghosts S} {ext : Extents} {s : S} {tree : Tree} {p : ℕ} → IsTreePage g s tree p → IsTreeOrMapPage g ext s tree p
+pub tree_page : {S : Type 0} {g : Ghosts S} {shape : Shape} {s : S} {tree : Tree} {p : ℕ} → IsTreePage g s tree p → IsTreeOrMapPage g shape s tree p
 tree_page is owners t st = inl (is t st.held)
 
-pub breaks_held : {S : Type 0} {g : Ghosts S} {ext : Extents} {s : S} {tree : Tree} {damage : Damage} → BreaksTree g s tree damage → BreaksTreeOrReturn g ext s tree damage
+pub breaks_held : {S : Type 0} {g : Ghosts S} {shape : Shape} {s : S} {tree : Tree} {damage : Damage} → BreaksTree g s tree damage → BreaksTreeOrReturn g shape s tree damage
 breaks_held b = inl b
 
-module _ {S : Type 0} {g : Ghosts S} {ext : Extents} {s m : S} {tree : Tree} where
-  pub page_same : {p : ℕ} → (g.state m).is_told ≡ (g.state s).is_told → (g.state m).work ≡ (g.state s).work → IsTreeOrMapPage g ext m tree p → IsTreeOrMapPage g ext s tree p
+module _ {S : Type 0} {g : Ghosts S} {shape : Shape} {s m : S} {tree : Tree} where
+  pub page_same : {p : ℕ} → (g.state m).is_told ≡ (g.state s).is_told → (g.state m).work ≡ (g.state s).work → IsTreeOrMapPage g shape m tree p → IsTreeOrMapPage g shape s tree p
   page_same told same is owners t st = is owners t (stands_same told same st)
 
-  pub breaks_same : {damage : Damage} → (g.state m).is_told ≡ (g.state s).is_told → (g.state m).work ≡ (g.state s).work → BreaksTreeOrReturn g ext m tree damage → BreaksTreeOrReturn g ext s tree damage
+  pub breaks_same : {damage : Damage} → (g.state m).is_told ≡ (g.state s).is_told → (g.state m).work ≡ (g.state s).work → BreaksTreeOrReturn g shape m tree damage → BreaksTreeOrReturn g shape s tree damage
   breaks_same told same (inl b) = inl (record { page = b.page; rule = b.rule; broken = λ t h. b.broken t (held_same told same h) })
-  breaks_same told same (inr r) = inr (record { mid = r.mid; ext = r.ext; shape = r.shape; page = r.page; map = λ owners held. r.map owners (held.0, stands_same told same held.1); breaks = r.breaks })
+  breaks_same told same (inr r) = inr (record { mid = r.mid; page = r.page; map = λ owners held. r.map owners (held.0, stands_same told same held.1); breaks = r.breaks })
 
 -- the item that went is the entry
-pub removes_it : {S : Type 0} {g : Ghosts S} {ext after : Extents} (s m : S) {new : S} {tree : Tree} {owners : List Kind} {t : Forest} {x : Entry} (page at : ℕ) {parent : Option (ℕ × ℕ)} → (g.state m).is_told ≡ (g.state s).is_told
-    → (g.state m).work ≡ (g.state s).work → IsEntrySpot (nodes_in tree.width (g.state s)) t x page at parent → RemovesItem g ext after m new tree owners t page at → RemovesEntry g ext after new tree x owners t
-removes_it {S} {g} {ext} {after} s m {new} {tree} {owners} {t} page at told same sp removes =
-    subst (λ (y : Entry). RemovesEntry g ext after new tree y owners t) sp.item (removes sp.spot.items (nodes_same tree.width (g.state s) (g.state m) page told same ∙ sp.spot.leaf))
+pub removes_it : {S : Type 0} {g : Ghosts S} {shape : Shape} {noted after : SpaceNotes} (s m : S) {new : S} {tree : Tree} {owners : List Kind} {t : Forest} {x : Entry} (page at : ℕ) {parent : Option (ℕ × ℕ)} → (g.state m).is_told ≡ (g.state s).is_told
+    → (g.state m).work ≡ (g.state s).work → IsEntrySpot (nodes_in tree.width (g.state s)) t x page at parent → RemovesItem g shape noted after m new tree owners t page at → RemovesEntry g shape noted after new tree x owners t
+removes_it {S} {g} {shape} {noted} {after} s m {new} {tree} {owners} {t} page at told same sp removes =
+    subst (λ (y : Entry). RemovesEntry g shape noted after new tree y owners t) sp.item (removes sp.spot.items (nodes_same tree.width (g.state s) (g.state m) page told same ∙ sp.spot.leaf))

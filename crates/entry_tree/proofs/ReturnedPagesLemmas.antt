@@ -1,28 +1,28 @@
 -- Pages that are given back, and those that stay in use.
-use Rattle.std.proofs.Common.{◌≡◌, ◌≢◌, ◌<◌, ◌+◌, ◌-◌, ◌^◌, ℕ, List, length, refl, ap, arith, sym, ◌∙◌, subst, set, inl, inr, min, get_or-set_other, get_or-set_same}
+use Rattle.std.proofs.Common.{◌≡◌, ◌≢◌, ◌<◌, ◌+◌, ◌-◌, ◌^◌, ℕ, List, length, ap, arith, sym, ◌∙◌, subst, set, inl, inr, min, get_or-set_other, get_or-set_same}
 use Rattle.std.specs.Prelude.{IsTrue, bit_and, if◌then◌else◌}
 use Rattle.std.specs.Int.{bit_at, bit_not, w32}
 use Rattle.std.proofs.Math.Pow.{pow-lt}
 use Rattle.std.proofs.lemmas.Bool.{cases_eq, cases_lt, eq-eqb, eqb-true, ne_eqb}
 use Rattle.std.proofs.Math.ListN.{get_or-eq_default}
 use Rattle.std.proofs.lemmas.Nat.Bits.{bit_at-zero, bit_at_and, bit_at_not, bit_at-pow_other}
-use Rattle.store_api.specs.Extents.{first_count, first_page_of}
+use Rattle.store_api.specs.Extents.{first_page_of}
+use Rattle.store_api.specs.declared.shape.Shape.{Shape}
 use Rattle.extent_map.specs.Kinds.{index_or_free, is_used_place, without_place}
 use Rattle.extent_map.specs.Map.{IsMapPage, map_page_of}
-use Rattle.extent_map.specs.Owners.{IsExtentPage, IsSameShape, IsUsedPage, extent_of, owner_of, place_in_extent, without_page}
-use Rattle.extent_map.specs.declared.extents.Extents.{Extents}
+use Rattle.extent_map.specs.Owners.{IsExtentPage, IsUsedPage, extent_of, owner_of, place_in_extent, without_page}
 use Rattle.extent_map.specs.declared.kind.Kind.{Kind}
 use Rattle.extent_map.specs.declared.kind.Kind.TheVariants.{Free, Block, Index}
 use Rattle.extent_map.proofs.ExtentsLemmas.{extent_below, extent_limits, page_of-parts, place_below}
 use Rattle.extent_map.proofs.HoldsMapLemmas.{on_map}
 
 -- the page of the map on which a page's extent stands
-pub map_page_there : (ext : Extents) (p q : ℕ) → IsExtentPage ext p → q ≡ map_page_of (extent_of ext p) → IsMapPage ext q
-map_page_there ext p q is at = let lies = on_map ext.cap (extent_of ext p) (extent_below ext p is) in (omega arith, omega (arith, lies))
+pub map_page_there : (shape : Shape) (p q : ℕ) → IsExtentPage shape p → q ≡ map_page_of (extent_of shape p) → IsMapPage shape q
+map_page_there shape p q is at = let lies = on_map shape.extents (extent_of shape p) (extent_below shape p is) in (omega arith, omega (arith, lies))
 
 -- no page of an extent is one of the map
-pub apart_from_map : (ext : Extents) (p : ℕ) → IsExtentPage ext p → IsMapPage ext p → ⊥
-apart_from_map ext p is map = omega (arith, is.behind, map.1)
+pub apart_from_map : (shape : Shape) (p : ℕ) → IsExtentPage shape p → IsMapPage shape p → ⊥
+apart_from_map shape p is map = omega (arith, is.behind, map.1)
 
 -- a place that is used stays so where another is given back
 bit_stays : (used i j : ℕ) → i < 32 → j < 32 → i ≢ j → bit_at used i ≡ 1 → bit_at (bit_and used (bit_not w32 (2 ^ j))) i ≡ 1
@@ -44,49 +44,36 @@ place_stays i j (Index used) few less apart is =
     ]
 
 -- a used page stays so where another is given back
-pub used_beside : (ext : Extents) (owners : List Kind) (p q : ℕ) → IsUsedPage ext owners p → IsExtentPage ext q → p ≢ q → IsUsedPage ext (without_page ext owners q) p
-used_beside ext owners p q is other apart =
-    let limits = extent_limits ext in
-    let low = place_below ext p in
-    let lower = place_below ext q in
+pub used_beside : (shape : Shape) (owners : List Kind) (p q : ℕ) → IsUsedPage shape owners p → IsExtentPage shape q → p ≢ q → IsUsedPage shape (without_page shape owners q) p
+used_beside shape owners p q is other apart =
+    let limits = extent_limits shape in
+    let low = place_below shape p in
+    let lower = place_below shape q in
     record {
       page = is.page;
-      used = elim (cases_eq (extent_of ext p) (extent_of ext q)) [
-        | inr far ↦ subst (λ (k : Kind). IsTrue (is_used_place (place_in_extent ext p) k)) (sym (get_or-set_other owners (extent_of ext q) (extent_of ext p) (without_place (place_in_extent ext q) (owner_of owners (extent_of ext q))) Free far)) is.used
-        | inl near ↦ same_extent near (λ (e : place_in_extent ext p ≡ place_in_extent ext q). apart (together near e)) (omega (arith, limits.1, low)) (omega (arith, limits.1, lower))
+      used = elim (cases_eq (extent_of shape p) (extent_of shape q)) [
+        | inr far ↦ subst (λ (k : Kind). IsTrue (is_used_place (place_in_extent shape p) k)) (sym (get_or-set_other owners (extent_of shape q) (extent_of shape p) (without_place (place_in_extent shape q) (owner_of owners (extent_of shape q))) Free far)) is.used
+        | inl near ↦ same_extent near (λ (e : place_in_extent shape p ≡ place_in_extent shape q). apart (together near e)) (omega (arith, limits.1, low)) (omega (arith, limits.1, lower))
       ];
     }
   where
-    together : extent_of ext p ≡ extent_of ext q → place_in_extent ext p ≡ place_in_extent ext q → p ≡ q
+    together : extent_of shape p ≡ extent_of shape q → place_in_extent shape p ≡ place_in_extent shape q → p ≡ q
     together e f =
-        sym (page_of-parts ext p is.page)
-        ∙ (ap (λ (k : ℕ). first_page_of ext.cap ext.extent_pages k + place_in_extent ext p) e
-        ∙ (ap (λ (k : ℕ). first_page_of ext.cap ext.extent_pages (extent_of ext q) + k) f ∙ page_of-parts ext q other))
+        sym (page_of-parts shape p is.page)
+        ∙ (ap (λ (k : ℕ). first_page_of shape.extents shape.extent_pages k + place_in_extent shape p) e
+        ∙ (ap (λ (k : ℕ). first_page_of shape.extents shape.extent_pages (extent_of shape q) + k) f ∙ page_of-parts shape q other))
 
     -- an extent past the end of the list is free, and none of its pages is used
-    there : (e : ℕ) (kind : Kind) → IsTrue (is_used_place (place_in_extent ext p) (owner_of owners e)) → IsTrue (is_used_place (place_in_extent ext p) kind)
-        → IsTrue (is_used_place (place_in_extent ext p) (owner_of (set owners e kind) e))
+    there : (e : ℕ) (kind : Kind) → IsTrue (is_used_place (place_in_extent shape p) (owner_of owners e)) → IsTrue (is_used_place (place_in_extent shape p) kind)
+        → IsTrue (is_used_place (place_in_extent shape p) (owner_of (set owners e kind) e))
     there e kind was now = elim (cases_lt e (length owners)) [
-      | inl below ↦ subst (λ (k : Kind). IsTrue (is_used_place (place_in_extent ext p) k)) (sym (get_or-set_same owners e kind Free below)) now
-      | inr past ↦ let none : IsTrue (is_used_place (place_in_extent ext p) Free) = subst (λ (k : Kind). IsTrue (is_used_place (place_in_extent ext p) k)) (get_or-eq_default owners Free {n = e} past) was in cc
+      | inl below ↦ subst (λ (k : Kind). IsTrue (is_used_place (place_in_extent shape p) k)) (sym (get_or-set_same owners e kind Free below)) now
+      | inr past ↦ let none : IsTrue (is_used_place (place_in_extent shape p) Free) = subst (λ (k : Kind). IsTrue (is_used_place (place_in_extent shape p) k)) (get_or-eq_default owners Free {n = e} past) was in cc
     ]
 
-    same_extent : extent_of ext p ≡ extent_of ext q → place_in_extent ext p ≢ place_in_extent ext q → place_in_extent ext p < 32 → place_in_extent ext q < 32
-        → IsTrue (is_used_place (place_in_extent ext p) (owner_of (without_page ext owners q) (extent_of ext p)))
+    same_extent : extent_of shape p ≡ extent_of shape q → place_in_extent shape p ≢ place_in_extent shape q → place_in_extent shape p < 32 → place_in_extent shape q < 32
+        → IsTrue (is_used_place (place_in_extent shape p) (owner_of (without_page shape owners q) (extent_of shape p)))
     same_extent near d few less =
-        let was : IsTrue (is_used_place (place_in_extent ext p) (owner_of owners (extent_of ext q))) = subst (λ (e : ℕ). IsTrue (is_used_place (place_in_extent ext p) (owner_of owners e))) near is.used in
-        subst (λ (e : ℕ). IsTrue (is_used_place (place_in_extent ext p) (owner_of (without_page ext owners q) e))) (sym near)
-        (there (extent_of ext q) (without_place (place_in_extent ext q) (owner_of owners (extent_of ext q))) was (place_stays (place_in_extent ext p) (place_in_extent ext q) (owner_of owners (extent_of ext q)) few less d was))
-
--- extents of the same shape give back the same
-pub without_page-shape : (before after : Extents) (owners : List Kind) (p : ℕ) → IsSameShape before after → without_page after owners p ≡ without_page before owners p
-without_page-shape before after owners p shape = rw (shape.cap, shape.extent_pages) refl
-
-pub used-shape : (before after : Extents) (owners : List Kind) (p : ℕ) → IsSameShape before after → IsUsedPage before owners p → IsUsedPage after owners p
-used-shape before after owners p shape is = record {
-  page = record { behind = rw shape.cap is.page.behind; within = rw (shape.cap, shape.extent_pages) is.page.within };
-  used = rw (shape.cap, shape.extent_pages) is.used;
-}
-
-pub map_page-shape : (before after : Extents) (p : ℕ) → IsSameShape before after → IsMapPage after p → IsMapPage before p
-map_page-shape before after p shape is = (is.0, subst (λ (cap : ℕ). p < first_count cap) shape.cap is.1)
+        let was : IsTrue (is_used_place (place_in_extent shape p) (owner_of owners (extent_of shape q))) = subst (λ (e : ℕ). IsTrue (is_used_place (place_in_extent shape p) (owner_of owners e))) near is.used in
+        subst (λ (e : ℕ). IsTrue (is_used_place (place_in_extent shape p) (owner_of (without_page shape owners q) e))) (sym near)
+        (there (extent_of shape q) (without_place (place_in_extent shape q) (owner_of owners (extent_of shape q))) was (place_stays (place_in_extent shape p) (place_in_extent shape q) (owner_of owners (extent_of shape q)) few less d was))

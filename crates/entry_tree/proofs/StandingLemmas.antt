@@ -7,10 +7,11 @@ use Rattle.node_page.specs.Node.{Node, leaf_room}
 use Rattle.node_page.specs.Node.Node.{LeafNode}
 use Rattle.store_api.specs.Frame.{Touches}
 use Rattle.store_api.specs.declared.pages.Pages.{Ghosts}
+use Rattle.store_api.specs.declared.shape.Shape.{Shape}
 use Rattle.extent_map.specs.Map.{BringsZeros, HoldsMap, IsMapPage, IsSpacePage, map_page}
-use Rattle.extent_map.specs.Owners.{IsUsedPage, IsExtentPage, IsSameShape, with_used_page}
-use Rattle.extent_map.specs.declared.extents.Extents.{Extents}
+use Rattle.extent_map.specs.Owners.{IsUsedPage, IsExtentPage, with_used_page}
 use Rattle.extent_map.specs.declared.kind.Kind.{Kind}
+use Rattle.extent_map.specs.declared.space_notes.SpaceNotes.{SpaceNotes}
 use Rattle.entry_tree.specs.EntryBounds.{IsEntryOf}
 use Rattle.entry_tree.specs.Forest.{Forest, leaf_entries, once, times, EachNode, HoldsEntry, IsPageBelow}
 use Rattle.entry_tree.specs.Forest.Forest.{Nil, Leaf, Fork}
@@ -26,7 +27,7 @@ use Rattle.entry_tree.proofs.LeavesLemmas.{fork_trim}
 use Rattle.entry_tree.proofs.HeldTreesLemmas.{nodes_kept}
 use Rattle.entry_tree.proofs.UnderWayLemmas.{path_front, path_end}
 use Rattle.entry_tree.proofs.WayLemmas.{tree_below, at_place_times}
-use Rattle.entry_tree.proofs.UsedPagesLemmas.{length-with_pages, claims_apart, claims_used, claimed_used, used_after, used_same, shape_back}
+use Rattle.entry_tree.proofs.UsedPagesLemmas.{length-with_pages, claims_apart, claims_used, claimed_used, used_after}
 
 -- ---- pages of a tree
 
@@ -46,12 +47,12 @@ below_each count n (Fork p seps kids next) h l = elim (cases_eq n p) [
 ]
 
 -- a page of an extent isn't one of the extent map, nor page 0
-pub extent_not_space : (ext : Extents) (p : ℕ) → IsExtentPage ext p → IsSpacePage ext p → ⊥
-extent_not_space ext p h (inl e) = let b = h.behind in omega (arith, b, e)
-extent_not_space ext p h (inr m) = let b = h.behind in omega (arith, b, m.1)
+pub extent_not_space : (shape : Shape) (p : ℕ) → IsExtentPage shape p → IsSpacePage shape p → ⊥
+extent_not_space shape p h (inl e) = let b = h.behind in omega (arith, b, e)
+extent_not_space shape p h (inr m) = let b = h.behind in omega (arith, b, m.1)
 
-pub used_not_space : (ext : Extents) (owners : List Kind) (p : ℕ) → IsUsedPage ext owners p → IsSpacePage ext p → ⊥
-used_not_space ext owners p u s = extent_not_space ext p u.page s
+pub used_not_space : (shape : Shape) (owners : List Kind) (p : ℕ) → IsUsedPage shape owners p → IsSpacePage shape p → ⊥
+used_not_space shape owners p u s = extent_not_space shape p u.page s
 
 module _ {S : Type 0} {g : Ghosts S} where
   -- a tree stays where none of its pages is touched
@@ -77,9 +78,9 @@ module _ {S : Type 0} {g : Ghosts S} where
   page_there old tree t p h l = below_each (length (g.state old).work) p t (tree_below h) l
 
   -- the extent map stays where none of its pages is touched
-  pub map_stays : (Mine : ℕ → Type 0) (ext : Extents) (old new : S) (owners : List Kind) → HoldsMap g ext old owners → Touches g Mine old new
-      → length (g.state old).work ≤ length (g.state new).work → ((p : ℕ) → IsMapPage ext p → Mine p → ⊥) → HoldsMap g ext new owners
-  map_stays Mine ext old new owners h touched longer apart = record {
+  pub map_stays : (Mine : ℕ → Type 0) (shape : Shape) (old new : S) (owners : List Kind) → HoldsMap g shape old owners → Touches g Mine old new
+      → length (g.state old).work ≤ length (g.state new).work → ((p : ℕ) → IsMapPage shape p → Mine p → ⊥) → HoldsMap g shape new owners
+  map_stays Mine shape old new owners h touched longer apart = record {
     count = h.count;
     pages = λ i l. let was = h.pages i l in record {
       page = touched.others (17 + i) (map_page owners i) (λ mine. apart (17 + i) (omega arith, omega arith) mine) was.page;
@@ -144,21 +145,21 @@ not_among p claimed n = elim (cases_lt 0 (times_among p claimed)) [
   | inr none ↦ omega arith
 ]
 
-claims_once : (ext : Extents) (owners : List Kind) (claimed : List ℕ) → length owners ≡ ext.cap → AreClaims ext owners claimed → (n : ℕ) → times_among n claimed ≤ 1
-claims_once ext owners [] l h n = omega arith
-claims_once ext owners (p ∷ claimed) l h n = elim (cases_eq n p) [
-  | inl e ↦ let none : times_among n claimed ≡ 0 = not_among n claimed (λ i. claims_apart ext (with_used_page ext owners p) claimed n h.1 (subst (IsUsedPage ext (with_used_page ext owners p)) (sym e) (claimed_used ext owners p l h.0)) i) in
+claims_once : (shape : Shape) (owners : List Kind) (claimed : List ℕ) → length owners ≡ shape.extents → AreClaims shape owners claimed → (n : ℕ) → times_among n claimed ≤ 1
+claims_once shape owners [] l h n = omega arith
+claims_once shape owners (p ∷ claimed) l h n = elim (cases_eq n p) [
+  | inl e ↦ let none : times_among n claimed ≡ 0 = not_among n claimed (λ i. claims_apart shape (with_used_page shape owners p) claimed n h.1 (subst (IsUsedPage shape (with_used_page shape owners p)) (sym e) (claimed_used shape owners p l h.0)) i) in
       omega (arith, subst (λ (v : ℕ). once n v ≡ 1) e (once_same n))
-  | inr d ↦ omega (arith, once_other n p d, claims_once ext (with_used_page ext owners p) claimed (length-with_pages ext owners (p ∷ []) ∙ l) h.1 n)
+  | inr d ↦ omega (arith, once_other n p d, claims_once shape (with_used_page shape owners p) claimed (length-with_pages shape owners (p ∷ []) ∙ l) h.1 n)
 ]
 
 -- pages that were claimed are fresh to a tree of used pages
-pub claims_fresh : (ext : Extents) (owners : List Kind) (claimed : List ℕ) (t : Forest) → length owners ≡ ext.cap → AreClaims ext owners claimed → ((p : ℕ) → 0 < times p t → IsUsedPage ext owners p)
+pub claims_fresh : (shape : Shape) (owners : List Kind) (claimed : List ℕ) (t : Forest) → length owners ≡ shape.extents → AreClaims shape owners claimed → ((p : ℕ) → 0 < times p t → IsUsedPage shape owners p)
     → AreFresh t claimed
-claims_fresh ext owners claimed t l h used = record {
-  once = claims_once ext owners claimed l h;
+claims_fresh shape owners claimed t l h used = record {
+  once = claims_once shape owners claimed l h;
   apart = λ n some. elim (cases_lt 0 (times n t)) [
-    | inl is ↦ absurd (claims_apart ext owners claimed n h (used n is) (among_claimed n claimed some))
+    | inl is ↦ absurd (claims_apart shape owners claimed n h (used n is) (among_claimed n claimed some))
     | inr none ↦ omega arith
   ];
 }
@@ -190,23 +191,23 @@ keeps_same width one other t (Fork p seps kids next) same h = (tt, keeps_same wi
 
 module _ {S : Type 0} {g : Ghosts S} where
   -- the facts of an addition, once the claims and the writes are done
-  pub added : (Mine Wrote : ℕ → Type 0) (before ext : Extents) (old mid new : S) (tree : Tree) (x : Entry) (owners : List Kind) (t : Forest) (claimed : List ℕ)
-      → IsSameShape before ext → StandsTree g before old tree owners t → ClaimsPages g before ext mid owners claimed
+  pub added : (Mine Wrote : ℕ → Type 0) (shape : Shape) (before noted : SpaceNotes) (old mid new : S) (tree : Tree) (x : Entry) (owners : List Kind) (t : Forest) (claimed : List ℕ)
+      → StandsTree g shape old tree owners t → ClaimsPages g shape before noted mid owners claimed
       → Touches g Mine old mid → (g.state mid).is_told ≡ (g.state old).is_told → ((p : ℕ) → 0 < times p t → Mine p → ⊥)
-      → Touches g Wrote mid new → (g.state new).is_told ≡ (g.state mid).is_told → length (g.state mid).work ≤ length (g.state new).work → ((p : ℕ) → Wrote p → IsSpacePage ext p → ⊥)
-      → GrowsWith g before old new claimed → BringsZeros g (λ p. IsClaimed p claimed) old new
+      → Touches g Wrote mid new → (g.state new).is_told ≡ (g.state mid).is_told → length (g.state mid).work ≤ length (g.state new).work → ((p : ℕ) → Wrote p → IsSpacePage shape p → ⊥)
+      → GrowsWith g shape old new claimed → BringsZeros g (λ p. IsClaimed p claimed) old new
       → AsksPages tree.width (nodes_in tree.width (g.state old)) t x (length claimed) → (IsEntryOf x (leaf_entries t) → ⊥)
       → IsAdded tree.width (nodes_in tree.width (g.state mid)) (nodes_in tree.width (g.state new)) tree.root t x claimed
-      → AddsEntry g before ext old new tree x owners t
-  added Mine Wrote before ext old mid new tree x owners t claimed s stood c touched told apart written told_new longer off grows zeros asks absent a =
+      → AddsEntry g shape before noted old new tree x owners t
+  added Mine Wrote shape before noted old mid new tree x owners t claimed stood c touched told apart written told_new longer off grows zeros asks absent a =
       let same = nodes_stay Mine old mid tree t stood.held touched told apart in
       record {
         claimed = claimed;
         after = a.after;
         stands = record {
-          map = map_stays Wrote ext mid new (with_pages before owners claimed) c.map written longer (λ p on_map mine. off p mine (inr on_map));
+          map = map_stays Wrote shape mid new (with_pages shape owners claimed) c.map written longer (λ p on_map mine. off p mine (inr on_map));
           held = record { is_tree = a.tree; trim = fork_trim a.after tree.root a.tree.head (holds_entries tree.width _ t a.after a.leaves) };
-          used = λ p l. used_same ext before (with_pages before owners claimed) p (shape_back before ext s) (used p (pages_apart t a.after claimed p a.pages l));
+          used = λ p l. (used p (pages_apart t a.after claimed p a.pages l));
         };
         adds = a.adds;
         absent = absent;
@@ -220,6 +221,6 @@ module _ {S : Type 0} {g : Ghosts S} where
         zeros = zeros;
       }
     where
-      used : (p : ℕ) → 0 < times p t ⊎ IsClaimed p claimed → IsUsedPage before (with_pages before owners claimed) p
-      used p (inl l) = used_after before owners claimed p (stood.used p l)
-      used p (inr i) = claims_used before owners claimed p stood.map.count c.claims i
+      used : (p : ℕ) → 0 < times p t ⊎ IsClaimed p claimed → IsUsedPage shape (with_pages shape owners claimed) p
+      used p (inl l) = used_after shape owners claimed p (stood.used p l)
+      used p (inr i) = claims_used shape owners claimed p stood.map.count c.claims i

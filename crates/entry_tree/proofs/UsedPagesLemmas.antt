@@ -6,9 +6,9 @@ use Rattle.std.proofs.lemmas.List.{get_or_past}
 use Rattle.std.proofs.lemmas.Nat.{div_below}
 use Rattle.std.proofs.lemmas.Nat.Bits.{bit_at_or, bit_at-lt, bit_at-pow_same}
 use Rattle.store_api.specs.Extents.{first_count, first_page_of}
+use Rattle.store_api.specs.declared.shape.Shape.{Shape}
 use Rattle.extent_map.specs.Kinds.{is_used_place, is_unused_place, with_used_place}
-use Rattle.extent_map.specs.Owners.{owner_of, extent_of, place_in_extent, IsExtentPage, IsUsedPage, IsUnusedPage, IsClaimable, IsLowestClaimable, IsLowestFree, HasNoUnused, IsSameShape, with_used_page}
-use Rattle.extent_map.specs.declared.extents.Extents.{Extents}
+use Rattle.extent_map.specs.Owners.{owner_of, extent_of, place_in_extent, IsExtentPage, IsUsedPage, IsUnusedPage, IsClaimable, IsLowestClaimable, with_used_page}
 use Rattle.extent_map.specs.declared.kind.Kind.{Kind}
 use Rattle.extent_map.specs.declared.kind.Kind.TheVariants.{Free, Block, Index}
 use Rattle.entry_tree.specs.Standing.{with_pages, AreClaims, AreLowestClaims, IsClaimed, IsIdlePage}
@@ -18,8 +18,8 @@ below_cap : (cap pages p : ℕ) → first_count cap ≤ p → p < first_page_of 
 below_cap cap zero p h k = absurd (omega arith)
 below_cap cap (suc pages) p h k = div_below (p - first_count cap) (suc pages) cap (omega arith) (omega arith)
 
-pub extent_below : (ext : Extents) (p : ℕ) → IsExtentPage ext p → extent_of ext p < ext.cap
-extent_below ext p h = below_cap ext.cap ext.extent_pages p h.behind h.within
+pub extent_below : (shape : Shape) (p : ℕ) → IsExtentPage shape p → extent_of shape p < shape.extents
+extent_below shape p h = below_cap shape.extents shape.extent_pages p h.behind h.within
 
 -- a place that is used
 one_bit : (b : ℕ) → b < 2 → (b == 1) ≡ true → b ≡ 1
@@ -71,145 +71,86 @@ not_block j (Block t) h table e = cc
 not_block j (Index used) h table e = cc
 
 -- a page that may be claimed isn't used
-pub claimable_unused : (ext : Extents) (owners : List Kind) (p : ℕ) → IsClaimable ext owners p → IsUsedPage ext owners p → ⊥
-claimable_unused ext owners p c u = go c.claimable
+pub claimable_unused : (shape : Shape) (owners : List Kind) (p : ℕ) → IsClaimable shape owners p → IsUsedPage shape owners p → ⊥
+claimable_unused shape owners p c u = go c.claimable
   where
-    go : IsUnusedPage ext owners p ⊎ ((owner_of owners (extent_of ext p) ≡ Free) × (place_in_extent ext p ≡ 0)) → ⊥
-    go (inl unused) = not_both (place_in_extent ext p) (owner_of owners (extent_of ext p)) u.used unused.unused
-    go (inr free) = let used = subst (λ (k : Kind). IsTrue (is_used_place (place_in_extent ext p) k)) free.0 u.used in cc
+    go : IsUnusedPage shape owners p ⊎ ((owner_of owners (extent_of shape p) ≡ Free) × (place_in_extent shape p ≡ 0)) → ⊥
+    go (inl unused) = not_both (place_in_extent shape p) (owner_of owners (extent_of shape p)) u.used unused.unused
+    go (inr free) = let used = subst (λ (k : Kind). IsTrue (is_used_place (place_in_extent shape p) k)) free.0 u.used in cc
 
 -- a claimed page is used
-pub claimed_used : (ext : Extents) (owners : List Kind) (p : ℕ) → length owners ≡ ext.cap → IsClaimable ext owners p → IsUsedPage ext (with_used_page ext owners p) p
-claimed_used ext owners p l c = record {
+pub claimed_used : (shape : Shape) (owners : List Kind) (p : ℕ) → length owners ≡ shape.extents → IsClaimable shape owners p → IsUsedPage shape (with_used_page shape owners p) p
+claimed_used shape owners p l c = record {
   page = c.page;
   used =
-      let below : extent_of ext p < length owners = omega (arith, l, extent_below ext p c.page) in
-      subst (λ (k : Kind). IsTrue (is_used_place (place_in_extent ext p) k)) (sym (get_or-set_same owners (extent_of ext p) (with_used_place (place_in_extent ext p) (owner_of owners (extent_of ext p))) Free below))
-      (place_used (place_in_extent ext p) (owner_of owners (extent_of ext p)) (no_block c.claimable));
+      let below : extent_of shape p < length owners = omega (arith, l, extent_below shape p c.page) in
+      subst (λ (k : Kind). IsTrue (is_used_place (place_in_extent shape p) k)) (sym (get_or-set_same owners (extent_of shape p) (with_used_place (place_in_extent shape p) (owner_of owners (extent_of shape p))) Free below))
+      (place_used (place_in_extent shape p) (owner_of owners (extent_of shape p)) (no_block c.claimable));
 }
   where
-    no_block : IsUnusedPage ext owners p ⊎ ((owner_of owners (extent_of ext p) ≡ Free) × (place_in_extent ext p ≡ 0)) → (table : ℕ) → owner_of owners (extent_of ext p) ≢ Block table
-    no_block (inl unused) table e = not_block (place_in_extent ext p) (owner_of owners (extent_of ext p)) unused.unused table e
+    no_block : IsUnusedPage shape owners p ⊎ ((owner_of owners (extent_of shape p) ≡ Free) × (place_in_extent shape p ≡ 0)) → (table : ℕ) → owner_of owners (extent_of shape p) ≢ Block table
+    no_block (inl unused) table e = not_block (place_in_extent shape p) (owner_of owners (extent_of shape p)) unused.unused table e
     no_block (inr free) table e = let both : Free ≡ Block table = sym free.0 ∙ e in cc
 
 -- a used page stays used
-pub used_stays : (ext : Extents) (owners : List Kind) (p q : ℕ) → IsUsedPage ext owners q → IsUsedPage ext (with_used_page ext owners p) q
-used_stays ext owners p q u = record {
+pub used_stays : (shape : Shape) (owners : List Kind) (p q : ℕ) → IsUsedPage shape owners q → IsUsedPage shape (with_used_page shape owners p) q
+used_stays shape owners p q u = record {
   page = u.page;
-  used = elim (cases_eq (extent_of ext q) (extent_of ext p)) [
+  used = elim (cases_eq (extent_of shape q) (extent_of shape p)) [
     | inl same ↦ here same
-    | inr other ↦ subst (λ (k : Kind). IsTrue (is_used_place (place_in_extent ext q) k)) (sym (get_or-set_other owners (extent_of ext p) (extent_of ext q) (with_used_place (place_in_extent ext p) (owner_of owners (extent_of ext p))) Free other)) u.used
+    | inr other ↦ subst (λ (k : Kind). IsTrue (is_used_place (place_in_extent shape q) k)) (sym (get_or-set_other owners (extent_of shape p) (extent_of shape q) (with_used_place (place_in_extent shape p) (owner_of owners (extent_of shape p))) Free other)) u.used
   ];
 }
   where
-    within : (e : ℕ) → IsTrue (is_used_place (place_in_extent ext q) (owner_of owners e)) → e < length owners
+    within : (e : ℕ) → IsTrue (is_used_place (place_in_extent shape q) (owner_of owners e)) → e < length owners
     within e h = elim (cases_lt e (length owners)) [
       | inl l ↦ l
-      | inr past ↦ let used = subst (λ (k : Kind). IsTrue (is_used_place (place_in_extent ext q) k)) (get_or_past owners e Free past) h in absurd cc
+      | inr past ↦ let used = subst (λ (k : Kind). IsTrue (is_used_place (place_in_extent shape q) k)) (get_or_past owners e Free past) h in absurd cc
     ]
 
-    here : extent_of ext q ≡ extent_of ext p → IsTrue (is_used_place (place_in_extent ext q) (owner_of (with_used_page ext owners p) (extent_of ext q)))
+    here : extent_of shape q ≡ extent_of shape p → IsTrue (is_used_place (place_in_extent shape q) (owner_of (with_used_page shape owners p) (extent_of shape q)))
     here same =
-        let used = subst (λ (e : ℕ). IsTrue (is_used_place (place_in_extent ext q) (owner_of owners e))) same u.used in
-        subst (λ (e : ℕ). IsTrue (is_used_place (place_in_extent ext q) (owner_of (with_used_page ext owners p) e))) (sym same)
-        (subst (λ (k : Kind). IsTrue (is_used_place (place_in_extent ext q) k)) (sym (get_or-set_same owners (extent_of ext p) (with_used_place (place_in_extent ext p) (owner_of owners (extent_of ext p))) Free (within (extent_of ext p) used)))
-        (place_stays (place_in_extent ext p) (place_in_extent ext q) (owner_of owners (extent_of ext p)) used))
+        let used = subst (λ (e : ℕ). IsTrue (is_used_place (place_in_extent shape q) (owner_of owners e))) same u.used in
+        subst (λ (e : ℕ). IsTrue (is_used_place (place_in_extent shape q) (owner_of (with_used_page shape owners p) e))) (sym same)
+        (subst (λ (k : Kind). IsTrue (is_used_place (place_in_extent shape q) k)) (sym (get_or-set_same owners (extent_of shape p) (with_used_place (place_in_extent shape p) (owner_of owners (extent_of shape p))) Free (within (extent_of shape p) used)))
+        (place_stays (place_in_extent shape p) (place_in_extent shape q) (owner_of owners (extent_of shape p)) used))
 
 -- ---- lists of claims
 
-pub length-with_pages : (ext : Extents) (owners : List Kind) (claimed : List ℕ) → length (with_pages ext owners claimed) ≡ length owners
-length-with_pages ext owners [] = refl
-length-with_pages ext owners (p ∷ claimed) =
-    length-with_pages ext (with_used_page ext owners p) claimed ∙ length-set owners (extent_of ext p) (with_used_place (place_in_extent ext p) (owner_of owners (extent_of ext p)))
+pub length-with_pages : (shape : Shape) (owners : List Kind) (claimed : List ℕ) → length (with_pages shape owners claimed) ≡ length owners
+length-with_pages shape owners [] = refl
+length-with_pages shape owners (p ∷ claimed) =
+    length-with_pages shape (with_used_page shape owners p) claimed ∙ length-set owners (extent_of shape p) (with_used_place (place_in_extent shape p) (owner_of owners (extent_of shape p)))
 
-pub with_pages-push : (ext : Extents) (owners : List Kind) (claimed : List ℕ) (p : ℕ) → with_pages ext owners (claimed ++ p ∷ []) ≡ with_used_page ext (with_pages ext owners claimed) p
-with_pages-push ext owners [] p = refl
-with_pages-push ext owners (q ∷ claimed) p = with_pages-push ext (with_used_page ext owners q) claimed p
+pub with_pages-push : (shape : Shape) (owners : List Kind) (claimed : List ℕ) (p : ℕ) → with_pages shape owners (claimed ++ p ∷ []) ≡ with_used_page shape (with_pages shape owners claimed) p
+with_pages-push shape owners [] p = refl
+with_pages-push shape owners (q ∷ claimed) p = with_pages-push shape (with_used_page shape owners q) claimed p
 
-pub AreClaims-push : (ext : Extents) (owners : List Kind) (claimed : List ℕ) (p : ℕ) → AreClaims ext owners claimed → IsClaimable ext (with_pages ext owners claimed) p → AreClaims ext owners (claimed ++ p ∷ [])
-AreClaims-push ext owners [] p h c = (c, tt)
-AreClaims-push ext owners (q ∷ claimed) p h c = (h.0, AreClaims-push ext (with_used_page ext owners q) claimed p h.1 c)
+pub AreClaims-push : (shape : Shape) (owners : List Kind) (claimed : List ℕ) (p : ℕ) → AreClaims shape owners claimed → IsClaimable shape (with_pages shape owners claimed) p → AreClaims shape owners (claimed ++ p ∷ [])
+AreClaims-push shape owners [] p h c = (c, tt)
+AreClaims-push shape owners (q ∷ claimed) p h c = (h.0, AreClaims-push shape (with_used_page shape owners q) claimed p h.1 c)
 
-pub AreLowestClaims-push : (ext : Extents) (owners : List Kind) (claimed : List ℕ) (p : ℕ) → AreLowestClaims ext owners claimed → IsLowestClaimable ext (with_pages ext owners claimed) p → AreLowestClaims ext owners (claimed ++ p ∷ [])
-AreLowestClaims-push ext owners [] p h c = (c, tt)
-AreLowestClaims-push ext owners (q ∷ claimed) p h c = (h.0, AreLowestClaims-push ext (with_used_page ext owners q) claimed p h.1 c)
+pub AreLowestClaims-push : (shape : Shape) (owners : List Kind) (claimed : List ℕ) (p : ℕ) → AreLowestClaims shape owners claimed → IsLowestClaimable shape (with_pages shape owners claimed) p → AreLowestClaims shape owners (claimed ++ p ∷ [])
+AreLowestClaims-push shape owners [] p h c = (c, tt)
+AreLowestClaims-push shape owners (q ∷ claimed) p h c = (h.0, AreLowestClaims-push shape (with_used_page shape owners q) claimed p h.1 c)
 
-pub used_after : (ext : Extents) (owners : List Kind) (claimed : List ℕ) (q : ℕ) → IsUsedPage ext owners q → IsUsedPage ext (with_pages ext owners claimed) q
-used_after ext owners [] q u = u
-used_after ext owners (p ∷ claimed) q u = used_after ext (with_used_page ext owners p) claimed q (used_stays ext owners p q u)
+pub used_after : (shape : Shape) (owners : List Kind) (claimed : List ℕ) (q : ℕ) → IsUsedPage shape owners q → IsUsedPage shape (with_pages shape owners claimed) q
+used_after shape owners [] q u = u
+used_after shape owners (p ∷ claimed) q u = used_after shape (with_used_page shape owners p) claimed q (used_stays shape owners p q u)
 
-pub claims_used : (ext : Extents) (owners : List Kind) (claimed : List ℕ) (q : ℕ) → length owners ≡ ext.cap → AreClaims ext owners claimed → IsClaimed q claimed → IsUsedPage ext (with_pages ext owners claimed) q
-claims_used ext owners [] q l h i = absurd i
-claims_used ext owners (p ∷ claimed) q l h (inl is) =
-    subst (λ (v : ℕ). IsUsedPage ext (with_pages ext (with_used_page ext owners p) claimed) v) (sym is)
-    (used_after ext (with_used_page ext owners p) claimed p (claimed_used ext owners p l h.0))
-claims_used ext owners (p ∷ claimed) q l h (inr i) =
-    claims_used ext (with_used_page ext owners p) claimed q (length-set owners (extent_of ext p) (with_used_place (place_in_extent ext p) (owner_of owners (extent_of ext p))) ∙ l) h.1 i
+pub claims_used : (shape : Shape) (owners : List Kind) (claimed : List ℕ) (q : ℕ) → length owners ≡ shape.extents → AreClaims shape owners claimed → IsClaimed q claimed → IsUsedPage shape (with_pages shape owners claimed) q
+claims_used shape owners [] q l h i = absurd i
+claims_used shape owners (p ∷ claimed) q l h (inl is) =
+    subst (λ (v : ℕ). IsUsedPage shape (with_pages shape (with_used_page shape owners p) claimed) v) (sym is)
+    (used_after shape (with_used_page shape owners p) claimed p (claimed_used shape owners p l h.0))
+claims_used shape owners (p ∷ claimed) q l h (inr i) =
+    claims_used shape (with_used_page shape owners p) claimed q (length-set owners (extent_of shape p) (with_used_place (place_in_extent shape p) (owner_of owners (extent_of shape p))) ∙ l) h.1 i
 
 -- a page that was used isn't among those that were claimed later
-pub claims_apart : (ext : Extents) (owners : List Kind) (claimed : List ℕ) (q : ℕ) → AreClaims ext owners claimed → IsUsedPage ext owners q → IsClaimed q claimed → ⊥
-claims_apart ext owners [] q h u i = i
-claims_apart ext owners (p ∷ claimed) q h u (inl is) = claimable_unused ext owners p h.0 (subst (IsUsedPage ext owners) is u)
-claims_apart ext owners (p ∷ claimed) q h u (inr i) = claims_apart ext (with_used_page ext owners p) claimed q h.1 (used_stays ext owners p q u) i
-
--- ---- the same extents with other notes
-
-pub with_page_same : (one other : Extents) (owners : List Kind) (p : ℕ) → IsSameShape one other → with_used_page other owners p ≡ with_used_page one owners p
-with_page_same one other owners p s = rw (s.cap, s.extent_pages) refl
-
-pub extent_page_same : (one other : Extents) (p : ℕ) → IsSameShape one other → IsExtentPage other p → IsExtentPage one p
-extent_page_same one other p s h = record {
-  behind = subst (λ (n : ℕ). first_count n ≤ p) s.cap h.behind;
-  within = subst (λ (m : ℕ). p < first_page_of one.cap m one.cap) s.extent_pages (subst (λ (n : ℕ). p < first_page_of n other.extent_pages n) s.cap h.within);
-}
-
--- a fact on the place and the extent of a page
-same_place : (one other : Extents) (p : ℕ) → IsSameShape one other → place_in_extent other p ≡ place_in_extent one p
-same_place one other p s = rw (s.cap, s.extent_pages) refl
-
-same_extent : (one other : Extents) (p : ℕ) → IsSameShape one other → extent_of other p ≡ extent_of one p
-same_extent one other p s = rw (s.cap, s.extent_pages) refl
-
-pub used_same : (one other : Extents) (owners : List Kind) (p : ℕ) → IsSameShape one other → IsUsedPage other owners p → IsUsedPage one owners p
-used_same one other owners p s h = record {
-  page = extent_page_same one other p s h.page;
-  used =
-      subst (λ (e : ℕ). IsTrue (is_used_place (place_in_extent one p) (owner_of owners e))) (same_extent one other p s)
-      (subst (λ (j : ℕ). IsTrue (is_used_place j (owner_of owners (extent_of other p)))) (same_place one other p s) h.used);
-}
-
-pub unused_same : (one other : Extents) (owners : List Kind) (p : ℕ) → IsSameShape one other → IsUnusedPage other owners p → IsUnusedPage one owners p
-unused_same one other owners p s h = record {
-  page = extent_page_same one other p s h.page;
-  unused =
-      subst (λ (e : ℕ). IsTrue (is_unused_place (place_in_extent one p) (owner_of owners e))) (same_extent one other p s)
-      (subst (λ (j : ℕ). IsTrue (is_unused_place j (owner_of owners (extent_of other p)))) (same_place one other p s) h.unused);
-}
-
-pub shape_back : (one other : Extents) → IsSameShape one other → IsSameShape other one
-shape_back one other s = record { cap = sym s.cap; extent_pages = sym s.extent_pages }
-
-pub claimable_same : (one other : Extents) (owners : List Kind) (p : ℕ) → IsSameShape one other → IsClaimable other owners p → IsClaimable one owners p
-claimable_same one other owners p s h = record { page = extent_page_same one other p s h.page; claimable = go h.claimable }
-  where
-    go : IsUnusedPage other owners p ⊎ ((owner_of owners (extent_of other p) ≡ Free) × (place_in_extent other p ≡ 0)) → IsUnusedPage one owners p ⊎ ((owner_of owners (extent_of one p) ≡ Free) × (place_in_extent one p ≡ 0))
-    go (inl unused) = inl (unused_same one other owners p s unused)
-    go (inr free) = inr (ap (owner_of owners) (sym (same_extent one other p s)) ∙ free.0, sym (same_place one other p s) ∙ free.1)
-
-pub no_unused_same : (one other : Extents) (owners : List Kind) → IsSameShape one other → HasNoUnused other owners → HasNoUnused one owners
-no_unused_same one other owners s h p u = h p (unused_same other one owners p (shape_back one other s) u)
-
-pub lowest_same : (one other : Extents) (owners : List Kind) (p : ℕ) → IsSameShape one other → IsLowestClaimable other owners p → IsLowestClaimable one owners p
-lowest_same one other owners p s (inl h) = inl (record {
-  unused = unused_same one other owners p s h.unused;
-  lowest = λ q l u. h.lowest q l (unused_same other one owners q (shape_back one other s) u);
-})
-lowest_same one other owners p s (inr h) = inr (record {
-  page = extent_page_same one other p s h.page;
-  none_unused = no_unused_same one other owners s h.none_unused;
-  lowest = subst (λ (e : ℕ). IsLowestFree owners e) (same_extent one other p s) h.lowest;
-  first = sym (same_place one other p s) ∙ h.first;
-})
+pub claims_apart : (shape : Shape) (owners : List Kind) (claimed : List ℕ) (q : ℕ) → AreClaims shape owners claimed → IsUsedPage shape owners q → IsClaimed q claimed → ⊥
+claims_apart shape owners [] q h u i = i
+claims_apart shape owners (p ∷ claimed) q h u (inl is) = claimable_unused shape owners p h.0 (subst (IsUsedPage shape owners) is u)
+claims_apart shape owners (p ∷ claimed) q h u (inr i) = claims_apart shape (with_used_page shape owners p) claimed q h.1 (used_stays shape owners p q u) i
 
 -- ---- claimed pages were idle
 
@@ -234,55 +175,55 @@ free_before j (Index used) h = cc
 abbrev IdleKind : ℕ → Kind → Type 0
 IdleKind j kind = IsTrue (is_unused_place j kind) ⊎ (kind ≡ Free)
 
-idle_before : (ext : Extents) (owners : List Kind) (p q : ℕ) → IsIdlePage ext (with_used_page ext owners q) p → IsIdlePage ext owners p
-idle_before ext owners p q h = record { page = h.page; idle = was }
+idle_before : (shape : Shape) (owners : List Kind) (p q : ℕ) → IsIdlePage shape (with_used_page shape owners q) p → IsIdlePage shape owners p
+idle_before shape owners p q h = record { page = h.page; idle = was }
   where
-    kind_now : IdleKind (place_in_extent ext p) (owner_of (with_used_page ext owners q) (extent_of ext p))
+    kind_now : IdleKind (place_in_extent shape p) (owner_of (with_used_page shape owners q) (extent_of shape p))
     kind_now = go h.idle
       where
-        go : IsUnusedPage ext (with_used_page ext owners q) p ⊎ (owner_of (with_used_page ext owners q) (extent_of ext p) ≡ Free) → IdleKind (place_in_extent ext p) (owner_of (with_used_page ext owners q) (extent_of ext p))
+        go : IsUnusedPage shape (with_used_page shape owners q) p ⊎ (owner_of (with_used_page shape owners q) (extent_of shape p) ≡ Free) → IdleKind (place_in_extent shape p) (owner_of (with_used_page shape owners q) (extent_of shape p))
         go (inl u) = inl u.unused
         go (inr f) = inr f
 
-    back : (kind : Kind) → IdleKind (place_in_extent ext p) (with_used_place (place_in_extent ext q) kind) → IdleKind (place_in_extent ext p) kind
-    back kind (inl u) = unused_before (place_in_extent ext q) (place_in_extent ext p) kind u
-    back kind (inr f) = inr (free_before (place_in_extent ext q) kind f)
+    back : (kind : Kind) → IdleKind (place_in_extent shape p) (with_used_place (place_in_extent shape q) kind) → IdleKind (place_in_extent shape p) kind
+    back kind (inl u) = unused_before (place_in_extent shape q) (place_in_extent shape p) kind u
+    back kind (inr f) = inr (free_before (place_in_extent shape q) kind f)
 
-    here : extent_of ext p ≡ extent_of ext q → IdleKind (place_in_extent ext p) (owner_of owners (extent_of ext p))
-    here same = elim (cases_lt (extent_of ext q) (length owners)) [
+    here : extent_of shape p ≡ extent_of shape q → IdleKind (place_in_extent shape p) (owner_of owners (extent_of shape p))
+    here same = elim (cases_lt (extent_of shape q) (length owners)) [
       | inl l ↦
-          let now = subst (λ (k : Kind). IdleKind (place_in_extent ext p) k) (ap (owner_of (with_used_page ext owners q)) same ∙ get_or-set_same owners (extent_of ext q) (with_used_place (place_in_extent ext q) (owner_of owners (extent_of ext q))) Free l) kind_now in
-          subst (λ (e : ℕ). IdleKind (place_in_extent ext p) (owner_of owners e)) (sym same) (back (owner_of owners (extent_of ext q)) now)
-      | inr past ↦ inr (ap (owner_of owners) same ∙ get_or_past owners (extent_of ext q) Free past)
+          let now = subst (λ (k : Kind). IdleKind (place_in_extent shape p) k) (ap (owner_of (with_used_page shape owners q)) same ∙ get_or-set_same owners (extent_of shape q) (with_used_place (place_in_extent shape q) (owner_of owners (extent_of shape q))) Free l) kind_now in
+          subst (λ (e : ℕ). IdleKind (place_in_extent shape p) (owner_of owners e)) (sym same) (back (owner_of owners (extent_of shape q)) now)
+      | inr past ↦ inr (ap (owner_of owners) same ∙ get_or_past owners (extent_of shape q) Free past)
     ]
 
-    elsewhere : extent_of ext p ≢ extent_of ext q → IdleKind (place_in_extent ext p) (owner_of owners (extent_of ext p))
-    elsewhere other = subst (λ (k : Kind). IdleKind (place_in_extent ext p) k) (get_or-set_other owners (extent_of ext q) (extent_of ext p) (with_used_place (place_in_extent ext q) (owner_of owners (extent_of ext q))) Free other) kind_now
+    elsewhere : extent_of shape p ≢ extent_of shape q → IdleKind (place_in_extent shape p) (owner_of owners (extent_of shape p))
+    elsewhere other = subst (λ (k : Kind). IdleKind (place_in_extent shape p) k) (get_or-set_other owners (extent_of shape q) (extent_of shape p) (with_used_place (place_in_extent shape q) (owner_of owners (extent_of shape q))) Free other) kind_now
 
-    was : IsUnusedPage ext owners p ⊎ (owner_of owners (extent_of ext p) ≡ Free)
-    was = go (elim (cases_eq (extent_of ext p) (extent_of ext q)) [ inl same ↦ here same | inr other ↦ elsewhere other ])
+    was : IsUnusedPage shape owners p ⊎ (owner_of owners (extent_of shape p) ≡ Free)
+    was = go (elim (cases_eq (extent_of shape p) (extent_of shape q)) [ inl same ↦ here same | inr other ↦ elsewhere other ])
       where
-        go : IdleKind (place_in_extent ext p) (owner_of owners (extent_of ext p)) → IsUnusedPage ext owners p ⊎ (owner_of owners (extent_of ext p) ≡ Free)
+        go : IdleKind (place_in_extent shape p) (owner_of owners (extent_of shape p)) → IsUnusedPage shape owners p ⊎ (owner_of owners (extent_of shape p) ≡ Free)
         go (inl u) = inl (record { page = h.page; unused = u })
         go (inr f) = inr f
 
-pub claims_idle : (ext : Extents) (owners : List Kind) (claimed : List ℕ) (p : ℕ) → AreClaims ext owners claimed → IsClaimed p claimed → IsIdlePage ext owners p
-claims_idle ext owners [] p h i = absurd i
-claims_idle ext owners (q ∷ claimed) p h (inl is) = subst (IsIdlePage ext owners) (sym is) (record { page = h.0.page; idle = go h.0.claimable })
+pub claims_idle : (shape : Shape) (owners : List Kind) (claimed : List ℕ) (p : ℕ) → AreClaims shape owners claimed → IsClaimed p claimed → IsIdlePage shape owners p
+claims_idle shape owners [] p h i = absurd i
+claims_idle shape owners (q ∷ claimed) p h (inl is) = subst (IsIdlePage shape owners) (sym is) (record { page = h.0.page; idle = go h.0.claimable })
   where
-    go : IsUnusedPage ext owners q ⊎ ((owner_of owners (extent_of ext q) ≡ Free) × (place_in_extent ext q ≡ 0)) → IsUnusedPage ext owners q ⊎ (owner_of owners (extent_of ext q) ≡ Free)
+    go : IsUnusedPage shape owners q ⊎ ((owner_of owners (extent_of shape q) ≡ Free) × (place_in_extent shape q ≡ 0)) → IsUnusedPage shape owners q ⊎ (owner_of owners (extent_of shape q) ≡ Free)
     go (inl u) = inl u
     go (inr f) = inr f.0
-claims_idle ext owners (q ∷ claimed) p h (inr i) = idle_before ext owners p q (claims_idle ext (with_used_page ext owners q) claimed p h.1 i)
+claims_idle shape owners (q ∷ claimed) p h (inr i) = idle_before shape owners p q (claims_idle shape (with_used_page shape owners q) claimed p h.1 i)
 
 -- each claimed page lies in an extent
-pub claims_pages : (ext : Extents) (owners : List Kind) (claimed : List ℕ) (p : ℕ) → AreClaims ext owners claimed → IsClaimed p claimed → IsExtentPage ext p
-claims_pages ext owners claimed p h i = let idle = claims_idle ext owners claimed p h i in idle.page
+pub claims_pages : (shape : Shape) (owners : List Kind) (claimed : List ℕ) (p : ℕ) → AreClaims shape owners claimed → IsClaimed p claimed → IsExtentPage shape p
+claims_pages shape owners claimed p h i = let idle = claims_idle shape owners claimed p h i in idle.page
 
 -- a used page isn't idle
-pub used_not_idle : (ext : Extents) (owners : List Kind) (p : ℕ) → IsUsedPage ext owners p → IsIdlePage ext owners p → ⊥
-used_not_idle ext owners p u h = go h.idle
+pub used_not_idle : (shape : Shape) (owners : List Kind) (p : ℕ) → IsUsedPage shape owners p → IsIdlePage shape owners p → ⊥
+used_not_idle shape owners p u h = go h.idle
   where
-    go : IsUnusedPage ext owners p ⊎ (owner_of owners (extent_of ext p) ≡ Free) → ⊥
-    go (inl unused) = not_both (place_in_extent ext p) (owner_of owners (extent_of ext p)) u.used unused.unused
-    go (inr free) = let used = subst (λ (k : Kind). IsTrue (is_used_place (place_in_extent ext p) k)) free u.used in absurd cc
+    go : IsUnusedPage shape owners p ⊎ (owner_of owners (extent_of shape p) ≡ Free) → ⊥
+    go (inl unused) = not_both (place_in_extent shape p) (owner_of owners (extent_of shape p)) u.used unused.unused
+    go (inr free) = let used = subst (λ (k : Kind). IsTrue (is_used_place (place_in_extent shape p) k)) free u.used in absurd cc

@@ -6,9 +6,10 @@ use Rattle.node_page.specs.Entries.{count_named, names_block, without_blocks}
 use Rattle.node_page.specs.Node.{Node}
 use Rattle.node_page.specs.Node.Node.{LeafNode}
 use Rattle.store_api.specs.declared.pages.Pages.{Ghosts}
+use Rattle.store_api.specs.declared.shape.Shape.{Shape}
 use Rattle.extent_map.specs.Owners.{AreRightNotes}
-use Rattle.extent_map.specs.declared.extents.Extents.{Extents}
 use Rattle.extent_map.specs.declared.kind.Kind.{Kind}
+use Rattle.extent_map.specs.declared.space_notes.SpaceNotes.{SpaceNotes}
 use Rattle.entry_tree.specs.EntryBounds.{Bound}
 use Rattle.entry_tree.specs.Forest.{Forest, leaf_entries, times}
 use Rattle.entry_tree.specs.Forest.Forest.{Leaf, Nil}
@@ -50,15 +51,15 @@ pub record IsFirstLeaf (t : Forest) (bound : Entry) (next : Bound) : Type 0 wher
 
 -- What a sweep of that leaf did. Exactly those entries are gone that lie from the bound on, before the next one, and name a
 -- block; so many they were. The pages that the tree no longer has are given back.
-pub record SweepsLeaf {S : Type 0} (g : Ghosts S) (before ext : Extents) (new : S) (tree : Tree) (owners : List Kind) (t : Forest) (bound : Entry) (at : ℕ) (blocks : List ℕ) (removed : ℕ) (next : Bound) : Type 0 where
+pub record SweepsLeaf {S : Type 0} (g : Ghosts S) (shape : Shape) (before noted : SpaceNotes) (new : S) (tree : Tree) (owners : List Kind) (t : Forest) (bound : Entry) (at : ℕ) (blocks : List ℕ) (removed : ℕ) (next : Bound) : Type 0 where
   pub first : IsFirstLeaf t bound next
   pub gone : List ℕ
   pub after : Forest
-  pub stands : StandsTree g ext new tree (without_pages before owners gone) after
+  pub stands : StandsTree g shape new tree (without_pages shape owners gone) after
   pub leaves : leaf_entries after ≡ unswept bound next at blocks (leaf_entries t)
   pub fewer : length (leaf_entries after) + removed ≡ length (leaf_entries t)
   pub pages : (n : ℕ) → times n after + times_among n gone ≡ times n t
-  pub notes : AreRightNotes before owners → AreRightNotes ext (without_pages before owners gone)
+  pub notes : AreRightNotes shape before owners → AreRightNotes shape noted (without_pages shape owners gone)
 
 -- a leaf of t on a page, and the node just above it
 pub record IsLeafSpot (nodes : ℕ → Node) (t : Forest) (page : ℕ) (parent : Option (ℕ × ℕ)) : Type 0 where
@@ -81,11 +82,11 @@ abbrev pub named_of : List ℕ → ℕ → ℕ → List Entry → Named
 named_of blocks at from items = record { going = count_named blocks at from items; of = length items }
 
 -- the leaf at a place of t keeps these entries, or leaves the tree where it keeps none and isn't the root
-pub record PrunesLeaf {S : Type 0} (g : Ghosts S) (before ext : Extents) (new : S) (tree : Tree) (owners : List Kind) (t : Forest) (above : List Frame) (kept : List Entry) : Type 0 where
+pub record PrunesLeaf {S : Type 0} (g : Ghosts S) (shape : Shape) (before noted : SpaceNotes) (new : S) (tree : Tree) (owners : List Kind) (t : Forest) (above : List Frame) (kept : List Entry) : Type 0 where
   pub gone : List ℕ
   pub pruned : IsPruned (nodes_in tree.width (g.state new)) tree.root t above kept gone
-  pub stands : StandsTree g ext new tree (without_pages before owners gone) pruned.after
-  pub notes : AreRightNotes before owners → AreRightNotes ext (without_pages before owners gone)
+  pub stands : StandsTree g shape new tree (without_pages shape owners gone) pruned.after
+  pub notes : AreRightNotes shape before owners → AreRightNotes shape noted (without_pages shape owners gone)
 
 -- whether a leaf keeps no entry once those from a place on are gone that name a block
 abbrev pub IsEmptiedBy : List ℕ → ℕ → ℕ → List Entry → Bool → Type 0

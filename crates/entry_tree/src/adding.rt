@@ -4,7 +4,6 @@ ghost use Rattle.store_api.specs.Causes.{fault_of, store_fault_in};
 ghost use Rattle.store_api.specs.RunsOverPages.{RunsOverPages};
 ghost use Rattle.extent_map.specs.Damages.{IfFull, store_part_of};
 ghost use Rattle.extent_map.specs.Map.{KeepsRoot};
-ghost use Rattle.extent_map.specs.Owners.{IsSameShape};
 ghost use Rattle.extent_map.specs.declared.kind.Kind.{Kind};
 ghost use Rattle.entry_tree.specs.EntryBounds.{IsEntryOf};
 ghost use Rattle.entry_tree.specs.Forest.{Forest, leaf_entries};
@@ -19,31 +18,31 @@ use crate::descent::{Path, Way, find_way};
 use crate::edits::{cut_leaf, put_in_leaf};
 use crate::going_up::go_up;
 use crate::tree::MAX_WIDTH;
-use extent_map::{Extents, SpaceFault};
-use store_api::{Pages, StoreFault};
+use extent_map::{SpaceFault, SpaceNotes};
+use store_api::{Pages, Shape, StoreFault};
 
 impl Tree {
     /// Adds an entry: false where it is there, and then the work stays. It claims one page for each full node from its
     /// leaf upwards without a gap, and one more where these reach the root, before a node changes: `Full` says that there
-    /// were fewer. After a fault `undo` goes back, and the notes of the extents are to be forgotten.
+    /// were fewer. After a fault `undo` goes back, and the notes are to be forgotten.
     pub fn add<P: Pages>(
         &self,
-        ext: &mut Extents,
+        shape: Shape,
+        notes: &mut SpaceNotes,
         pages: &mut P,
         entry: &[u8],
     ) -> Result<bool, SpaceFault>
         requires width { length entry.now ≡ self.now.width }
         requires going { (P.state pages.old).ended ≡ false }
-        ensures adds { IfOk result (λ added. (owners : List Kind) (t : Forest) → StandsTree P.Pages ext.old pages.old self.now owners t
-            → MatchBool added (AddsEntry P.Pages ext.old ext.new pages.old pages.new self.now entry.now owners t) (IsEntryOf entry.now (leaf_entries t))) }
+        ensures adds { IfOk result (λ added. (owners : List Kind) (t : Forest) → StandsTree P.Pages shape pages.old self.now owners t
+            → MatchBool added (AddsEntry P.Pages shape notes.old notes.new pages.old pages.new self.now entry.now owners t) (IsEntryOf entry.now (leaf_entries t))) }
         ensures there { IfOk result (λ added. added ≡ false → (P.state pages.new).work ≡ (P.state pages.old).work) }
-        ensures there_notes { IfOk result (λ added. added ≡ false → ext.new ≡ ext.old) }
-        ensures full { IfErr result (λ fault. IfFull fault (λ cap. (cap ≡ ext.old.cap)
-            × ((owners : List Kind) (t : Forest) → StandsTree P.Pages ext.old pages.old self.now owners t → FindsFull P.Pages ext.old ext.new pages.old pages.new self.now entry.now owners t))) }
-        ensures root { (owners : List Kind) (t : Forest) → StandsTree P.Pages ext.old pages.old self.now owners t → KeepsRoot P.Pages pages.old pages.new }
-        ensures shape { IsSameShape ext.old ext.new }
-        ensures runs { RunsOverPages P.Pages (IsTreeSpace P.Pages ext.old pages.old self.now) (IsTreeSpace P.Pages ext.old pages.old self.now)
-            (BreaksTreeOrMap P.Pages ext.old pages.old self.now) pages.old pages.new (store_fault_in store_part_of result) }
+        ensures there_notes { IfOk result (λ added. added ≡ false → notes.new ≡ notes.old) }
+        ensures full { IfErr result (λ fault. IfFull fault (λ cap. (cap ≡ shape.extents)
+            × ((owners : List Kind) (t : Forest) → StandsTree P.Pages shape pages.old self.now owners t → FindsFull P.Pages shape notes.old notes.new pages.old pages.new self.now entry.now owners t))) }
+        ensures root { (owners : List Kind) (t : Forest) → StandsTree P.Pages shape pages.old self.now owners t → KeepsRoot P.Pages pages.old pages.new }
+        ensures runs { RunsOverPages P.Pages (IsTreeSpace P.Pages shape pages.old self.now) (IsTreeSpace P.Pages shape pages.old self.now)
+            (BreaksTreeOrMap P.Pages shape pages.old self.now) pages.old pages.new (store_fault_in store_part_of result) }
     {
         let Way {
             path,
@@ -59,7 +58,7 @@ impl Tree {
             put_in_leaf(self, pages, page, at, entry)?;
             return Ok(true);
         }
-        let claimed = claim_pages(self.alloc, ext, pages, asked)?;
+        let claimed = claim_pages(self.alloc, shape, notes, pages, asked)?;
         put_with_cuts(self, pages, path, page, at, entry, &claimed)?;
         Ok(true)
     }

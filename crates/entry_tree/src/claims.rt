@@ -4,36 +4,35 @@ ghost use Rattle.store_api.specs.Causes.{store_fault_in};
 ghost use Rattle.store_api.specs.RunsOverPages.{RunsOverPages};
 ghost use Rattle.extent_map.specs.Damages.{BreaksSpace, IfFull, store_part_of};
 ghost use Rattle.extent_map.specs.Map.{HoldsMap, IsSpacePage, KeepsRoot, BringsZeros, KeepsMapForm};
-ghost use Rattle.extent_map.specs.Owners.{IsSameShape};
 ghost use Rattle.extent_map.specs.declared.kind.Kind.{Kind};
 ghost use Rattle.entry_tree.specs.Standing.{ClaimsPages, GrowsWith, MeetsFull};
 
-use extent_map::{Extents, SpaceFault};
+use extent_map::{SpaceFault, SpaceNotes};
 use std::alloc::Global;
-use store_api::Pages;
+use store_api::{Pages, Shape};
 
 /// Claims n index pages, one after the other.
 pub(crate) fn claim_pages<P: Pages>(
     alloc: Global,
-    ext: &mut Extents,
+    shape: Shape,
+    notes: &mut SpaceNotes,
     pages: &mut P,
     n: usize,
 ) -> Result<Vec<u32>, SpaceFault>
     requires going { (P.state pages.old).ended ≡ false }
     ensures many { IfOk result (λ claimed. length claimed.items ≡ n) }
     ensures there { IfOk result (λ claimed. All (λ p. p < length (P.state pages.new).work) claimed.items) }
-    ensures grows { IfOk result (λ claimed. GrowsWith P.Pages ext.old pages.old pages.new claimed.items) }
-    ensures claims { IfOk result (λ claimed. (owners : List Kind) → HoldsMap P.Pages ext.old pages.old owners → ClaimsPages P.Pages ext.old ext.new pages.new owners claimed.items) }
-    ensures full { IfErr result (λ fault. IfFull fault (λ cap. (cap ≡ ext.old.cap) × ((owners : List Kind) → HoldsMap P.Pages ext.old pages.old owners → MeetsFull P.Pages ext.old ext.new pages.old pages.new owners n))) }
+    ensures grows { IfOk result (λ claimed. GrowsWith P.Pages shape pages.old pages.new claimed.items) }
+    ensures claims { IfOk result (λ claimed. (owners : List Kind) → HoldsMap P.Pages shape pages.old owners → ClaimsPages P.Pages shape notes.old notes.new pages.new owners claimed.items) }
+    ensures full { IfErr result (λ fault. IfFull fault (λ cap. (cap ≡ shape.extents) × ((owners : List Kind) → HoldsMap P.Pages shape pages.old owners → MeetsFull P.Pages shape notes.old notes.new pages.old pages.new owners n))) }
     ensures root { KeepsRoot P.Pages pages.old pages.new }
-    ensures zeros { BringsZeros P.Pages (IsSpacePage ext.old) pages.old pages.new }
-    ensures forms { KeepsMapForm P.Pages ext.old pages.old pages.new }
-    ensures shape { IsSameShape ext.old ext.new }
-    ensures runs { RunsOverPages P.Pages (IsSpacePage ext.old) (IsSpacePage ext.old) (BreaksSpace P.Pages ext.old pages.old) pages.old pages.new (store_fault_in store_part_of result) }
+    ensures zeros { BringsZeros P.Pages (IsSpacePage shape) pages.old pages.new }
+    ensures forms { KeepsMapForm P.Pages shape pages.old pages.new }
+    ensures runs { RunsOverPages P.Pages (IsSpacePage shape) (IsSpacePage shape) (BreaksSpace P.Pages shape pages.old) pages.old pages.new (store_fault_in store_part_of result) }
 {
     let mut claimed = Vec::with_capacity(alloc, n)?;
     for i in 0..n {
-        let p = ext.claim_index_page(pages)?;
+        let p = notes.claim_index_page(shape, pages)?;
         claimed.push(p)?;
     }
     Ok(claimed)

@@ -7,7 +7,6 @@ ghost use Rattle.store_api.specs.Frame.{NoPage, OnlyPage};
 ghost use Rattle.store_api.specs.Causes.{fault_of};
 ghost use Rattle.store_api.specs.RunsOverPages.{RunsOverPages};
 ghost use Rattle.extent_map.specs.Map.{IsMapPage};
-ghost use Rattle.extent_map.specs.Owners.{IsSameShape};
 ghost use Rattle.extent_map.specs.declared.kind.Kind.{Kind};
 ghost use Rattle.entry_tree.specs.Forest.{Forest};
 ghost use Rattle.entry_tree.specs.Freeing.{FreesTree, IsFreeingPage, BreaksFreeing, Continues, BreaksNode};
@@ -15,20 +14,24 @@ ghost use Rattle.entry_tree.specs.HeldTrees.{nodes_in};
 ghost use Rattle.entry_tree.specs.Standing.{StandsTree};
 
 use crate::Tree;
-use extent_map::{Extents, unused_page};
+use extent_map::{SpaceNotes, has_page, unused_page};
 use node_page::NodeView;
 use std::alloc::AllocError;
-use store_api::{Page, Pages, StoreFault, bring};
+use store_api::{Page, Pages, Shape, StoreFault, bring};
 
 impl Tree {
     /// Gives all pages of the tree back, the root too. The tree isn't there afterwards. Damaged names the root, a page of the
     /// extent map, or a page of the tree that isn't a used one of an index extent.
-    pub fn free_all<P: Pages>(&self, ext: &mut Extents, pages: &mut P) -> Result<(), StoreFault>
+    pub fn free_all<P: Pages>(
+        &self,
+        shape: Shape,
+        notes: &mut SpaceNotes,
+        pages: &mut P,
+    ) -> Result<(), StoreFault>
         requires going { (P.state pages.old).ended ≡ false }
-        ensures freed { OnOk result ((owners : List Kind) (t : Forest) → StandsTree P.Pages ext.old pages.old self.now owners t → FreesTree P.Pages ext.old ext.new pages.new owners t) }
+        ensures freed { OnOk result ((owners : List Kind) (t : Forest) → StandsTree P.Pages shape pages.old self.now owners t → FreesTree P.Pages shape notes.old notes.new pages.new owners t) }
         ensures count { length (P.state pages.new).work ≡ length (P.state pages.old).work }
-        ensures shape { IsSameShape ext.old ext.new }
-        ensures runs { RunsOverPages P.Pages (IsMapPage ext.old) (IsFreeingPage P.Pages ext.old pages.old self.now) (BreaksFreeing P.Pages ext.old pages.old self.now) pages.old pages.new (fault_of result) }
+        ensures runs { RunsOverPages P.Pages (IsMapPage shape) (IsFreeingPage P.Pages shape pages.old self.now) (BreaksFreeing P.Pages shape pages.old self.now) pages.old pages.new (fault_of result) }
     {
         let count = pages.count();
         let mut todo = Vec::new(self.alloc);
@@ -37,11 +40,11 @@ impl Tree {
             let Some(page) = todo.pop() else {
                 return Ok(());
             };
-            if !ext.has_page(page) {
+            if !has_page(shape, page) {
                 return Err(StoreFault::Damaged(unused_page(page)));
             }
             self.push_children(pages, page, &mut todo)?;
-            ext.give_index_page(pages, page)?;
+            notes.give_index_page(shape, pages, page)?;
         }
         let Some(_) = todo.pop() else {
             return Ok(());

@@ -5,7 +5,6 @@ ghost use Rattle.node_page.specs.Entries.{count_named, without_blocks};
 ghost use Rattle.node_page.specs.Node.Node.{LeafNode};
 ghost use Rattle.store_api.specs.Causes.{fault_of};
 ghost use Rattle.store_api.specs.RunsOverPages.{RunsOverPages};
-ghost use Rattle.extent_map.specs.Owners.{IsSameShape};
 ghost use Rattle.extent_map.specs.declared.kind.Kind.{Kind};
 ghost use Rattle.entry_tree.specs.Forest.{Forest};
 ghost use Rattle.entry_tree.specs.HeldTrees.{nodes_in, HoldsTree};
@@ -21,9 +20,9 @@ use crate::naming::{Named, count_in_leaf, sweep_page};
 use crate::reading::fence_bound;
 use crate::spot::Spot;
 use crate::{Entry, Tree};
-use extent_map::Extents;
+use extent_map::SpaceNotes;
 use mdc_values::Blocks;
-use store_api::{Pages, StoreFault};
+use store_api::{Pages, Shape, StoreFault};
 
 /// What a sweep of one leaf did.
 #[derive(Drop)]
@@ -40,7 +39,8 @@ impl Tree {
     /// `remove`; one that loses none is not written. Damaged says that tree or extent map hadn't their form.
     pub fn sweep_leaf<P: Pages>(
         &self,
-        ext: &mut Extents,
+        shape: Shape,
+        notes: &mut SpaceNotes,
         pages: &mut P,
         bound: &[u8],
         at: u16,
@@ -49,17 +49,16 @@ impl Tree {
         requires width { length bound.now ≡ self.now.width }
         requires named { at + 4 ≤ self.now.width }
         requires going { (P.state pages.old).ended ≡ false }
-        ensures sweeps { IfOk result (λ swept. (owners : List Kind) (t : Forest) → StandsTree P.Pages ext.old pages.old self.now owners t
-            → SweepsLeaf P.Pages ext.old ext.new pages.new self.now owners t bound.now at blocks.now swept.removed swept.next) }
+        ensures sweeps { IfOk result (λ swept. (owners : List Kind) (t : Forest) → StandsTree P.Pages shape pages.old self.now owners t
+            → SweepsLeaf P.Pages shape notes.old notes.new pages.new self.now owners t bound.now at blocks.now swept.removed swept.next) }
         ensures not { IfOk result (λ swept. swept.removed ≡ 0 → (P.state pages.new).work ≡ (P.state pages.old).work) }
-        ensures not_notes { IfOk result (λ swept. swept.removed ≡ 0 → ext.new ≡ ext.old) }
+        ensures not_notes { IfOk result (λ swept. swept.removed ≡ 0 → notes.new ≡ notes.old) }
         ensures next { IfOk result (λ swept. BoundFits self.now.width swept.next) }
         ensures count { length (P.state pages.new).work ≡ length (P.state pages.old).work }
-        ensures shape { IsSameShape ext.old ext.new }
-        ensures runs { RunsOverPages P.Pages (IsTreeOrMapPage P.Pages ext.old pages.old self.now) (IsTreeOrMapPage P.Pages ext.old pages.old self.now) (BreaksTreeOrReturn P.Pages ext.old pages.old self.now) pages.old pages.new (fault_of result) }
+        ensures runs { RunsOverPages P.Pages (IsTreeOrMapPage P.Pages shape pages.old self.now) (IsTreeOrMapPage P.Pages shape pages.old self.now) (BreaksTreeOrReturn P.Pages shape pages.old self.now) pages.old pages.new (fault_of result) }
     {
         let spot = first_leaf(self, pages, bound)?;
-        let removed = sweep_spot(self, ext, pages, &spot, usize::from(at), blocks)?;
+        let removed = sweep_spot(self, shape, notes, pages, &spot, usize::from(at), blocks)?;
         Ok(Swept {
             removed,
             next: fence_bound(spot.high),
@@ -70,7 +69,8 @@ impl Tree {
 /// Removes the entries from a spot on that name a block, and answers how many they were.
 fn sweep_spot<P: Pages>(
     tree: &Tree,
-    ext: &mut Extents,
+    shape: Shape,
+    notes: &mut SpaceNotes,
     pages: &mut P,
     spot: &Spot,
     at: usize,
@@ -81,27 +81,27 @@ fn sweep_spot<P: Pages>(
     requires there { spot.now.page < length (P.state pages.old).work }
     requires parent { IfSome spot.now.parent (λ place. place.0 < length (P.state pages.old).work) }
     requires spot { (t : Forest) → HoldsTree P.Pages pages.old tree.now t → IsLeafSpot (nodes_in tree.now.width (P.state pages.old)) t spot.now.page spot.now.parent }
-    ensures prunes { IfOk result (λ removed. (owners : List Kind) (t : Forest) → StandsTree P.Pages ext.old pages.old tree.now owners t
+    ensures prunes { IfOk result (λ removed. (owners : List Kind) (t : Forest) → StandsTree P.Pages shape pages.old tree.now owners t
         → (s : IsLeafSpot (nodes_in tree.now.width (P.state pages.old)) t spot.now.page spot.now.parent)
-        → PrunesLeaf P.Pages ext.old ext.new pages.new tree.now owners t s.above (without_blocks blocks.now at spot.now.at s.items) × (removed ≡ count_named blocks.now at spot.now.at s.items)) }
+        → PrunesLeaf P.Pages shape notes.old notes.new pages.new tree.now owners t s.above (without_blocks blocks.now at spot.now.at s.items) × (removed ≡ count_named blocks.now at spot.now.at s.items)) }
     ensures not { IfOk result (λ removed. removed ≡ 0 → (P.state pages.new).work ≡ (P.state pages.old).work) }
-    ensures not_notes { IfOk result (λ removed. removed ≡ 0 → ext.new ≡ ext.old) }
+    ensures not_notes { IfOk result (λ removed. removed ≡ 0 → notes.new ≡ notes.old) }
     ensures count { length (P.state pages.new).work ≡ length (P.state pages.old).work }
-    ensures shape { IsSameShape ext.old ext.new }
-    ensures runs { RunsOverPages P.Pages (IsTreeOrMapPage P.Pages ext.old pages.old tree.now) (IsTreeOrMapPage P.Pages ext.old pages.old tree.now) (BreaksTreeOrReturn P.Pages ext.old pages.old tree.now) pages.old pages.new (fault_of result) }
+    ensures runs { RunsOverPages P.Pages (IsTreeOrMapPage P.Pages shape pages.old tree.now) (IsTreeOrMapPage P.Pages shape pages.old tree.now) (BreaksTreeOrReturn P.Pages shape pages.old tree.now) pages.old pages.new (fault_of result) }
 {
     let Named { going, of } = count_in_leaf(tree, pages, spot.page, spot.at, at, blocks)?;
     if going == 0 {
         return Ok(0);
     }
-    prune_spot(tree, ext, pages, spot, going == of, at, blocks)?;
+    prune_spot(tree, shape, notes, pages, spot, going == of, at, blocks)?;
     Ok(going as u32)
 }
 
 /// Takes those entries out of the leaf, or the leaf out of the tree where they are all that it has and it isn't the root.
 fn prune_spot<P: Pages>(
     tree: &Tree,
-    ext: &mut Extents,
+    shape: Shape,
+    notes: &mut SpaceNotes,
     pages: &mut P,
     spot: &Spot,
     all: bool,
@@ -114,12 +114,11 @@ fn prune_spot<P: Pages>(
     requires parent { IfSome spot.now.parent (λ place. place.0 < length (P.state pages.old).work) }
     requires spot { (t : Forest) → HoldsTree P.Pages pages.old tree.now t → IsItemSpot (nodes_in tree.now.width (P.state pages.old)) t spot.now.page spot.now.at spot.now.parent }
     requires all { (items : List Entry) → nodes_in tree.now.width (P.state pages.old) spot.now.page ≡ LeafNode items → IsEmptiedBy blocks.now at spot.now.at items all }
-    ensures prunes { OnOk result ((owners : List Kind) (t : Forest) → StandsTree P.Pages ext.old pages.old tree.now owners t
+    ensures prunes { OnOk result ((owners : List Kind) (t : Forest) → StandsTree P.Pages shape pages.old tree.now owners t
         → (s : IsItemSpot (nodes_in tree.now.width (P.state pages.old)) t spot.now.page spot.now.at spot.now.parent)
-        → PrunesLeaf P.Pages ext.old ext.new pages.new tree.now owners t s.above (without_blocks blocks.now at spot.now.at s.items)) }
+        → PrunesLeaf P.Pages shape notes.old notes.new pages.new tree.now owners t s.above (without_blocks blocks.now at spot.now.at s.items)) }
     ensures count { length (P.state pages.new).work ≡ length (P.state pages.old).work }
-    ensures shape { IsSameShape ext.old ext.new }
-    ensures runs { RunsOverPages P.Pages (IsTreeOrMapPage P.Pages ext.old pages.old tree.now) (IsTreeOrMapPage P.Pages ext.old pages.old tree.now) (BreaksTreeOrReturn P.Pages ext.old pages.old tree.now) pages.old pages.new (fault_of result) }
+    ensures runs { RunsOverPages P.Pages (IsTreeOrMapPage P.Pages shape pages.old tree.now) (IsTreeOrMapPage P.Pages shape pages.old tree.now) (BreaksTreeOrReturn P.Pages shape pages.old tree.now) pages.old pages.new (fault_of result) }
 {
     let Some((page, place)) = spot.parent else {
         return sweep_page(tree, pages, spot.page, spot.at, at, blocks);
@@ -127,5 +126,5 @@ fn prune_spot<P: Pages>(
     if !all {
         return sweep_page(tree, pages, spot.page, spot.at, at, blocks);
     }
-    drop_leaf(tree, ext, pages, spot.page, page, place)
+    drop_leaf(tree, shape, notes, pages, spot.page, page, place)
 }

@@ -4,11 +4,11 @@ ghost use Rattle.std.specs.Prelude.{◌≡◌, ◌<◌, false, None};
 use crate::numbers::{NUMBERS, Order, block_of, entry_of, number_at};
 use crate::reading::lowest;
 use entry_tree::Tree;
-use extent_map::Extents;
+use extent_map::SpaceNotes;
 use mdc_values::Blocks;
 use std::alloc::Global;
 use std::test::Fail;
-use store_api::Pages;
+use store_api::{Pages, Shape};
 
 // The blocks whose entries a sweep removes.
 const FIRST_SWEPT: u32 = 3;
@@ -18,7 +18,8 @@ const SECOND_SWEPT: u32 = 10;
 /// Adds so many entries.
 pub fn add_some<P: Pages>(
     tree: &Tree,
-    ext: &mut Extents,
+    shape: Shape,
+    notes: &mut SpaceNotes,
     pages: &mut P,
     there: &mut [bool],
     order: Order,
@@ -31,7 +32,7 @@ pub fn add_some<P: Pages>(
     for i in 0..many.min(NUMBERS) {
         let n = number_at(order, i, NUMBERS);
         let was_there = note(there, n, true)?;
-        if tree.add(ext, pages, entry_of(tree, n).bytes())? == was_there {
+        if tree.add(shape, notes, pages, entry_of(tree, n).bytes())? == was_there {
             return Err("a wrong answer of add")?;
         }
     }
@@ -51,7 +52,8 @@ fn note(there: &mut [bool], n: usize, is_there: bool) -> Result<bool, Fail> {
 /// Removes so many entries.
 pub fn remove_some<P: Pages>(
     tree: &Tree,
-    ext: &mut Extents,
+    shape: Shape,
+    notes: &mut SpaceNotes,
     pages: &mut P,
     there: &mut [bool],
     order: Order,
@@ -64,7 +66,7 @@ pub fn remove_some<P: Pages>(
     for i in 0..many.min(NUMBERS) {
         let n = number_at(order, i, NUMBERS);
         let was_there = note(there, n, false)?;
-        if tree.remove(ext, pages, entry_of(tree, n).bytes())? != was_there {
+        if tree.remove(shape, notes, pages, entry_of(tree, n).bytes())? != was_there {
             return Err("a wrong answer of remove")?;
         }
     }
@@ -75,7 +77,8 @@ pub fn remove_some<P: Pages>(
 pub fn sweep<P: Pages>(
     alloc: Global,
     tree: &Tree,
-    ext: &mut Extents,
+    shape: Shape,
+    notes: &mut SpaceNotes,
     pages: &mut P,
     there: &mut [bool],
 ) -> Result<(), Fail>
@@ -83,7 +86,7 @@ pub fn sweep<P: Pages>(
     ensures going { (P.state pages.new).ended ≡ false }
     ensures marked { (P.state pages.new).marked ≡ (P.state pages.old).marked }
 {
-    let swept = sweep_tree(tree, ext, pages, &swept_blocks(alloc)?)?;
+    let swept = sweep_tree(tree, shape, notes, pages, &swept_blocks(alloc)?)?;
     if swept != forget_swept(there)? {
         return Err("another number of entries swept")?;
     }
@@ -93,7 +96,8 @@ pub fn sweep<P: Pages>(
 // Sweeps a tree leaf by leaf, and answers how many entries left it.
 fn sweep_tree<P: Pages>(
     tree: &Tree,
-    ext: &mut Extents,
+    shape: Shape,
+    notes: &mut SpaceNotes,
     pages: &mut P,
     blocks: &Blocks,
 ) -> Result<u32, Fail>
@@ -104,7 +108,7 @@ fn sweep_tree<P: Pages>(
     let mut removed: u32 = 0;
     let mut bound = lowest(tree);
     for _ in 0..pages.count() {
-        let swept = tree.sweep_leaf(ext, pages, bound.bytes(), tree.width - 4, blocks)?;
+        let swept = tree.sweep_leaf(shape, notes, pages, bound.bytes(), tree.width - 4, blocks)?;
         removed = removed.wrapping_add(swept.removed);
         match swept.next {
             Some(next) => bound = next,

@@ -4,11 +4,11 @@ ghost use Rattle.std.specs.Prelude.{◌≡◌, ◌+◌, ◌≤◌, false, length
 use crate::fresh::first_pages;
 use crate::stores::{extents_of, store_of};
 use entry_tree::Tree;
-use extent_map::{Extents, SpaceFault};
+use extent_map::{SpaceFault, SpaceNotes};
 use mdc_values::Blocks;
 use std::alloc::Global;
 use std::test::Fail;
-use store_api::{Damage, MemStore, Page, Pages, StoreFault};
+use store_api::{Damage, MemStore, Page, Pages, Shape, StoreFault};
 
 // The root, of a tree of width 7. Two extents are in use, and there is no page 22.
 const ROOT: u8 = 18;
@@ -59,7 +59,8 @@ fn space_fault_of(answer: Result<bool, SpaceFault>) -> Option<StoreFault> {
 // The faults of the calls on a tree of width 7, if any.
 fn faults<P: Pages>(
     alloc: Global,
-    ext: &mut Extents,
+    shape: Shape,
+    notes: &mut SpaceNotes,
     pages: &mut P,
     entry: &[u8; 7],
 ) -> [Option<StoreFault>; 5]
@@ -69,18 +70,18 @@ fn faults<P: Pages>(
     [
         fault_of(tree.has(pages, entry)),
         fault_of(tree.leaf_from(pages, entry)),
-        fault_of(tree.remove(ext, pages, entry)),
-        fault_of(tree.sweep_leaf(ext, pages, entry, 3, &Blocks::new(alloc))),
-        space_fault_of(tree.add(ext, pages, entry)),
+        fault_of(tree.remove(shape, notes, pages, entry)),
+        fault_of(tree.sweep_leaf(shape, notes, pages, entry, 3, &Blocks::new(alloc))),
+        space_fault_of(tree.add(shape, notes, pages, entry)),
     ]
 }
 
 // The faults of the calls on the tree of a root and a child.
 fn faults_of(alloc: Global, root: Page, child: Page) -> Result<[Option<StoreFault>; 5], Fail> {
-    let mut ext = extents_of(16)?;
     Ok(faults(
         alloc,
-        &mut ext,
+        extents_of(16)?,
+        &mut SpaceNotes::new(),
         &mut store_with(alloc, root, child)?,
         b"entry-m",
     ))

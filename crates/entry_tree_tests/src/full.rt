@@ -7,10 +7,10 @@ use crate::numbers::{NUMBERS, Order, entry_of};
 use crate::reading::all_pages;
 use crate::stores::extents_of;
 use entry_tree::Tree;
-use extent_map::{Extents, SpaceFault};
+use extent_map::{SpaceFault, SpaceNotes};
 use std::alloc::Global;
 use std::test::Fail;
-use store_api::Pages;
+use store_api::{Pages, Shape};
 
 // So many entries of width 134 that came in rising order are in 30 full or half full leaves under a root with no room: each
 // leaf has room for 30, of a full one 16 stay, and a node above them has room for 29 separators. The next entry splits the
@@ -24,7 +24,8 @@ const EXTENTS: u32 = 17;
 fn add_and_undo<P: Pages>(
     alloc: Global,
     tree: &Tree,
-    ext: &mut Extents,
+    shape: Shape,
+    notes: &mut SpaceNotes,
     pages: &mut P,
 ) -> Result<(Result<bool, SpaceFault>, bool), Fail>
     requires going { (P.state pages.old).ended ≡ false }
@@ -32,45 +33,64 @@ fn add_and_undo<P: Pages>(
 {
     let before = all_pages(alloc, pages)?;
     pages.mark();
-    let answer = tree.add(ext, pages, entry_of(tree, BEFORE_SPLIT).bytes());
+    let answer = tree.add(shape, notes, pages, entry_of(tree, BEFORE_SPLIT).bytes());
     pages.undo();
-    ext.forget();
+    notes.forget();
     Ok((answer, all_pages(alloc, pages)? == before))
 }
 
 // The same behind the tree above, with so many pages fewer.
 fn add_with_fewer<P: Pages>(
     alloc: Global,
-    ext: &mut Extents,
+    shape: Shape,
+    notes: &mut SpaceNotes,
     pages: &mut P,
     fewer: u32,
 ) -> Result<(Result<bool, SpaceFault>, bool), Fail>
     requires going { (P.state pages.old).ended ≡ false }
     requires unmarked { (P.state pages.old).marked ≡ None }
 {
-    let tree = Tree::make(alloc, ext, pages, 134)?;
+    let tree = Tree::make(alloc, shape, notes, pages, 134)?;
     let mut all = vec![in alloc; false; NUMBERS]?;
-    add_some(&tree, ext, pages, &mut all, Order::Rising, BEFORE_SPLIT)?;
-    claim_pages(ext, pages, fewer)?;
-    add_and_undo(alloc, &tree, ext, pages)
+    add_some(
+        &tree,
+        shape,
+        notes,
+        pages,
+        &mut all,
+        Order::Rising,
+        BEFORE_SPLIT,
+    )?;
+    claim_pages(shape, notes, pages, fewer)?;
+    add_and_undo(alloc, &tree, shape, notes, pages)
 }
 
 // Claims so many pages for no tree.
-fn claim_pages<P: Pages>(ext: &mut Extents, pages: &mut P, many: u32) -> Result<(), Fail>
+fn claim_pages<P: Pages>(
+    shape: Shape,
+    notes: &mut SpaceNotes,
+    pages: &mut P,
+    many: u32,
+) -> Result<(), Fail>
     requires { (P.state pages.old).ended ≡ false }
     ensures going { (P.state pages.new).ended ≡ false }
     ensures marked { (P.state pages.new).marked ≡ (P.state pages.old).marked }
 {
     for _ in 0..many {
-        ext.claim_index_page(pages)?;
+        notes.claim_index_page(shape, pages)?;
     }
     Ok(())
 }
 
 // The answer on a store of its own.
 fn answer_with_fewer(alloc: Global, fewer: u32) -> Result<(Result<bool, SpaceFault>, bool), Fail> {
-    let mut ext = extents_of(EXTENTS)?;
-    add_with_fewer(alloc, &mut ext, &mut fresh_store(alloc)?, fewer)
+    add_with_fewer(
+        alloc,
+        extents_of(EXTENTS)?,
+        &mut SpaceNotes::new(),
+        &mut fresh_store(alloc)?,
+        fewer,
+    )
 }
 
 #[test]

@@ -3,10 +3,10 @@ ghost use Rattle.std.specs.Prelude.{◌≡◌, false, None, length};
 
 use crate::numbers::entry_of;
 use entry_tree::{Entries, Entry, Leaf, MAX_WIDTH, Tree};
-use extent_map::{Extents, Kind};
+use extent_map::{Kind, kind_of};
 use std::alloc::{AllocError, Global};
 use std::test::Fail;
-use store_api::{Page, Pages};
+use store_api::{Page, Pages, Shape};
 
 /// A page of the work.
 pub fn page_of<P: Pages>(pages: &mut P, p: u32) -> Result<Page, Fail>
@@ -36,14 +36,14 @@ pub fn all_pages<P: Pages>(alloc: Global, pages: &mut P) -> Result<Vec<Page>, Fa
 }
 
 /// How many pages of trees are used.
-pub fn used_pages<P: Pages>(ext: &Extents, pages: &mut P) -> Result<u32, Fail>
+pub fn used_pages<P: Pages>(shape: Shape, pages: &mut P) -> Result<u32, Fail>
     requires { (P.state pages.old).ended ≡ false }
     ensures going { (P.state pages.new).ended ≡ false }
     ensures marked { (P.state pages.new).marked ≡ (P.state pages.old).marked }
 {
     let mut used: u32 = 0;
-    for e in 0..ext.cap {
-        used = used.wrapping_add(used_in(ext.kind(pages, e)?));
+    for e in 0..shape.extents {
+        used = used.wrapping_add(used_in(kind_of(shape, pages, e)?));
     }
     Ok(used)
 }

@@ -7,10 +7,10 @@ use crate::numbers::{NUMBERS, Order};
 use crate::reading::{expected, read_all, used_pages};
 use crate::stores::{extents_of, save};
 use entry_tree::Tree;
-use extent_map::Extents;
+use extent_map::SpaceNotes;
 use std::alloc::Global;
 use std::test::Fail;
-use store_api::{Pages, Store};
+use store_api::{Pages, Shape, Store};
 
 // Many changes of one kind.
 #[derive(Clone, Copy, Debug)]
@@ -23,7 +23,8 @@ enum Change {
 fn make_changes<P: Pages>(
     alloc: Global,
     tree: &Tree,
-    ext: &mut Extents,
+    shape: Shape,
+    notes: &mut SpaceNotes,
     pages: &mut P,
     there: &mut [bool],
     change: Change,
@@ -33,9 +34,9 @@ fn make_changes<P: Pages>(
     ensures marked { (P.state pages.new).marked ≡ (P.state pages.old).marked }
 {
     match change {
-        Change::Add(order, many) => add_some(tree, ext, pages, there, order, many),
-        Change::Remove(order, many) => remove_some(tree, ext, pages, there, order, many),
-        Change::Sweep => sweep(alloc, tree, ext, pages, there),
+        Change::Add(order, many) => add_some(tree, shape, notes, pages, there, order, many),
+        Change::Remove(order, many) => remove_some(tree, shape, notes, pages, there, order, many),
+        Change::Sweep => sweep(alloc, tree, shape, notes, pages, there),
     }
 }
 
@@ -44,7 +45,7 @@ fn make_changes<P: Pages>(
 fn check<P: Pages>(
     alloc: Global,
     tree: &Tree,
-    ext: &Extents,
+    shape: Shape,
     pages: &mut P,
     there: &[bool],
 ) -> Result<(), Fail>
@@ -56,7 +57,7 @@ fn check<P: Pages>(
     if found.bytes != expected(alloc, tree, there)? {
         return Err("other entries")?;
     }
-    let used = used_pages(ext, pages)?;
+    let used = used_pages(shape, pages)?;
     if used < found.leaves || used >= found.leaves.saturating_mul(2) {
         return Err("another number of pages")?;
     }
@@ -67,7 +68,8 @@ fn check<P: Pages>(
 fn step<S: Store>(
     alloc: Global,
     tree: &Tree,
-    ext: &mut Extents,
+    shape: Shape,
+    notes: &mut SpaceNotes,
     store: &mut S,
     there: &mut [bool],
     change: Change,
@@ -77,8 +79,8 @@ fn step<S: Store>(
     ensures going { OnOk result ((S.state store.new).ended ≡ false) }
     ensures unmarked { OnOk result ((S.state store.new).marked ≡ None) }
 {
-    make_changes(alloc, tree, ext, store, there, change)?;
-    check(alloc, tree, ext, store, there)?;
+    make_changes(alloc, tree, shape, notes, store, there, change)?;
+    check(alloc, tree, shape, store, there)?;
     save(store)
 }
 
@@ -86,7 +88,8 @@ fn step<S: Store>(
 fn fill<S: Store>(
     alloc: Global,
     tree: &Tree,
-    ext: &mut Extents,
+    shape: Shape,
+    notes: &mut SpaceNotes,
     store: &mut S,
     there: &mut [bool],
 ) -> Result<(), Fail>
@@ -98,7 +101,8 @@ fn fill<S: Store>(
     step(
         alloc,
         tree,
-        ext,
+        shape,
+        notes,
         store,
         there,
         Change::Add(Order::Shuffled, 2500),
@@ -106,16 +110,18 @@ fn fill<S: Store>(
     step(
         alloc,
         tree,
-        ext,
+        shape,
+        notes,
         store,
         there,
         Change::Remove(Order::Falling, 1800),
     )?;
-    step(alloc, tree, ext, store, there, Change::Sweep)?;
+    step(alloc, tree, shape, notes, store, there, Change::Sweep)?;
     step(
         alloc,
         tree,
-        ext,
+        shape,
+        notes,
         store,
         there,
         Change::Add(Order::Rising, NUMBERS),
@@ -126,7 +132,8 @@ fn fill<S: Store>(
 fn empty<S: Store>(
     alloc: Global,
     tree: &Tree,
-    ext: &mut Extents,
+    shape: Shape,
+    notes: &mut SpaceNotes,
     store: &mut S,
     there: &mut [bool],
 ) -> Result<(), Fail>
@@ -138,7 +145,8 @@ fn empty<S: Store>(
     step(
         alloc,
         tree,
-        ext,
+        shape,
+        notes,
         store,
         there,
         Change::Remove(Order::Shuffled, 3900),
@@ -146,16 +154,18 @@ fn empty<S: Store>(
     step(
         alloc,
         tree,
-        ext,
+        shape,
+        notes,
         store,
         there,
         Change::Add(Order::Falling, 1000),
     )?;
-    step(alloc, tree, ext, store, there, Change::Sweep)?;
+    step(alloc, tree, shape, notes, store, there, Change::Sweep)?;
     step(
         alloc,
         tree,
-        ext,
+        shape,
+        notes,
         store,
         there,
         Change::Remove(Order::Rising, NUMBERS),
@@ -166,7 +176,8 @@ fn empty<S: Store>(
 fn fill_and_empty<S: Store>(
     alloc: Global,
     tree: &Tree,
-    ext: &mut Extents,
+    shape: Shape,
+    notes: &mut SpaceNotes,
     store: &mut S,
 ) -> Result<(), Fail>
     requires going { (S.state store.old).ended ≡ false }
@@ -175,14 +186,15 @@ fn fill_and_empty<S: Store>(
 {
     let mut all = vec![in alloc; false; NUMBERS]?;
     let there = all.as_mut_slice();
-    fill(alloc, tree, ext, store, there)?;
-    empty(alloc, tree, ext, store, there)
+    fill(alloc, tree, shape, notes, store, there)?;
+    empty(alloc, tree, shape, notes, store, there)
 }
 
 // How many pages a tree of a width has in use once it was filled and emptied, and after it has given all back.
 fn used_at_last<S: Store>(
     alloc: Global,
-    ext: &mut Extents,
+    shape: Shape,
+    notes: &mut SpaceNotes,
     store: &mut S,
     width: u16,
 ) -> Result<[u32; 2], Fail>
@@ -191,18 +203,19 @@ fn used_at_last<S: Store>(
     requires wide { 5 ≤ width }
     requires narrow { width ≤ 134 }
 {
-    let tree = Tree::make(alloc, ext, store, width)?;
-    fill_and_empty(alloc, &tree, ext, store)?;
-    let emptied = used_pages(ext, store)?;
-    tree.free_all(ext, store)?;
-    Ok([emptied, used_pages(ext, store)?])
+    let tree = Tree::make(alloc, shape, notes, store, width)?;
+    fill_and_empty(alloc, &tree, shape, notes, store)?;
+    let emptied = used_pages(shape, store)?;
+    tree.free_all(shape, notes, store)?;
+    Ok([emptied, used_pages(shape, store)?])
 }
 
 #[test]
 fn a_tree_of_the_least_width_is_filled_and_emptied(rt: HostRuntime) -> Result<(), Fail> {
     let used = used_at_last(
         rt.alloc(),
-        &mut extents_of(512)?,
+        extents_of(512)?,
+        &mut SpaceNotes::new(),
         &mut fresh_store(rt.alloc())?,
         5,
     )?;
@@ -214,7 +227,8 @@ fn a_tree_of_the_least_width_is_filled_and_emptied(rt: HostRuntime) -> Result<()
 fn a_tree_of_width_eleven_is_filled_and_emptied(rt: HostRuntime) -> Result<(), Fail> {
     let used = used_at_last(
         rt.alloc(),
-        &mut extents_of(512)?,
+        extents_of(512)?,
+        &mut SpaceNotes::new(),
         &mut fresh_store(rt.alloc())?,
         11,
     )?;
@@ -226,7 +240,8 @@ fn a_tree_of_width_eleven_is_filled_and_emptied(rt: HostRuntime) -> Result<(), F
 fn a_tree_of_the_greatest_width_is_filled_and_emptied(rt: HostRuntime) -> Result<(), Fail> {
     let used = used_at_last(
         rt.alloc(),
-        &mut extents_of(512)?,
+        extents_of(512)?,
+        &mut SpaceNotes::new(),
         &mut fresh_store(rt.alloc())?,
         134,
     )?;

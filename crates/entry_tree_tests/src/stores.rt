@@ -1,10 +1,9 @@
 // Stores in memory, their commits, and the extents of a database, lent to tests of other crates.
 ghost use Rattle.std.specs.Prelude.{◌≡◌, false, None, IfOk, OnOk};
 
-use extent_map::Extents;
 use std::alloc::Global;
 use std::test::Fail;
-use store_api::{MemStore, Page, Pages, Store, stated_count};
+use store_api::{MemStore, Page, Pages, Shape, Store, stated_count};
 
 /// A store of these pages.
 pub fn store_of(alloc: Global, pages: Vec<Page>) -> Result<MemStore, Fail>
@@ -18,9 +17,9 @@ pub fn store_of(alloc: Global, pages: Vec<Page>) -> Result<MemStore, Fail>
 }
 
 /// So many extents of two pages each.
-pub fn extents_of(cap: u32) -> Result<Extents, Fail> {
-    match Extents::new(cap, 2) {
-        Some(ext) => Ok(ext),
+pub fn extents_of(extents: u32) -> Result<Shape, Fail> {
+    match Shape::new(extents, 2) {
+        Some(shape) => Ok(shape),
         None => Err("no shape of a database")?,
     }
 }

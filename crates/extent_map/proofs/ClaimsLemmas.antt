@@ -6,13 +6,13 @@ use Rattle.store_api.specs.Frame.{HoldsPage, PatchesPage, Touches, OnlyPage, IsC
 use Rattle.store_api.specs.RunsOverPages.{RunsOverPages}
 use Rattle.store_api.specs.StoreState.{patched, stated_count}
 use Rattle.store_api.specs.declared.pages.Pages.{Ghosts}
+use Rattle.store_api.specs.declared.shape.Shape.{Shape}
 use Rattle.store_api.proofs.FrameLemmas.{holds_along, holds_still, counted_still}
 use Rattle.std.specs.Int.{to_be_bytes, w32}
 use Rattle.extent_map.specs.Claims.{ClaimsExtent, TakesPage}
 use Rattle.extent_map.specs.Kinds.{IsKindOf, kind_bytes, lowest_unused_place, with_used_place}
 use Rattle.extent_map.specs.Map.{HoldsMap, ChangesCount, StatesGrowth, map_page_of, entry_place}
 use Rattle.extent_map.specs.Searches.{IsFound, FindsWanted}
-use Rattle.extent_map.specs.declared.extents.Extents.{Extents}
 use Rattle.extent_map.specs.declared.finding.Wanted.TheVariants.{FreeExtent}
 use Rattle.extent_map.specs.declared.kind.Kind.{Kind}
 use Rattle.extent_map.proofs.BitsLemmas.{is_free-Free, is_kind-with_place, lowest_unused_below}
@@ -44,17 +44,17 @@ module _ {S : Type 0} {g : Ghosts S} where
   changes_count_still told same run apart = record { root = λ bytes holds. inl (holds_still run apart (holds_along told same holds)) }
 
   -- the lowest free extent was found, its pages came, and it became what it is now
-  pub claims_extent : {ext : Extents} {kind was : Kind} {old middle grown new : S} (e : ℕ) → IsFound FreeExtent ext.extent_pages ext.free_from ext.cap (e, was)
-      → ((owners : List Kind) → HoldsMap g ext old owners → FindsWanted FreeExtent ext.extent_pages owners ext.free_from ext.cap (Some (e, was)))
-      → IsKindOf ext.extent_pages kind → map_page_of e < length (g.state old).work
+  pub claims_extent : {shape : Shape} {kind was : Kind} {old middle grown new : S} (from e : ℕ) → IsFound FreeExtent shape.extent_pages from shape.extents (e, was)
+      → ((owners : List Kind) → HoldsMap g shape old owners → FindsWanted FreeExtent shape.extent_pages owners from shape.extents (Some (e, was)))
+      → IsKindOf shape.extent_pages kind → map_page_of e < length (g.state old).work
       → (g.state middle).is_told ≡ (g.state old).is_told → (g.state middle).work ≡ (g.state old).work
-      → length (g.state grown).work ≡ max (length (g.state middle).work) (first_page_of ext.cap ext.extent_pages (e + 1)) → (IsCounted g middle → IsCounted g grown) → StatesGrowth g middle grown
+      → length (g.state grown).work ≡ max (length (g.state middle).work) (first_page_of shape.extents shape.extent_pages (e + 1)) → (IsCounted g middle → IsCounted g grown) → StatesGrowth g middle grown
       → RunsOverPages g (OnlyPage 0) (OnlyPage 0) NoDamage middle grown None
       → PatchesPage g (map_page_of e) (entry_place e) (kind_bytes kind) grown new → length (g.state new).work ≡ length (g.state grown).work
       → RunsOverPages g (OnlyPage (map_page_of e)) (OnlyPage (map_page_of e)) NoDamage grown new None
-      → ClaimsExtent g ext kind old new e
-  claims_extent {ext = ext} {kind = kind} {was = was} e found finds is_kind there told same count counted stated grows sets same_count changes =
-      let end = first_page_of ext.cap ext.extent_pages (e + 1) in
+      → ClaimsExtent g shape from kind old new e
+  claims_extent {shape = shape} {kind = kind} {was = was} from e found finds is_kind there told same count counted stated grows sets same_count changes =
+      let end = first_page_of shape.extents shape.extent_pages (e + 1) in
       record {
         within = found.within;
         count = same_count ∙ (count ∙ ap (λ pages. max (length pages) end) same);
@@ -68,18 +68,18 @@ module _ {S : Type 0} {g : Ghosts S} where
       }
 
   -- the lowest page of an extent that isn't used was taken
-  pub takes_page : {ext : Extents} {kind : Kind} {old new : S} (e p place : ℕ) → e < ext.cap → IsKindOf ext.extent_pages kind → lowest_unused_place ext.extent_pages kind ≡ Some place
-      → p ≡ first_page_of ext.cap ext.extent_pages e + place → first_page_of ext.cap ext.extent_pages (e + 1) ≤ length (g.state old).work → map_page_of e < length (g.state old).work
+  pub takes_page : {shape : Shape} {kind : Kind} {old new : S} (e p place : ℕ) → e < shape.extents → IsKindOf shape.extent_pages kind → lowest_unused_place shape.extent_pages kind ≡ Some place
+      → p ≡ first_page_of shape.extents shape.extent_pages e + place → first_page_of shape.extents shape.extent_pages (e + 1) ≤ length (g.state old).work → map_page_of e < length (g.state old).work
       → PatchesPage g (map_page_of e) (entry_place e) (kind_bytes (with_used_place place kind)) old new → length (g.state new).work ≡ length (g.state old).work
       → RunsOverPages g (OnlyPage (map_page_of e)) (OnlyPage (map_page_of e)) NoDamage old new None
-      → TakesPage g ext kind old new e p
-  takes_page {ext = ext} {kind = kind} e p place below is_kind lowest is_page lies there sets same changes = record {
+      → TakesPage g shape kind old new e p
+  takes_page {shape = shape} {kind = kind} e p place below is_kind lowest is_page lies there sets same changes = record {
     place = place;
     lowest = lowest;
     page = is_page;
     there = lies;
     count = same;
     counted = λ before. counted_still changes.works.steady.is_told changes.touches (omega arith) (omega (arith, there)) same before;
-    holds = λ owners is. holds_map_set e (with_used_place place kind) below (is_kind-with_place ext.extent_pages place kind (lowest_unused_below ext.extent_pages place kind lowest) is_kind)
+    holds = λ owners is. holds_map_set e (with_used_place place kind) below (is_kind-with_place shape.extent_pages place kind (lowest_unused_below shape.extent_pages place kind lowest) is_kind)
         (λ some. omega (arith, lies, same)) (omega (arith, same)) sets changes.touches is;
   }

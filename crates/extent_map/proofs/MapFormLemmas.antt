@@ -4,16 +4,16 @@ use Rattle.std.proofs.Common.{◌≡◌, ◌≢◌, ◌<◌, ◌≤◌, ◌+◌,
 use Rattle.std.proofs.Math.ListN.{get_or-eq_default}
 use Rattle.std.proofs.lemmas.Bool.{cases_lt}
 use Rattle.std.proofs.lemmas.List.{length-replicate, get_or_append_left, get_or-append_right}
-use Rattle.store_api.specs.Extents.{first_count, first_page_of, map_pages}
+use Rattle.store_api.specs.Extents.{first_page_of}
 use Rattle.store_api.specs.Frame.{HoldsPage, PatchesPage, Touches, OnlyPage}
 use Rattle.store_api.specs.declared.fault.Damage.{Damage}
 use Rattle.store_api.specs.declared.fault.StoreFault.{StoreFault}
 use Rattle.store_api.specs.declared.pages.Pages.{Ghosts}
+use Rattle.store_api.specs.declared.shape.Shape.{Shape}
 use Rattle.extent_map.specs.Damages.{BreaksSpace}
 use Rattle.extent_map.specs.Kinds.{kind_bytes, IsKindOf}
 use Rattle.extent_map.specs.Map.{HoldsMapPage, IsMapPage, KeepsMapForm, map_page, map_page_of, entry_place}
-use Rattle.extent_map.specs.Owners.{owner_of, IsSameShape}
-use Rattle.extent_map.specs.declared.extents.Extents.{Extents}
+use Rattle.extent_map.specs.Owners.{owner_of}
 use Rattle.extent_map.specs.declared.kind.Kind.{Kind}
 use Rattle.extent_map.specs.declared.kind.Kind.TheVariants.{Free}
 use Rattle.extent_map.proofs.HoldsMapLemmas.{map_page_same, map_page_becomes}
@@ -32,19 +32,19 @@ unfolding map_page
 map_page_alike one other i same = map_entries_same one other (512 * i) 512 (λ x low high. same x)
 
 module _ {S : Type 0} {g : Ghosts S} where
-  told_alike : {ext : Extents} {s : S} {i : ℕ} (one other : List Kind) → ((x : ℕ) → owner_of one x ≡ owner_of other x) → HoldsMapPage g ext s one i → HoldsMapPage g ext s other i
-  told_alike {ext = ext} {s = s} {i = i} one other same is = record {
+  told_alike : {shape : Shape} {s : S} {i : ℕ} (one other : List Kind) → ((x : ℕ) → owner_of one x ≡ owner_of other x) → HoldsMapPage g shape s one i → HoldsMapPage g shape s other i
+  told_alike {shape = shape} {s = s} {i = i} one other same is = record {
     page = subst (λ bytes. HoldsPage g s (17 + i) bytes) (map_page_alike one other i same) is.page;
-    kinds = λ e on. subst (λ k. IsKindOf ext.extent_pages k) (same e) (is.kinds e on);
+    kinds = λ e on. subst (λ k. IsKindOf shape.extent_pages k) (same e) (is.kinds e on);
     there = λ e on used. is.there e on (λ free. used (sym (same e) ∙ free));
   }
 
-  pub forms_same : {ext : Extents} {old new : S} → (g.state new).is_told ≡ (g.state old).is_told → (g.state new).work ≡ (g.state old).work → KeepsMapForm g ext old new
+  pub forms_same : {shape : Shape} {old new : S} → (g.state new).is_told ≡ (g.state old).is_told → (g.state new).work ≡ (g.state old).work → KeepsMapForm g shape old new
   forms_same told same = record { forms = λ i owners within is. (owners, map_page_same told same is) }
 
   -- a run that touches no page of the map
-  pub forms_still : {ext : Extents} {Mine : ℕ → Type 0} {old new : S} → Touches g Mine old new → ((p : ℕ) → IsMapPage ext p → Mine p → ⊥)
-      → length (g.state old).work ≤ length (g.state new).work → KeepsMapForm g ext old new
+  pub forms_still : {shape : Shape} {Mine : ℕ → Type 0} {old new : S} → Touches g Mine old new → ((p : ℕ) → IsMapPage shape p → Mine p → ⊥)
+      → length (g.state old).work ≤ length (g.state new).work → KeepsMapForm g shape old new
   forms_still run apart longer = record {
     forms = λ i owners within is. (
       owners,
@@ -57,9 +57,9 @@ module _ {S : Type 0} {g : Ghosts S} where
   }
 
   -- one extent becomes another kind
-  pub forms_set : {ext : Extents} {old new : S} (e : ℕ) (kind : Kind) → IsKindOf ext.extent_pages kind
-      → (kind ≢ Free → first_page_of ext.cap ext.extent_pages (e + 1) ≤ length (g.state new).work) → length (g.state old).work ≤ length (g.state new).work
-      → PatchesPage g (map_page_of e) (entry_place e) (kind_bytes kind) old new → Touches g (OnlyPage (map_page_of e)) old new → KeepsMapForm g ext old new
+  pub forms_set : {shape : Shape} {old new : S} (e : ℕ) (kind : Kind) → IsKindOf shape.extent_pages kind
+      → (kind ≢ Free → first_page_of shape.extents shape.extent_pages (e + 1) ≤ length (g.state new).work) → length (g.state old).work ≤ length (g.state new).work
+      → PatchesPage g (map_page_of e) (entry_place e) (kind_bytes kind) old new → Touches g (OnlyPage (map_page_of e)) old new → KeepsMapForm g shape old new
   forms_set e kind is_kind lies longer patches run = record {
     forms = λ i owners within is.
         let padded = owners ++ replicate (suc e) Free in
@@ -68,41 +68,23 @@ module _ {S : Type 0} {g : Ghosts S} where
   }
 
   -- the same of a call that may have failed, and then changed nothing
-  pub forms_set_result : {ext : Extents} {old new : S} (r : Result (Unit {0}) StoreFault) (e : ℕ) (kind : Kind) → IsKindOf ext.extent_pages kind
-      → (kind ≢ Free → first_page_of ext.cap ext.extent_pages (e + 1) ≤ length (g.state new).work) → length (g.state old).work ≤ length (g.state new).work → (g.state new).is_told ≡ (g.state old).is_told
+  pub forms_set_result : {shape : Shape} {old new : S} (r : Result (Unit {0}) StoreFault) (e : ℕ) (kind : Kind) → IsKindOf shape.extent_pages kind
+      → (kind ≢ Free → first_page_of shape.extents shape.extent_pages (e + 1) ≤ length (g.state new).work) → length (g.state old).work ≤ length (g.state new).work → (g.state new).is_told ≡ (g.state old).is_told
       → OnOk r (PatchesPage g (map_page_of e) (entry_place e) (kind_bytes kind) old new) → OnErr r ((g.state new).work ≡ (g.state old).work)
-      → Touches g (OnlyPage (map_page_of e)) old new → KeepsMapForm g ext old new
+      → Touches g (OnlyPage (map_page_of e)) old new → KeepsMapForm g shape old new
   forms_set_result (Ok x) e kind is_kind lies longer told patches same run = forms_set e kind is_kind lies longer patches run
   forms_set_result (Err fault) e kind is_kind lies longer told patches same run = forms_same told same
 
-  pub forms_then : {ext : Extents} {old middle new : S} → KeepsMapForm g ext old middle → KeepsMapForm g ext middle new → KeepsMapForm g ext old new
+  pub forms_then : {shape : Shape} {old middle new : S} → KeepsMapForm g shape old middle → KeepsMapForm g shape middle new → KeepsMapForm g shape old new
   forms_then first second = record {
     forms = λ i owners within is.
         let was = first.forms i owners within is in
         second.forms i was.0 within was.1;
   }
 
-  -- the same of numbers that are the same
-  pub map_page_along : {before after : Extents} {owners : List Kind} {i : ℕ} {s : S} → IsSameShape before after → HoldsMapPage g before s owners i → HoldsMapPage g after s owners i
-  map_page_along {before = before} {after = after} {owners = owners} {s = s} shape was = record {
-    page = was.page;
-    kinds = λ e on. subst (λ n. IsKindOf n (owner_of owners e)) (sym shape.extent_pages) (was.kinds e on);
-    there = λ e on used. subst (λ n. first_page_of after.cap n (e + 1) ≤ length (g.state s).work) (sym shape.extent_pages)
-        (subst (λ cap. first_page_of cap before.extent_pages (e + 1) ≤ length (g.state s).work) (sym shape.cap) (was.there e on used));
-  }
-
-  pub forms_along : {before after : Extents} {old new : S} → IsSameShape before after → KeepsMapForm g after old new → KeepsMapForm g before old new
-  forms_along {before = before} {after = after} shape run =
-      let back : IsSameShape after before = record { cap = sym shape.cap; extent_pages = sym shape.extent_pages } in
-      record {
-        forms = λ i owners within is.
-            let now = run.forms i owners (subst (λ cap. i < map_pages cap) (sym shape.cap) within) (map_page_along shape is) in
-            (now.0, map_page_along back now.1);
-      }
-
   -- what breaks a rule later broke it before
-  pub breaks_space_before : {ext : Extents} {old new : S} (damage : Damage) → KeepsMapForm g ext old new → length (g.state old).work ≤ length (g.state new).work
-      → BreaksSpace g ext new damage → BreaksSpace g ext old damage
+  pub breaks_space_before : {shape : Shape} {old new : S} (damage : Damage) → KeepsMapForm g shape old new → length (g.state old).work ≤ length (g.state new).work
+      → BreaksSpace g shape new damage → BreaksSpace g shape old damage
   breaks_space_before damage run longer breaks = elim breaks [
     | inl count ↦ inl (record { page = count.page; rule = count.rule; short = omega (arith, count.short, longer) })
     | inr map ↦ inr (
@@ -112,20 +94,6 @@ module _ {S : Type 0} {g : Ghosts S} where
         on_map = map.1.on_map;
         rule = map.1.rule;
         none_told = λ owners is meets. let now = run.forms map.0 owners map.1.on_map is in map.1.none_told now.0 now.1 tt;
-      },
-    )
-  ]
-
-  pub breaks_space_along : {before after : Extents} {s : S} (damage : Damage) → IsSameShape before after → BreaksSpace g after s damage → BreaksSpace g before s damage
-  breaks_space_along {before = before} {s = s} damage shape breaks = elim breaks [
-    | inl count ↦ inl (record { page = count.page; rule = count.rule; short = subst (λ cap. length (g.state s).work < first_count cap) shape.cap count.short })
-    | inr map ↦ inr (
-      map.0,
-      record {
-        page = map.1.page;
-        on_map = subst (λ cap. map.0 < map_pages cap) shape.cap map.1.on_map;
-        rule = map.1.rule;
-        none_told = λ owners is meets. map.1.none_told owners (map_page_along shape is) tt;
       },
     )
   ]

@@ -5,9 +5,9 @@ use Rattle.store_api.specs.Extents.{first_count, first_page_of, map_pages}
 use Rattle.store_api.specs.Frame.{HoldsPage}
 use Rattle.store_api.specs.StoreState.{patched, zero_page}
 use Rattle.store_api.specs.declared.pages.Pages.{Ghosts}
+use Rattle.store_api.specs.declared.shape.Shape.{Shape}
 use Rattle.extent_map.specs.Kinds.{kind_bytes, IsKindOf}
 use Rattle.extent_map.specs.Owners.{owner_of}
-use Rattle.extent_map.specs.declared.extents.Extents.{Extents}
 use Rattle.extent_map.specs.declared.kind.Kind.{Kind}
 use Rattle.extent_map.specs.declared.kind.Kind.TheVariants.{Free}
 
@@ -34,29 +34,29 @@ entry_of page e = take 8 (drop (entry_place e) page)
 
 -- A page of the map, and what it says of its extents: each is of a kind that it may have, and one that isn't free lies within
 -- the pages that there are. Whether a table is there is not asked.
-pub record HoldsMapPage {S : Type 0} (g : Ghosts S) (ext : Extents) (s : S) (owners : List Kind) (i : ℕ) : Type 0 where
+pub record HoldsMapPage {S : Type 0} (g : Ghosts S) (shape : Shape) (s : S) (owners : List Kind) (i : ℕ) : Type 0 where
   pub page : HoldsPage g s (17 + i) (map_page owners i)
-  pub kinds : (e : ℕ) → e / 512 ≡ i → IsKindOf ext.extent_pages (owner_of owners e)
-  pub there : (e : ℕ) → e / 512 ≡ i → owner_of owners e ≢ Free → first_page_of ext.cap ext.extent_pages (e + 1) ≤ length (g.state s).work
+  pub kinds : (e : ℕ) → e / 512 ≡ i → IsKindOf shape.extent_pages (owner_of owners e)
+  pub there : (e : ℕ) → e / 512 ≡ i → owner_of owners e ≢ Free → first_page_of shape.extents shape.extent_pages (e + 1) ≤ length (g.state s).work
 
 -- the extent map is told to be this list, of which each extent has its place
-pub record HoldsMap {S : Type 0} (g : Ghosts S) (ext : Extents) (s : S) (owners : List Kind) : Type 0 where
-  pub count : length owners ≡ ext.cap
-  pub pages : (i : ℕ) → i < map_pages ext.cap → HoldsMapPage g ext s owners i
+pub record HoldsMap {S : Type 0} (g : Ghosts S) (shape : Shape) (s : S) (owners : List Kind) : Type 0 where
+  pub count : length owners ≡ shape.extents
+  pub pages : (i : ℕ) → i < map_pages shape.extents → HoldsMapPage g shape s owners i
 
 -- there are as many pages as some number of whole extents make
-pub record IsWholeCount {S : Type 0} (g : Ghosts S) (ext : Extents) (s : S) : Type 0 where
+pub record IsWholeCount {S : Type 0} (g : Ghosts S) (shape : Shape) (s : S) : Type 0 where
   pub extents : ℕ
-  pub within : extents ≤ ext.cap
-  pub count : length (g.state s).work ≡ first_page_of ext.cap ext.extent_pages extents
+  pub within : extents ≤ shape.extents
+  pub count : length (g.state s).work ≡ first_page_of shape.extents shape.extent_pages extents
 
 -- a page of the map
-abbrev pub IsMapPage : Extents → ℕ → Type 0
-IsMapPage ext p = (17 ≤ p) × (p < first_count ext.cap)
+abbrev pub IsMapPage : Shape → ℕ → Type 0
+IsMapPage shape p = (17 ≤ p) × (p < first_count shape.extents)
 
 -- a page of the map, or page 0
-abbrev pub IsSpacePage : Extents → ℕ → Type 0
-IsSpacePage ext p = (p ≡ 0) ⊎ IsMapPage ext p
+abbrev pub IsSpacePage : Shape → ℕ → Type 0
+IsSpacePage shape p = (p ≡ 0) ⊎ IsMapPage shape p
 
 -- page 0 with another page count
 abbrev pub root_stating : ℕ → List ℕ → List ℕ
@@ -84,5 +84,5 @@ pub record BringsZeros {S : Type 0} (g : Ghosts S) (Mine : ℕ → Type 0) (old 
   pub zeros : IsTrue (g.state old).is_told → (p : ℕ) → (Mine p → ⊥) → length (g.state old).work ≤ p → p < length (g.state new).work → HoldsPage g new p zero_page
 
 -- each page of the map that is told to have its form still has it, whatever it says now
-pub record KeepsMapForm {S : Type 0} (g : Ghosts S) (ext : Extents) (old new : S) : Type 0 where
-  pub forms : (i : ℕ) (owners : List Kind) → i < map_pages ext.cap → HoldsMapPage g ext old owners i → (more : List Kind) × HoldsMapPage g ext new more i
+pub record KeepsMapForm {S : Type 0} (g : Ghosts S) (shape : Shape) (old new : S) : Type 0 where
+  pub forms : (i : ℕ) (owners : List Kind) → i < map_pages shape.extents → HoldsMapPage g shape old owners i → (more : List Kind) × HoldsMapPage g shape new more i

@@ -1,10 +1,10 @@
 -- What a search of the map looks for, and what it finds.
 use Rattle.std.specs.Prelude.{◌≡◌, ◌≢◌, ◌<◌, ◌≤◌, ◌/◌, ℕ, Bool, true, false, List, Option, MatchOption, is_some}
 use Rattle.store_api.specs.declared.pages.Pages.{Ghosts}
+use Rattle.store_api.specs.declared.shape.Shape.{Shape}
 use Rattle.extent_map.specs.Kinds.{IsKindOf, kind_bytes, is_free_kind, lowest_unused_place}
 use Rattle.extent_map.specs.Map.{HoldsMapPage, entry_of}
 use Rattle.extent_map.specs.Owners.{owner_of}
-use Rattle.extent_map.specs.declared.extents.Extents.{Extents}
 use Rattle.extent_map.specs.declared.finding.Wanted.{Wanted}
 use Rattle.extent_map.specs.declared.finding.Wanted.TheVariants.{FreeExtent, UnusedPage}
 use Rattle.extent_map.specs.declared.kind.Kind.{Kind}
@@ -44,5 +44,5 @@ pub record IsMalformed (extent_pages : ℕ) (page : List ℕ) (from to e : ℕ) 
   pub none : (kind : Kind) → IsKindOf extent_pages kind → entry_of page e ≢ kind_bytes kind
 
 -- an extent is of this kind, whatever else its page of the map is told to say
-abbrev pub ShowsOwner : {S : Type 0} → Ghosts S → Extents → S → ℕ → Kind → Type 0
-ShowsOwner g ext s e kind = (owners : List Kind) → HoldsMapPage g ext s owners (e / 512) → owner_of owners e ≡ kind
+abbrev pub ShowsOwner : {S : Type 0} → Ghosts S → Shape → S → ℕ → Kind → Type 0
+ShowsOwner g shape s e kind = (owners : List Kind) → HoldsMapPage g shape s owners (e / 512) → owner_of owners e ≡ kind

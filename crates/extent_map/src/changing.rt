@@ -1,37 +1,63 @@
 // Pages of the map and the page count, as they are looked at and changed.
-ghost use Rattle.std.specs.Prelude.{◌≡◌, ◌+◌, ◌<◌, ◌≤◌, ℕ, List, length, false, max, IsSome, Some, OnOk, OnErr};
+ghost use Rattle.std.specs.Prelude.{◌≡◌, ◌≢◌, ◌+◌, ◌<◌, ◌≤◌, ℕ, List, length, false, max, IsSome, Some, IfOk, OnOk, OnErr};
+ghost use Rattle.store_api.specs.Extents.{first_page_of};
 ghost use Rattle.store_api.specs.StoreState.{patched};
 ghost use Rattle.store_api.specs.Frame.{HoldsPage, PatchesPage, OnlyPage, NoPage, IsCounted};
 ghost use Rattle.store_api.specs.Causes.{fault_of, NoDamage};
 ghost use Rattle.store_api.specs.RunsOverPages.{RunsOverPages};
 ghost use Rattle.extent_map.specs.Damages.{BreaksSpace};
-ghost use Rattle.extent_map.specs.Kinds.{kind_bytes};
-ghost use Rattle.extent_map.specs.Map.{ChangesCount, StatesGrowth, BringsZeros, map_page_of, entry_place};
+ghost use Rattle.extent_map.specs.Kinds.{kind_bytes, IsKindOf};
+ghost use Rattle.extent_map.specs.Map.{HoldsMap, ChangesCount, StatesGrowth, BringsZeros, map_page_of, entry_place};
+ghost use Rattle.extent_map.specs.Owners.{owner_of};
+ghost use Rattle.extent_map.specs.Searches.{ShowsOwner};
+ghost use Rattle.extent_map.specs.declared.kind.Kind.{Kind};
 
-use crate::Extents;
-use crate::kind::{Kind, kind_bytes};
-use crate::layout::{COUNT_PLACE, entry_place, map_page_of, wrong_count};
-use store_api::{MAX_PAGES, Page, Pages, StoreFault, add_pages, bring, put};
+use crate::kind::{Kind, is_owned, kind_bytes, kind_in};
+use crate::layout::{COUNT_PLACE, entry_place, map_page_of, wrong_count, wrong_entry};
+use crate::places::end_of;
+use store_api::{MAX_PAGES, Page, Pages, Shape, StoreFault, add_pages, bring, put};
 
 /// Brings the page of the map to hand on which an extent stands.
 pub(crate) fn bring_map_page<P: Pages>(
-    ext: &Extents,
+    shape: Shape,
     pages: &mut P,
     e: u32,
 ) -> Result<(), StoreFault>
     requires going { (P.state pages.old).ended ≡ false }
-    requires below { e < ext.now.cap }
+    requires below { e < shape.extents }
     ensures at_hand { OnOk result (IsSome (P.state pages.new).hand) }
     ensures hand { OnOk result ((bytes : List ℕ) → HoldsPage P.Pages pages.old (map_page_of e) bytes → (P.state pages.new).hand ≡ Some bytes) }
     ensures there { OnOk result (map_page_of e < length (P.state pages.old).work) }
     ensures same { (P.state pages.new).work ≡ (P.state pages.old).work }
-    ensures runs { RunsOverPages P.Pages NoPage (OnlyPage (map_page_of e)) (BreaksSpace P.Pages ext.now pages.old) pages.old pages.new (fault_of result) }
+    ensures runs { RunsOverPages P.Pages NoPage (OnlyPage (map_page_of e)) (BreaksSpace P.Pages shape pages.old) pages.old pages.new (fault_of result) }
 {
     let p = map_page_of(e);
     if p >= pages.count() {
         return Err(StoreFault::Damaged(wrong_count()));
     }
     bring(pages, p)
+}
+
+/// What an extent is. One that isn't free lies within the pages that there are.
+pub fn kind_of<P: Pages>(shape: Shape, pages: &mut P, e: u32) -> Result<Kind, StoreFault>
+    requires going { (P.state pages.old).ended ≡ false }
+    requires below { e < shape.extents }
+    ensures value { IfOk result (λ kind. (owners : List Kind) → HoldsMap P.Pages shape pages.old owners → kind ≡ owner_of owners e) }
+    ensures shown { IfOk result (ShowsOwner P.Pages shape pages.old e) }
+    ensures form { IfOk result (IsKindOf shape.extent_pages) }
+    ensures there { IfOk result (λ kind. kind ≢ Kind.Free → first_page_of shape.extents shape.extent_pages (e + 1) ≤ length (P.state pages.old).work) }
+    ensures map_there { OnOk result (map_page_of e < length (P.state pages.old).work) }
+    ensures same { (P.state pages.new).work ≡ (P.state pages.old).work }
+    ensures runs { RunsOverPages P.Pages NoPage (OnlyPage (map_page_of e)) (BreaksSpace P.Pages shape pages.old) pages.old pages.new (fault_of result) }
+{
+    bring_map_page(shape, pages, e)?;
+    let Some(kind) = kind_in(pages.page(), e, shape.extent_pages) else {
+        return Err(StoreFault::Damaged(wrong_entry(e)));
+    };
+    if is_owned(kind) && end_of(shape, e) > pages.count() {
+        return Err(StoreFault::Damaged(wrong_entry(e)));
+    }
+    Ok(kind)
 }
 
 /// Writes bytes over those of a page from a place on. After a fault the page is as it was.

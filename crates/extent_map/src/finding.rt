@@ -8,12 +8,11 @@ ghost use Rattle.extent_map.specs.Map.{HoldsMap, HoldsMapPage, IsMapPage, map_pa
 ghost use Rattle.extent_map.specs.Searches.{is_wanted, FindsWanted, IsFound, IsMalformed, ShowsKinds, ShowsOwner};
 ghost use Rattle.extent_map.specs.declared.kind.Kind.{Kind};
 
-use crate::Extents;
 use crate::changing::bring_map_page;
 use crate::kind::{Kind, kind_in, lowest_unused_place};
 use crate::layout::wrong_entry;
 use store_api::layout::MAP_PAGE_EXTENTS;
-use store_api::{Page, Pages, StoreFault};
+use store_api::{Page, Pages, Shape, StoreFault};
 
 /// What a search looks for.
 #[derive(Clone, Copy, Debug)]
@@ -26,25 +25,25 @@ pub(crate) enum Wanted {
 
 /// The lowest extent from one on to before another that is wanted, with what it is, where there is one.
 pub(crate) fn find<P: Pages>(
-    ext: &Extents,
+    shape: Shape,
     pages: &mut P,
     wanted: Wanted,
     from: u32,
     to: u32,
 ) -> Result<Option<(u32, Kind)>, StoreFault>
     requires going { (P.state pages.old).ended ≡ false }
-    requires within { to ≤ ext.now.cap }
-    ensures found { IfOk result (λ found. (owners : List Kind) → HoldsMap P.Pages ext.now pages.old owners → FindsWanted wanted ext.now.extent_pages owners from to found) }
-    ensures fits { IfOk result (λ found. IfSome found (IsFound wanted ext.now.extent_pages from to)) }
-    ensures shown { IfOk result (λ found. IfSome found (λ at. ShowsOwner P.Pages ext.now pages.old at.0 at.1)) }
+    requires within { to ≤ shape.extents }
+    ensures found { IfOk result (λ found. (owners : List Kind) → HoldsMap P.Pages shape pages.old owners → FindsWanted wanted shape.extent_pages owners from to found) }
+    ensures fits { IfOk result (λ found. IfSome found (IsFound wanted shape.extent_pages from to)) }
+    ensures shown { IfOk result (λ found. IfSome found (λ at. ShowsOwner P.Pages shape pages.old at.0 at.1)) }
     ensures there { IfOk result (λ found. IfSome found (λ at. map_page_of at.0 < length (P.state pages.old).work)) }
     ensures same { (P.state pages.new).work ≡ (P.state pages.old).work }
-    ensures runs { RunsOverPages P.Pages NoPage (IsMapPage ext.now) (BreaksSpace P.Pages ext.now pages.old) pages.old pages.new (fault_of result) }
+    ensures runs { RunsOverPages P.Pages NoPage (IsMapPage shape) (BreaksSpace P.Pages shape pages.old) pages.old pages.new (fault_of result) }
 {
     let mut next = from;
     while next < to {
         let end = to.min((next / MAP_PAGE_EXTENTS + 1) * MAP_PAGE_EXTENTS);
-        let found = find_on_page(ext, pages, wanted, next, end)?;
+        let found = find_on_page(shape, pages, wanted, next, end)?;
         if found.is_some() {
             return Ok(found);
         }
@@ -55,7 +54,7 @@ pub(crate) fn find<P: Pages>(
 
 /// The same of extents that stand on one page of the map.
 fn find_on_page<P: Pages>(
-    ext: &Extents,
+    shape: Shape,
     pages: &mut P,
     wanted: Wanted,
     from: u32,
@@ -64,16 +63,16 @@ fn find_on_page<P: Pages>(
     requires going { (P.state pages.old).ended ≡ false }
     requires some { from < to }
     requires one_page { to ≤ 512 * (from / 512 + 1) }
-    requires within { to ≤ ext.now.cap }
-    ensures found { IfOk result (λ found. (owners : List Kind) → HoldsMapPage P.Pages ext.now pages.old owners (from / 512) → FindsWanted wanted ext.now.extent_pages owners from to found) }
-    ensures fits { IfOk result (λ found. IfSome found (IsFound wanted ext.now.extent_pages from to)) }
-    ensures shown { IfOk result (λ found. IfSome found (λ at. ShowsOwner P.Pages ext.now pages.old at.0 at.1)) }
+    requires within { to ≤ shape.extents }
+    ensures found { IfOk result (λ found. (owners : List Kind) → HoldsMapPage P.Pages shape pages.old owners (from / 512) → FindsWanted wanted shape.extent_pages owners from to found) }
+    ensures fits { IfOk result (λ found. IfSome found (IsFound wanted shape.extent_pages from to)) }
+    ensures shown { IfOk result (λ found. IfSome found (λ at. ShowsOwner P.Pages shape pages.old at.0 at.1)) }
     ensures there { OnOk result (map_page_of from < length (P.state pages.old).work) }
     ensures same { (P.state pages.new).work ≡ (P.state pages.old).work }
-    ensures runs { RunsOverPages P.Pages NoPage (OnlyPage (map_page_of from)) (BreaksSpace P.Pages ext.now pages.old) pages.old pages.new (fault_of result) }
+    ensures runs { RunsOverPages P.Pages NoPage (OnlyPage (map_page_of from)) (BreaksSpace P.Pages shape pages.old) pages.old pages.new (fault_of result) }
 {
-    bring_map_page(ext, pages, from)?;
-    match scan(pages.page(), ext.extent_pages, wanted, from, to) {
+    bring_map_page(shape, pages, from)?;
+    match scan(pages.page(), shape.extent_pages, wanted, from, to) {
         Ok(found) => Ok(found),
         Err(malformed) => Err(StoreFault::Damaged(wrong_entry(malformed.extent))),
     }

@@ -19,8 +19,8 @@ use Rattle.store_api.specs.Frame.{NoPage}
 use Rattle.store_api.specs.RunsOverPages.{RunsOverPages}
 use Rattle.store_api.specs.declared.fault.StoreFault.{StoreFault}
 use Rattle.store_api.specs.declared.pages.Pages.{Ghosts}
+use Rattle.store_api.specs.declared.shape.Shape.{Shape}
 use Rattle.store_api.proofs.RunsOverPagesLemmas.{runs_then, runs_wider}
-use Rattle.extent_map.specs.declared.extents.Extents.{Extents}
 use Rattle.node_page.specs.Node.{number_within}
 use Rattle.entry_tree.specs.EntryBounds.{Climbs, Rises}
 use Rattle.entry_tree.specs.Forest.{Forest, leaf_entries}
@@ -211,31 +211,31 @@ images_differ f (x ∷ xs) apart differ i j d low high same =
     (apart (get_or (x ∷ xs) i x) (get_or (x ∷ xs) j x) (Contains-get_or (x ∷ xs) i x here) (Contains-get_or (x ∷ xs) j x there)
     (sym (get_or-map f (x ∷ xs) i x d here) ∙ (same ∙ get_or-map f (x ∷ xs) j x d there)))
 
-module _ (ext : Extents) (pages : PageList) (def : TableDef) (map_tree : Forest) (known : TableHasCells ext pages def map_tree) where
+module _ (shape : Shape) (pages : PageList) (def : TableDef) (map_tree : Forest) (known : TableHasCells shape pages def map_tree) where
   abbrev used : List ℕ
   used = used_blocks map_tree
 
   abbrev rows_at : ℕ → List PlacedRow
-  rows_at = rows_in_block ext pages def
+  rows_at = rows_in_block shape pages def
 
   -- a Used block has a row
   first_row : (block : ℕ) → Contains used block → (placed : PlacedRow) × (slice_get (rows_at block) 0 ≡ Some placed)
   first_row block there =
       let line = used_line map_tree block there in
-      let counted = each_of (IsLineCounted ext pages def) (map_lines map_tree) (map_line line.entry) known.counts (line_of_entry (leaf_entries map_tree) line.entry line.there) in
+      let counted = each_of (IsLineCounted shape pages def) (map_lines map_tree) (map_line line.entry) known.counts (line_of_entry (leaf_entries map_tree) line.entry line.there) in
       let some : 0 < (map_line line.entry).rows = counted.used.some_row line.used in
       let count : (map_line line.entry).rows ≡ length (rows_at block) = counted.used.counted line.used ∙ ap (λ b. length (rows_at b)) line.block_is in
       some_first (rows_at block) (omega (arith, some, count))
 
   block_of_row : (block : ℕ) (placed : PlacedRow) → Contains (rows_at block) placed → placed.rid.block ≡ block
-  block_of_row block placed there = (slot_of_placed block 0 (block_slots ext pages def block) placed there).1
+  block_of_row block placed there = (slot_of_placed block 0 (block_slots shape pages def block) placed there).1
 
   module _ (index : PlacedIndex) (is_index : Contains (indexes_of_kind Blocks def) index) where
     abbrev entry_of : PlacedRow → Entry
     entry_of = entry_of_kind Blocks def index.parts
 
     abbrev wanted : List Entry
-    wanted = entries_of_blocks Blocks ext pages def index.parts used
+    wanted = entries_of_blocks Blocks shape pages def index.parts used
 
     abbrev first_at : ℕ → Entry
     first_at block = first_entry def index.parts (rows_at block)
@@ -245,7 +245,7 @@ module _ (ext : Extents) (pages : PageList) (def : TableDef) (map_tree : Forest)
     same_entry block placed there at =
         let first = first_row block there in
         let one : AreOfOneCell def first.0.row.values placed.row.values =
-        with_first (λ a b. AreOfOneCell def a.row.values b.row.values) (rows_at block) first.0 placed (λ x. refl) (each_of (IsOfOneCell ext pages def) used block known.cells there) first.1 at in
+        with_first (λ a b. AreOfOneCell def a.row.values b.row.values) (rows_at block) first.0 placed (λ x. refl) (each_of (IsOfOneCell shape pages def) used block known.cells there) first.1 at in
         let blocks : first.0.rid.block ≡ placed.rid.block = block_of_row block first.0 (first_there (rows_at block) first.0 first.1) ∙ sym (block_of_row block placed at) in
         first_entry_is def index.parts (rows_at block) first.0 first.1
         ∙ (ap (λ (key : List ℕ). key ++ big_bytes 4 first.0.rid.block) (same_key def index first.0.row.values placed.row.values is_index one)
@@ -271,7 +271,7 @@ module _ (ext : Extents) (pages : PageList) (def : TableDef) (map_tree : Forest)
     firsts_differ = images_differ first_at used apart (used_differ map_tree known.rows.trees.map.form.once_each)
       where
         small : (block : ℕ) → Contains used block → block < 2 ^ 32
-        small block there = small_block ext block (block_within ext.cap 1 map_tree block known.rows.trees.map.within there)
+        small block there = small_block shape block (block_within shape.extents 1 map_tree block known.rows.trees.map.within there)
 
         apart : (a b : ℕ) → Contains used a → Contains used b → first_at a ≡ first_at b → a ≡ b
         apart a b at_a at_b same =
@@ -287,7 +287,7 @@ module _ (ext : Extents) (pages : PageList) (def : TableDef) (map_tree : Forest)
 
     module _ (tree : Forest) (has : HasTree pages index.place tree) where
       -- an index with these and as many entries is sound
-      sound_of : AllByRecursion (λ block. Contains (leaf_entries tree) (first_at block)) used → length (leaf_entries tree) ≡ length used → IsSoundTree Blocks ext pages def map_tree index tree
+      sound_of : AllByRecursion (λ block. Contains (leaf_entries tree) (first_at block)) used → length (leaf_entries tree) ≡ length used → IsSoundTree Blocks shape pages def map_tree index tree
       sound_of all same = record {
         has = λ entry there.
             let block = wanted_first entry there in
@@ -304,7 +304,7 @@ module _ (ext : Extents) (pages : PageList) (def : TableDef) (map_tree : Forest)
           within entry there = let block = from_map first_at used entry there in subst (Contains (leaf_entries tree)) block.2 (listed block.0 block.1)
 
       -- and one that is sound has as many
-      count_of : IsSoundTree Blocks ext pages def map_tree index tree → length (leaf_entries tree) ≡ length used
+      count_of : IsSoundTree Blocks shape pages def map_tree index tree → length (leaf_entries tree) ≡ length used
       count_of sound =
           let least = no_longer (map first_at used) (leaf_entries tree) firsts_differ within in
           let most = no_longer (leaf_entries tree) (map first_at used) (tree_differs pages index.place tree has) back in
@@ -326,13 +326,13 @@ module _ (ext : Extents) (pages : PageList) (def : TableDef) (map_tree : Forest)
   indexes = indexes_of_kind Blocks def
 
   abbrev AnyLacks : ℕ → Type 0
-  AnyLacks = BreaksAny (LacksBlock ext pages def) used
+  AnyLacks = BreaksAny (LacksBlock shape pages def) used
 
   abbrev AnyBreaksCount : ℕ → Type 0
   AnyBreaksCount = BreaksAny (BreaksEntryCount pages (length used)) indexes
 
-  all_sound : AllByRecursion (IsBlockEntered ext pages def) used × AllByRecursion (HasEntryCount pages (length used)) indexes → AllByRecursion (IsPlaceSound Blocks ext pages def map_tree) indexes
-  all_sound both = each_in (IsPlaceSound Blocks ext pages def map_tree) indexes (λ index there tree has. sound_of index there tree has
+  all_sound : AllByRecursion (IsBlockEntered shape pages def) used × AllByRecursion (HasEntryCount pages (length used)) indexes → AllByRecursion (IsPlaceSound Blocks shape pages def map_tree) indexes
+  all_sound both = each_in (IsPlaceSound Blocks shape pages def map_tree) indexes (λ index there tree has. sound_of index there tree has
       (each_in (λ block. Contains (leaf_entries tree) (first_entry def index.parts (rows_at block))) used (λ block at. entered index there tree has block at))
       (each_of (HasEntryCount pages (length used)) indexes index both.1 there tree has))
     where
@@ -340,30 +340,30 @@ module _ (ext : Extents) (pages : PageList) (def : TableDef) (map_tree : Forest)
       entered index there tree has block at =
           let first = first_row block at in
           subst (Contains (leaf_entries tree)) (sym (first_entry_is def index.parts (rows_at block) first.0 first.1))
-          (each_of (HasEntry pages def first.0) indexes index (each_of (IsBlockEntered ext pages def) used block both.0 at first.0 first.1) there tree has)
+          (each_of (HasEntry pages def first.0) indexes index (each_of (IsBlockEntered shape pages def) used block both.0 at first.0 first.1) there tree has)
 
-  some_broken : (p : ℕ) → AnyLacks p ⊎ AnyBreaksCount p → BreaksAny (BreaksPlace Blocks ext pages def map_tree) indexes p
+  some_broken : (p : ℕ) → AnyLacks p ⊎ AnyBreaksCount p → BreaksAny (BreaksPlace Blocks shape pages def map_tree) indexes p
   some_broken p (inl lacks) =
-      let block = member-breaks_any (LacksBlock ext pages def) used p lacks in
+      let block = member-breaks_any (LacksBlock shape pages def) used p lacks in
       let first = block.2 in
       let index = member-breaks_any (LacksEntry pages def first.0) indexes p first.2 in
-      breaks_any-member (BreaksPlace Blocks ext pages def map_tree) indexes index.0 p index.1 (
+      breaks_any-member (BreaksPlace Blocks shape pages def map_tree) indexes index.0 p index.1 (
         index.2.0,
         λ tree has sound. index.2.1 tree has (sound.has (entry_of_kind Blocks def index.0.parts first.0)
             (in_map (entry_of_kind Blocks def index.0.parts) (flat_map rows_at used) first.0 (contains_flat rows_at used block.0 first.0 block.1 (first_there (rows_at block.0) first.0 first.1)))),
       )
   some_broken p (inr counts) =
       let index = member-breaks_any (BreaksEntryCount pages (length used)) indexes p counts in
-      breaks_any-member (BreaksPlace Blocks ext pages def map_tree) indexes index.0 p index.1
+      breaks_any-member (BreaksPlace Blocks shape pages def map_tree) indexes index.0 p index.1
       (index.2.0, λ tree has sound. index.2.1 tree has (count_of index.0 index.1 tree has sound))
 
-  none_broken : (p : ℕ) → BreaksAny (BreaksPlace Blocks ext pages def map_tree) indexes p → (AnyLacks p ⊎ AnyBreaksCount p → ⊥) → ⊥
+  none_broken : (p : ℕ) → BreaksAny (BreaksPlace Blocks shape pages def map_tree) indexes p → (AnyLacks p ⊎ AnyBreaksCount p → ⊥) → ⊥
   none_broken p broken none =
-      let index = member-breaks_any (BreaksPlace Blocks ext pages def map_tree) indexes p broken in
+      let index = member-breaks_any (BreaksPlace Blocks shape pages def map_tree) indexes p broken in
       let tree = known.rows.trees.indexes Blocks index.0 index.1 in
       go index.0 index.1 index.2.0 index.2.1 tree.0 tree.1 (cases_eq (length (leaf_entries tree.0)) (length used))
     where
-      go : (index : PlacedIndex) → Contains indexes index → p ≡ index.place.root → ((tree : Forest) → HasTree pages index.place tree → IsSoundTree Blocks ext pages def map_tree index tree → ⊥)
+      go : (index : PlacedIndex) → Contains indexes index → p ≡ index.place.root → ((tree : Forest) → HasTree pages index.place tree → IsSoundTree Blocks shape pages def map_tree index tree → ⊥)
           → (tree : Forest) → HasTree pages index.place tree → (length (leaf_entries tree) ≡ length used) ⊎ (length (leaf_entries tree) ≢ length used) → ⊥
       go index there root unsound tree has (inr other) =
           none (inr (breaks_any-member (BreaksEntryCount pages (length used)) indexes index p there
@@ -372,7 +372,7 @@ module _ (ext : Extents) (pages : PageList) (def : TableDef) (map_tree : Forest)
           all_stable (λ block. Contains (leaf_entries tree) (first_entry def index.parts (rows_at block))) used
           (λ block at lacks.
           let first = first_row block at in
-          none (inl (breaks_any-member (LacksBlock ext pages def) used block p at (
+          none (inl (breaks_any-member (LacksBlock shape pages def) used block p at (
             first.0,
             first.1,
             breaks_any-member (LacksEntry pages def first.0) indexes index p there (
@@ -384,13 +384,13 @@ module _ (ext : Extents) (pages : PageList) (def : TableDef) (map_tree : Forest)
           (λ all. unsound tree has (sound_of index there tree has all same))
 
   -- the block indexes are judged
-  pub judges_block_indexes : (lacking other : Option ℕ) → JudgesEach (IsBlockEntered ext pages def) (LacksBlock ext pages def) used lacking
-      → JudgesEach (HasEntryCount pages (length used)) (BreaksEntryCount pages (length used)) indexes other → JudgesIndexes Blocks ext pages def map_tree (lower lacking other)
+  pub judges_block_indexes : (lacking other : Option ℕ) → JudgesEach (IsBlockEntered shape pages def) (LacksBlock shape pages def) used lacking
+      → JudgesEach (HasEntryCount pages (length used)) (BreaksEntryCount pages (length used)) indexes other → JudgesIndexes Blocks shape pages def map_tree (lower lacking other)
   judges_block_indexes lacking other entered counted =
-      judges_stable {P = AllByRecursion (IsBlockEntered ext pages def) used × AllByRecursion (HasEntryCount pages (length used)) indexes} {Q = AllByRecursion (IsPlaceSound Blocks ext pages def map_tree) indexes}
-      {A = λ p. AnyLacks p ⊎ AnyBreaksCount p} {B = BreaksAny (BreaksPlace Blocks ext pages def map_tree) indexes}
+      judges_stable {P = AllByRecursion (IsBlockEntered shape pages def) used × AllByRecursion (HasEntryCount pages (length used)) indexes} {Q = AllByRecursion (IsPlaceSound Blocks shape pages def map_tree) indexes}
+      {A = λ p. AnyLacks p ⊎ AnyBreaksCount p} {B = BreaksAny (BreaksPlace Blocks shape pages def map_tree) indexes}
       (lower lacking other) all_sound some_broken none_broken
-      (judges_both (AllByRecursion (IsBlockEntered ext pages def) used) (AllByRecursion (HasEntryCount pages (length used)) indexes) AnyLacks AnyBreaksCount lacking other entered counted)
+      (judges_both (AllByRecursion (IsBlockEntered shape pages def) used) (AllByRecursion (HasEntryCount pages (length used)) indexes) AnyLacks AnyBreaksCount lacking other entered counted)
 
 -- ---- the indexes, one after the other
 

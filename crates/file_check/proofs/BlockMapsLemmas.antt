@@ -6,7 +6,7 @@ use Rattle.std.specs.List.{AllByRecursion}
 use Rattle.mdc_ast.specs.declared.definition.TableDef.{TableDef}
 use Rattle.store_api.specs.declared.fault.Damage.{Damage}
 use Rattle.store_api.specs.declared.pages.Pages.{Ghosts}
-use Rattle.extent_map.specs.declared.extents.Extents.{Extents}
+use Rattle.store_api.specs.declared.shape.Shape.{Shape}
 use Rattle.entry_tree.specs.EntryBounds.{IsEntryOf}
 use Rattle.entry_tree.specs.Forest.{Forest, IsTree, leaf_entries}
 use Rattle.entry_tree.specs.HeldTrees.{HoldsTree, nodes_in}
@@ -40,11 +40,11 @@ block_within cap state map_tree block all there =
     (each_of (λ (line : MapLine). line.block < cap) (map_lines map_tree) (map_line named.entry) all (line_of_entry (leaf_entries map_tree) named.entry named.there))
 
 -- no block map that stands names a block that is no extent
-pub map_past_none : {S : Type 0} (g : Ghosts S) (ext : Extents) (s : S) (def : TableDef) (state block : ℕ) (damage : Damage)
-    → (IsTrue (g.state s).is_told → (t : Forest) → HasTree (g.state s).work (map_place def) t → Contains (blocks_of_state state t) block) → ext.cap ≤ block
-    → Unless g s (λ pages. (map_tree : Forest) × HasBlockMap ext pages def map_tree) damage
-map_past_none g ext s def state block damage there past told (map_tree, has) =
-    omega (arith, past, block_within ext.cap state map_tree block has.within (there told map_tree has.tree))
+pub map_past_none : {S : Type 0} (g : Ghosts S) (shape : Shape) (s : S) (def : TableDef) (state block : ℕ) (damage : Damage)
+    → (IsTrue (g.state s).is_told → (t : Forest) → HasTree (g.state s).work (map_place def) t → Contains (blocks_of_state state t) block) → shape.extents ≤ block
+    → Unless g s (λ pages. (map_tree : Forest) × HasBlockMap shape pages def map_tree) damage
+map_past_none g shape s def state block damage there past told (map_tree, has) =
+    omega (arith, past, block_within shape.extents state map_tree block has.within (there told map_tree has.tree))
 
 module _ {S : Type 0} {g : Ghosts S} where
   -- a tree at the place of a block map is what the handle of the map names
@@ -60,11 +60,11 @@ module _ {S : Type 0} {g : Ghosts S} where
   map_held s tree def root wide holds told t has = held_by_handle s tree def t root wide ((holds told (map_place def) t).1 has)
 
   -- a call on a block map that stands names no damage
-  pub map_breaks_none : (ext : Extents) (s : S) (tree : Tree) (def : TableDef) (damage : Damage)
+  pub map_breaks_none : (shape : Shape) (s : S) (tree : Tree) (def : TableDef) (damage : Damage)
       → (IsTrue (g.state s).is_told → (t : Forest) → HasTree (g.state s).work (map_place def) t → HoldsTree g s tree t) → BreaksMapTree g s tree AnyMap damage
-      → Unless g s (λ pages. (map_tree : Forest) × HasBlockMap ext pages def map_tree) damage
-  map_breaks_none ext s tree def damage held (inl b) told (map_tree, has) = b.broken map_tree (held told map_tree has.tree)
-  map_breaks_none ext s tree def damage held (inr b) told (map_tree, has) = b.broken map_tree (held told map_tree has.tree) has.form tt
+      → Unless g s (λ pages. (map_tree : Forest) × HasBlockMap shape pages def map_tree) damage
+  map_breaks_none shape s tree def damage held (inl b) told (map_tree, has) = b.broken map_tree (held told map_tree has.tree)
+  map_breaks_none shape s tree def damage held (inr b) told (map_tree, has) = b.broken map_tree (held told map_tree has.tree) has.form tt
 
   -- what a call finds in the tree of the handle it finds in the block map
   pub finds_told : {X E : Type 0} (s : S) (tree : Tree) (def : TableDef) (Finds : Forest → X → Type 0) (result : Result X E)

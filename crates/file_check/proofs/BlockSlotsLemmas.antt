@@ -8,7 +8,7 @@ use Rattle.mdc_ast.specs.declared.definition.TableDef.{TableDef}
 use Rattle.mdc_ast.specs.declared.row.Row.{Row}
 use Rattle.mdc_words.proofs.ListedLemmas.{get_or-listed, length-listed}
 use Rattle.store_api.specs.Extents.{first_page_of}
-use Rattle.extent_map.specs.declared.extents.Extents.{Extents}
+use Rattle.store_api.specs.declared.shape.Shape.{Shape}
 use Rattle.row_page.specs.RowPage.{rows_of, slot_count, slot_row}
 use Rattle.table_trees.specs.ToldPages.{PageList}
 use Rattle.block_map.proofs.MapLinesLemmas.{contains_cases, contains_more}
@@ -67,33 +67,33 @@ slot_placed block at (Some first ∷ slots) (suc place) row low is =
 
 -- ---- slots and their pages
 
-module _ (ext : Extents) (pages : PageList) (def : TableDef) (block : ℕ) where
+module _ (shape : Shape) (pages : PageList) (def : TableDef) (block : ℕ) where
   abbrev c : ℕ
   c = slot_count def.columns
 
   abbrev slots : List (Option Row)
-  slots = block_slots ext pages def block
+  slots = block_slots shape pages def block
 
   -- a slot of page j
-  slot_of_page : (j k : ℕ) → j < ext.extent_pages → k < c → get_or slots (j * c + k) None ≡ slot_row def.columns (block_page ext pages block j) k
+  slot_of_page : (j k : ℕ) → j < shape.extent_pages → k < c → get_or slots (j * c + k) None ≡ slot_row def.columns (block_page shape pages block j) k
   slot_of_page j k low less =
-      let rows_at : ℕ → List (Option Row) = λ i. rows_of def.columns (block_page ext pages block i) in
+      let rows_at : ℕ → List (Option Row) = λ i. rows_of def.columns (block_page shape pages block i) in
       let here : 0 + j ≡ j = omega arith in
       sym (get_or-part c j k slots None less)
-      ∙ (ap (λ (xs : List (Option Row)). get_or xs k None) (part-parts c rows_at 0 ext.extent_pages j (λ i. length-listed c (slot_row def.columns (block_page ext pages block i))) low ∙ ap rows_at here)
-      ∙ get_or-listed c (slot_row def.columns (block_page ext pages block j)) k None less)
+      ∙ (ap (λ (xs : List (Option Row)). get_or xs k None) (part-parts c rows_at 0 shape.extent_pages j (λ i. length-listed c (slot_row def.columns (block_page shape pages block i))) low ∙ ap rows_at here)
+      ∙ get_or-listed c (slot_row def.columns (block_page shape pages block j)) k None less)
 
   -- a row of a page is one of the block, in a slot of that page
   pub record IsOnPage (j : ℕ) (row : Row) : Type 0 where
     pub placed : PlacedRow
-    pub there : Contains (rows_in_block ext pages def block) placed
+    pub there : Contains (rows_in_block shape pages def block) placed
     pub row_is : placed.row ≡ row
     pub page_is : placed.rid.slot / slot_count def.columns ≡ j
 
-  pub row_on_page : (j k : ℕ) (row : Row) → j < ext.extent_pages → k < slot_count def.columns → slot_row def.columns (block_page ext pages block j) k ≡ Some row → IsOnPage j row
+  pub row_on_page : (j k : ℕ) (row : Row) → j < shape.extent_pages → k < slot_count def.columns → slot_row def.columns (block_page shape pages block j) k ≡ Some row → IsOnPage j row
   row_on_page j k row low less is =
-      let all : (j + 1) * c ≤ ext.extent_pages * c = let next : j + 1 ≤ ext.extent_pages = omega (arith, low) in mul-le-mul_right c next in
-      let within : j * c + k < length slots = omega (arith, all, less, length-block_slots ext pages def block) in
+      let all : (j + 1) * c ≤ shape.extent_pages * c = let next : j + 1 ≤ shape.extent_pages = omega (arith, low) in mul-le-mul_right c next in
+      let within : j * c + k < length slots = omega (arith, all, less, length-block_slots shape pages def block) in
       record {
         placed = placed_at block (0 + (j * c + k)) row;
         there = slot_placed block 0 slots (j * c + k) row within (slot_of_page j k low less ∙ is);
@@ -103,23 +103,23 @@ module _ (ext : Extents) (pages : PageList) (def : TableDef) (block : ℕ) where
 
   -- and the other way round
   pub record IsOfPage (placed : PlacedRow) : Type 0 where
-    pub page : placed.rid.slot / slot_count def.columns < ext.extent_pages
+    pub page : placed.rid.slot / slot_count def.columns < shape.extent_pages
     pub slot : placed.rid.slot % slot_count def.columns < slot_count def.columns
-    pub stands : slot_row def.columns (block_page ext pages block (placed.rid.slot / slot_count def.columns)) (placed.rid.slot % slot_count def.columns) ≡ Some placed.row
+    pub stands : slot_row def.columns (block_page shape pages block (placed.rid.slot / slot_count def.columns)) (placed.rid.slot % slot_count def.columns) ≡ Some placed.row
 
-  some_slots : (n : ℕ) → n < ext.extent_pages * c → 0 < c
+  some_slots : (n : ℕ) → n < shape.extent_pages * c → 0 < c
   some_slots n low = elim (cases_lt 0 c) [
     | inl some ↦ some
-    | inr none ↦ let zero_all : ext.extent_pages * c ≤ ext.extent_pages * 0 = mul-le-mul_left ext.extent_pages none in absurd (omega (arith, low, zero_all))
+    | inr none ↦ let zero_all : shape.extent_pages * c ≤ shape.extent_pages * 0 = mul-le-mul_left shape.extent_pages none in absurd (omega (arith, low, zero_all))
   ]
 
-  pub page_of_row : (placed : PlacedRow) → Contains (rows_in_block ext pages def block) placed → IsOfPage placed
+  pub page_of_row : (placed : PlacedRow) → Contains (rows_in_block shape pages def block) placed → IsOfPage placed
   page_of_row placed there =
       let in_slot = placed_in block 0 slots placed there in
       let n = placed.rid.slot in
-      let low : n < ext.extent_pages * c = omega (arith, in_slot.within, in_slot.number, length-block_slots ext pages def block) in
+      let low : n < shape.extent_pages * c = omega (arith, in_slot.within, in_slot.number, length-block_slots shape pages def block) in
       let some : 0 < c = some_slots n low in
-      let page : n / c < ext.extent_pages = div_below n c ext.extent_pages some low in
+      let page : n / c < shape.extent_pages = div_below n c shape.extent_pages some low in
       let slot : n % c < c = omega (arith, some) in
       let number : n / c * c + n % c ≡ in_slot.place = div-add-mod' n c ∙ (let same : n ≡ in_slot.place = omega (arith, in_slot.number) in same) in
       record {
@@ -135,34 +135,34 @@ module _ (ext : Extents) (pages : PageList) (def : TableDef) (block : ℕ) where
   fitting_unfit bytes fits (inr misfit) = misfit.unfit (fits.rows misfit.slot misfit.row misfit.within misfit.stands)
 
   -- all of them fit
-  pub block_fits : (n : ℕ) → ext.extent_pages ≤ n → ((j : ℕ) → j < n → IsFittingPage def (block_page ext pages block j))
-      → HoldsUnbroken (AreBlockRowsSound ext pages def block) (BreaksBlockRows ext pages def block)
+  pub block_fits : (n : ℕ) → shape.extent_pages ≤ n → ((j : ℕ) → j < n → IsFittingPage def (block_page shape pages block j))
+      → HoldsUnbroken (AreBlockRowsSound shape pages def block) (BreaksBlockRows shape pages def block)
   block_fits n all each = record {
     holds = record {
       forms = λ j low. (each j (omega (arith, low, all))).form;
-      rows = each_in (λ placed. RowFits def placed.row) (rows_in_block ext pages def block) (λ placed there.
+      rows = each_in (λ placed. RowFits def placed.row) (rows_in_block shape pages def block) (λ placed there.
           let is = page_of_row placed there in
           (each (placed.rid.slot / c) (omega (arith, is.page, all))).rows (placed.rid.slot % c) placed.row is.slot is.stands);
     };
-    unbroken = λ p b. fitting_unfit (block_page ext pages block b.place) (each b.place (omega (arith, b.within, all))) b.unfit;
+    unbroken = λ p b. fitting_unfit (block_page shape pages block b.place) (each b.place (omega (arith, b.within, all))) b.unfit;
   }
 
   -- one doesn't, and those before it do
-  pub block_breaks : (j p : ℕ) → j < ext.extent_pages → p ≡ first_page_of ext.cap ext.extent_pages block + j → ((i : ℕ) → i < j → IsFittingPage def (block_page ext pages block i))
-      → IsUnfitPage def (block_page ext pages block j) → IsLowestBreak (BreaksBlockRows ext pages def block) p
+  pub block_breaks : (j p : ℕ) → j < shape.extent_pages → p ≡ first_page_of shape.extents shape.extent_pages block + j → ((i : ℕ) → i < j → IsFittingPage def (block_page shape pages block i))
+      → IsUnfitPage def (block_page shape pages block j) → IsLowestBreak (BreaksBlockRows shape pages def block) p
   block_breaks j p low at each unfit = record {
     breaks = record { place = j; within = low; page = at; unfit = unfit };
     lowest = λ q b. elim (cases_lt b.place j) [
-      | inl before ↦ absurd (fitting_unfit (block_page ext pages block b.place) (each b.place before) b.unfit)
+      | inl before ↦ absurd (fitting_unfit (block_page shape pages block b.place) (each b.place before) b.unfit)
       | inr behind ↦ omega (arith, behind, b.page, at)
     ];
   }
 
   -- no page of a block whose rows are sound breaks it
-  pub sound_breaks_none : AreBlockRowsSound ext pages def block → (p : ℕ) → BreaksBlockRows ext pages def block p → ⊥
-  sound_breaks_none sound p b = fitting_unfit (block_page ext pages block b.place) (record { form = sound.forms b.place b.within; rows = fit }) b.unfit
+  pub sound_breaks_none : AreBlockRowsSound shape pages def block → (p : ℕ) → BreaksBlockRows shape pages def block p → ⊥
+  sound_breaks_none sound p b = fitting_unfit (block_page shape pages block b.place) (record { form = sound.forms b.place b.within; rows = fit }) b.unfit
     where
-      fit : (slot : ℕ) (row : Row) → slot < slot_count def.columns → slot_row def.columns (block_page ext pages block b.place) slot ≡ Some row → RowFits def row
+      fit : (slot : ℕ) (row : Row) → slot < slot_count def.columns → slot_row def.columns (block_page shape pages block b.place) slot ≡ Some row → RowFits def row
       fit slot row low is =
           let on = row_on_page b.place slot row b.within low is in
-          subst (RowFits def) on.row_is (each_of (λ placed. RowFits def placed.row) (rows_in_block ext pages def block) on.placed sound.rows on.there)
+          subst (RowFits def) on.row_is (each_of (λ placed. RowFits def placed.row) (rows_in_block shape pages def block) on.placed sound.rows on.there)

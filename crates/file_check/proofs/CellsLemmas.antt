@@ -4,7 +4,7 @@ use Rattle.std.proofs.lemmas.List.{get_or-map, length-map}
 use Rattle.mdc_values.specs.declared.value.Value.{Value}
 use Rattle.mdc_ast.specs.declared.definition.TableDef.{TableDef}
 use Rattle.store_api.specs.Extents.{first_page_of}
-use Rattle.extent_map.specs.declared.extents.Extents.{Extents}
+use Rattle.store_api.specs.declared.shape.Shape.{Shape}
 use Rattle.block_rows.specs.HeldRows.{placed_row}
 use Rattle.block_rows.specs.declared.hit.Hit.{Hit}
 use Rattle.table_trees.specs.RowCells.{AreOfOneCell, cell_values}
@@ -39,9 +39,9 @@ other_cell def rows i d e some low differ share =
 
 -- ---- a block, judged
 
-pub judges_shared : (ext : Extents) (pages : PageList) (def : TableDef) (block : ℕ) → IsOfOneCell ext pages def block → HoldsUnbroken (IsOfOneCell ext pages def block) (BreaksBlockCell ext pages def block)
-judges_shared ext pages def block holds = record { holds = holds; unbroken = λ p b. b.two holds }
+pub judges_shared : (shape : Shape) (pages : PageList) (def : TableDef) (block : ℕ) → IsOfOneCell shape pages def block → HoldsUnbroken (IsOfOneCell shape pages def block) (BreaksBlockCell shape pages def block)
+judges_shared shape pages def block holds = record { holds = holds; unbroken = λ p b. b.two holds }
 
-pub judges_apart : (ext : Extents) (pages : PageList) (def : TableDef) (block p : ℕ) → p ≡ first_page_of ext.cap ext.extent_pages block → (IsOfOneCell ext pages def block → ⊥)
-    → IsLowestBreak (BreaksBlockCell ext pages def block) p
-judges_apart ext pages def block p at two = record { breaks = record { page = at; two = two }; lowest = λ q b. omega (arith, at, b.page) }
+pub judges_apart : (shape : Shape) (pages : PageList) (def : TableDef) (block p : ℕ) → p ≡ first_page_of shape.extents shape.extent_pages block → (IsOfOneCell shape pages def block → ⊥)
+    → IsLowestBreak (BreaksBlockCell shape pages def block) p
+judges_apart shape pages def block p at two = record { breaks = record { page = at; two = two }; lowest = λ q b. omega (arith, at, b.page) }

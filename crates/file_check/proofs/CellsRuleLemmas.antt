@@ -2,7 +2,7 @@
 use Rattle.std.proofs.Common.{ℕ, Option, refl, sym, subst}
 use Rattle.std.specs.List.{AllByRecursion}
 use Rattle.mdc_ast.specs.Definitions.{Definitions}
-use Rattle.extent_map.specs.declared.extents.Extents.{Extents}
+use Rattle.store_api.specs.declared.shape.Shape.{Shape}
 use Rattle.block_map.specs.MapLines.{used_blocks}
 use Rattle.table_trees.specs.ToldPages.{PageList}
 use Rattle.mdc_sound.specs.BlockRules.{AreCellsSound}
@@ -17,17 +17,17 @@ use Rattle.file_check.specs.declared.table_rule.TableRule.TheVariants.{Block}
 use Rattle.file_check.proofs.JudgingLemmas.{judges_as}
 use Rattle.file_check.proofs.ShownBreaksLemmas.{shown_break, viewed_break}
 
-module _ (ext : Extents) (pages : PageList) (defs : Definitions) (view : DatabaseView) (has : ViewHasTrees ext pages defs view) where
-  breaks_rule9 : (p : ℕ) → BreaksAny (BreaksTableRule (Block Cells) ext pages) (tables_there view.places) p → BreaksRule ext pages 9 p
+module _ (shape : Shape) (pages : PageList) (defs : Definitions) (view : DatabaseView) (has : ViewHasTrees shape pages defs view) where
+  breaks_rule9 : (p : ℕ) → BreaksAny (BreaksTableRule (Block Cells) shape pages) (tables_there view.places) p → BreaksRule shape pages 9 p
   breaks_rule9 p broken =
-      let b = shown_break ext pages defs view has used_blocks (BreaksBlockCell ext pages) p broken in
-      subst (BreaksRule ext pages 9) (sym b.breaks.page) (BreaksRule.cell b.t b.def b.item b.shows b.breaks.two)
+      let b = shown_break shape pages defs view has used_blocks (BreaksBlockCell shape pages) p broken in
+      subst (BreaksRule shape pages 9) (sym b.breaks.page) (BreaksRule.cell b.t b.def b.item b.shows b.breaks.two)
 
-  rule9_breaks : (p : ℕ) → BreaksRule ext pages 9 p → BreaksAny (BreaksTableRule (Block Cells) ext pages) (tables_there view.places) p
-  rule9_breaks p (BreaksRule.cell t def block shows two) = viewed_break ext pages defs view has used_blocks (BreaksBlockCell ext pages) t def block p shows (record { page = refl; two = two })
+  rule9_breaks : (p : ℕ) → BreaksRule shape pages 9 p → BreaksAny (BreaksTableRule (Block Cells) shape pages) (tables_there view.places) p
+  rule9_breaks p (BreaksRule.cell t def block shows two) = viewed_break shape pages defs view has used_blocks (BreaksBlockCell shape pages) t def block p shows (record { page = refl; two = two })
 
   -- the tables that were judged are the rule
-  pub judges_rule9 : (found : Option ℕ) → JudgesEach (KeepsTableRule (Block Cells) ext pages) (BreaksTableRule (Block Cells) ext pages) (tables_there view.places) found → JudgesRule ext pages 9 (AreCellsSound ext pages view) found
+  pub judges_rule9 : (found : Option ℕ) → JudgesEach (KeepsTableRule (Block Cells) shape pages) (BreaksTableRule (Block Cells) shape pages) (tables_there view.places) found → JudgesRule shape pages 9 (AreCellsSound shape pages view) found
   judges_rule9 found judged =
-      judges_as {P = AllByRecursion (KeepsTableRule (Block Cells) ext pages) (tables_there view.places)} {Q = AreCellsSound ext pages view} {A = BreaksAny (BreaksTableRule (Block Cells) ext pages) (tables_there view.places)} {B = BreaksRule ext pages 9}
+      judges_as {P = AllByRecursion (KeepsTableRule (Block Cells) shape pages) (tables_there view.places)} {Q = AreCellsSound shape pages view} {A = BreaksAny (BreaksTableRule (Block Cells) shape pages) (tables_there view.places)} {B = BreaksRule shape pages 9}
       found (λ all. all) breaks_rule9 rule9_breaks judged

@@ -8,7 +8,7 @@ use Rattle.std.proofs.Math.Nat.{mod-eq_of_lt}
 use Rattle.mdc_words.specs.ByteOrder.{Entry}
 use Rattle.mdc_ast.specs.declared.definition.TableDef.{TableDef}
 use Rattle.store_api.specs.Extents.{first_page_of}
-use Rattle.extent_map.specs.declared.extents.Extents.{Extents}
+use Rattle.store_api.specs.declared.shape.Shape.{Shape}
 use Rattle.entry_tree.specs.EntryBounds.{IsEntryOf}
 use Rattle.entry_tree.specs.Forest.{Forest, leaf_entries}
 use Rattle.block_map.specs.BlockMaps.{FindsBlock, HasRow, IsMapForm}
@@ -95,17 +95,17 @@ row_rows row few = big_from-bytes 2 row.rows [] ∙ mod-eq_of_lt few
 
 -- ---- one line, judged
 
-module _ (ext : Extents) (pages : PageList) (def : TableDef) (map_tree : Forest) (row : BlockRow) (form : IsMapForm map_tree) (small : row.block < 2 ^ 32) (few : row.rows < 2 ^ 16) (found : HasRow row map_tree) where
+module _ (shape : Shape) (pages : PageList) (def : TableDef) (map_tree : Forest) (row : BlockRow) (form : IsMapForm map_tree) (small : row.block < 2 ^ 32) (few : row.rows < 2 ^ 16) (found : HasRow row map_tree) where
   at_line : (P : MapLine → Type 0) → P (map_line (row_entry row)) → (line : MapLine) → Contains (map_lines map_tree) line → line.block ≡ row.block → P line
   at_line P holds line there names = subst P (sym (one_line map_tree row form small found line there names)) holds
 
-  misses_line : IsLineMiscounted ext pages def (map_line (row_entry row)) → IsBlockMiscounted ext pages def map_tree row.block
+  misses_line : IsLineMiscounted shape pages def (map_line (row_entry row)) → IsBlockMiscounted shape pages def map_tree row.block
   misses_line wrong = record { line = map_line (row_entry row); there = row_line map_tree row form small found; names = row_block row small; miscounted = wrong }
 
   -- a block that isn't Used
-  pub judges_idle : (counted : Bool) → counted ≡ (row.rows == 0) → state_number row.state ≢ 1 → JudgesCount ext pages def map_tree row.block counted
+  pub judges_idle : (counted : Bool) → counted ≡ (row.rows == 0) → state_number row.state ≢ 1 → JudgesCount shape pages def map_tree row.block counted
   judges_idle true is idle =
-      at_line (IsLineCounted ext pages def) (record {
+      at_line (IsLineCounted shape pages def) (record {
         used = record {
           some_row = λ used. absurd (idle (sym (row_state row) ∙ used));
           counted = λ used. absurd (idle (sym (row_state row) ∙ used));
@@ -119,15 +119,15 @@ module _ (ext : Extents) (pages : PageList) (def : TableDef) (map_tree : Forest)
       some (sym (row_rows row few) ∙ none)))
 
   -- a Used block of so many rows
-  pub judges_used : (counted : Bool) (count : ℕ) → counted ≡ (nat_lt 0 row.rows && row.rows == count) → count ≡ length (rows_in_block ext pages def row.block) → state_number row.state ≡ 1
-      → JudgesCount ext pages def map_tree row.block counted
+  pub judges_used : (counted : Bool) (count : ℕ) → counted ≡ (nat_lt 0 row.rows && row.rows == count) → count ≡ length (rows_in_block shape pages def row.block) → state_number row.state ≡ 1
+      → JudgesCount shape pages def map_tree row.block counted
   judges_used true count is counts used =
       let some : 0 < row.rows = grind (arith, nat_tests, is) in
       let same : row.rows ≡ count = grind (arith, nat_tests, is) in
-      at_line (IsLineCounted ext pages def) (record {
+      at_line (IsLineCounted shape pages def) (record {
         used = record {
           some_row = λ is_used. omega (arith, some, row_rows row few);
-          counted = λ is_used. row_rows row few ∙ (same ∙ (counts ∙ ap (λ b. length (rows_in_block ext pages def b)) (sym (row_block row small))));
+          counted = λ is_used. row_rows row few ∙ (same ∙ (counts ∙ ap (λ b. length (rows_in_block shape pages def b)) (sym (row_block row small))));
         };
         idle = λ other. absurd (other (row_state row ∙ used));
       })
@@ -135,7 +135,7 @@ module _ (ext : Extents) (pages : PageList) (def : TableDef) (map_tree : Forest)
       misses_line (inl (λ sound.
       let at = row_state row ∙ used in
       let some : 0 < row.rows = omega (arith, sound.some_row at, row_rows row few) in
-      let same : row.rows ≡ count = sym (row_rows row few) ∙ (sound.counted at ∙ (ap (λ b. length (rows_in_block ext pages def b)) (row_block row small) ∙ sym counts)) in
+      let same : row.rows ≡ count = sym (row_rows row few) ∙ (sound.counted at ∙ (ap (λ b. length (rows_in_block shape pages def b)) (row_block row small) ∙ sym counts)) in
       grind (arith, nat_tests, is, some, same)))
 
 -- the state of a block that isn't Used
@@ -144,50 +144,50 @@ idle_state state (inl free) used = let number : state_number state ≡ 0 = ap st
 idle_state state (inr pending) used = let number : state_number state ≡ 2 = ap state_number pending in omega (arith, used, number)
 
 -- the same of what was found of a block
-module _ (ext : Extents) (pages : PageList) (def : TableDef) (map_tree : Forest) (block : ℕ) (answer : Option BlockRow) (row : BlockRow) (is : answer ≡ Some row) (small : block < 2 ^ 32) (finds : FindsBlock map_tree block answer) where
+module _ (shape : Shape) (pages : PageList) (def : TableDef) (map_tree : Forest) (block : ℕ) (answer : Option BlockRow) (row : BlockRow) (is : answer ≡ Some row) (small : block < 2 ^ 32) (finds : FindsBlock map_tree block answer) where
   row_found : FindsBlock map_tree block (Some row)
   row_found = subst (FindsBlock map_tree block) is finds
 
   row_small : row.block < 2 ^ 32
   row_small = subst (λ (b : ℕ). b < 2 ^ 32) (sym row_found.0) small
 
-  pub found_idle : IsMapForm map_tree → (counted : Bool) → row.rows < 2 ^ 16 → counted ≡ (row.rows == 0) → state_number row.state ≢ 1 → JudgesCount ext pages def map_tree block counted
+  pub found_idle : IsMapForm map_tree → (counted : Bool) → row.rows < 2 ^ 16 → counted ≡ (row.rows == 0) → state_number row.state ≢ 1 → JudgesCount shape pages def map_tree block counted
   found_idle form counted few right idle =
-      subst (λ (b : ℕ). JudgesCount ext pages def map_tree b counted) row_found.0 (judges_idle ext pages def map_tree row form row_small few row_found.1 counted right idle)
+      subst (λ (b : ℕ). JudgesCount shape pages def map_tree b counted) row_found.0 (judges_idle shape pages def map_tree row form row_small few row_found.1 counted right idle)
 
-  pub found_used : IsMapForm map_tree → (counted : Bool) (count : ℕ) → row.rows < 2 ^ 16 → counted ≡ (nat_lt 0 row.rows && row.rows == count) → count ≡ length (rows_in_block ext pages def block) → state_number row.state ≡ 1
-      → JudgesCount ext pages def map_tree block counted
+  pub found_used : IsMapForm map_tree → (counted : Bool) (count : ℕ) → row.rows < 2 ^ 16 → counted ≡ (nat_lt 0 row.rows && row.rows == count) → count ≡ length (rows_in_block shape pages def block) → state_number row.state ≡ 1
+      → JudgesCount shape pages def map_tree block counted
   found_used form counted count few right counts used =
-      subst (λ (b : ℕ). JudgesCount ext pages def map_tree b counted) row_found.0
-      (judges_used ext pages def map_tree row form row_small few row_found.1 counted count right (counts ∙ ap (λ b. length (rows_in_block ext pages def b)) (sym row_found.0)) used)
+      subst (λ (b : ℕ). JudgesCount shape pages def map_tree b counted) row_found.0
+      (judges_used shape pages def map_tree row form row_small few row_found.1 counted count right (counts ∙ ap (λ b. length (rows_in_block shape pages def b)) (sym row_found.0)) used)
 
   pub found_in_used : state_number row.state ≡ 1 → IsMapForm map_tree → Contains (used_blocks map_tree) block
   found_in_used used form = subst (Contains (used_blocks map_tree)) row_found.0 (row_is_used map_tree row form row_small row_found.1 used)
 
 -- ---- one block, judged
 
-pub judges_count : (ext : Extents) (pages : PageList) (def : TableDef) (map_tree : Forest) (block : ℕ) (counted : Bool) → counted ≡ true → JudgesCount ext pages def map_tree block counted
-    → Judges (IsBlockCounted ext pages def map_tree block) (BreaksBlockCount ext pages def map_tree block) None
-judges_count ext pages def map_tree block true is counted = record {
+pub judges_count : (shape : Shape) (pages : PageList) (def : TableDef) (map_tree : Forest) (block : ℕ) (counted : Bool) → counted ≡ true → JudgesCount shape pages def map_tree block counted
+    → Judges (IsBlockCounted shape pages def map_tree block) (BreaksBlockCount shape pages def map_tree block) None
+judges_count shape pages def map_tree block true is counted = record {
   holds = counted;
   unbroken = λ q b. elim b.miscounted.miscounted [
     | inl wrong ↦ wrong (counted b.miscounted.line b.miscounted.there b.miscounted.names).used
     | inr wrong ↦ wrong (counted b.miscounted.line b.miscounted.there b.miscounted.names).idle
   ];
 }
-judges_count ext pages def map_tree block false is counted = absurd cc
+judges_count shape pages def map_tree block false is counted = absurd cc
 
 -- ---- the three states are all lines
 
-module _ (ext : Extents) (pages : PageList) (def : TableDef) (map_tree : Forest) (form : IsMapForm map_tree) where
+module _ (shape : Shape) (pages : PageList) (def : TableDef) (map_tree : Forest) (form : IsMapForm map_tree) where
   abbrev AreCounted : ℕ → Type 0
-  AreCounted n = AllByRecursion (IsBlockCounted ext pages def map_tree) (blocks_of_state n map_tree)
+  AreCounted n = AllByRecursion (IsBlockCounted shape pages def map_tree) (blocks_of_state n map_tree)
 
   abbrev AnyMiscounted : ℕ → ℕ → Type 0
-  AnyMiscounted n = BreaksAny (BreaksBlockCount ext pages def map_tree) (blocks_of_state n map_tree)
+  AnyMiscounted n = BreaksAny (BreaksBlockCount shape pages def map_tree) (blocks_of_state n map_tree)
 
-  of_state : (n : ℕ) → AreCounted n → (line : MapLine) → Contains (map_lines map_tree) line → line.state ≡ n → IsLineCounted ext pages def line
-  of_state n all line there is = each_of (IsBlockCounted ext pages def map_tree) (blocks_of_state n map_tree) line.block all (block_of_line map_tree line n there is) line there refl
+  of_state : (n : ℕ) → AreCounted n → (line : MapLine) → Contains (map_lines map_tree) line → line.state ≡ n → IsLineCounted shape pages def line
+  of_state n all line there is = each_of (IsBlockCounted shape pages def map_tree) (blocks_of_state n map_tree) line.block all (block_of_line map_tree line n there is) line there refl
 
   by_state : (n : ℕ) → n ≤ 2 → (n ≡ 0) ⊎ ((n ≡ 1) ⊎ (n ≡ 2))
   by_state zero low = inl refl
@@ -198,27 +198,27 @@ module _ (ext : Extents) (pages : PageList) (def : TableDef) (map_tree : Forest)
   states : (line : MapLine) → Contains (map_lines map_tree) line → (line.state ≡ 0) ⊎ ((line.state ≡ 1) ⊎ (line.state ≡ 2))
   states line there = by_state line.state (each_of (λ (l : MapLine). l.state ≤ 2) (map_lines map_tree) line form.states there)
 
-  all_lines : AreCounted 1 × (AreCounted 0 × AreCounted 2) → AllByRecursion (IsLineCounted ext pages def) (map_lines map_tree)
-  all_lines all = each_in (IsLineCounted ext pages def) (map_lines map_tree) (λ line there. elim (states line there) [
+  all_lines : AreCounted 1 × (AreCounted 0 × AreCounted 2) → AllByRecursion (IsLineCounted shape pages def) (map_lines map_tree)
+  all_lines all = each_in (IsLineCounted shape pages def) (map_lines map_tree) (λ line there. elim (states line there) [
     | inl free ↦ of_state 0 all.1.0 line there free
     | inr (inl used) ↦ of_state 1 all.0 line there used
     | inr (inr pending) ↦ of_state 2 all.1.1 line there pending
   ])
 
-  miscounted_line : (n p : ℕ) → AnyMiscounted n p → BreaksAny (BreaksLineCount ext pages def) (map_lines map_tree) p
+  miscounted_line : (n p : ℕ) → AnyMiscounted n p → BreaksAny (BreaksLineCount shape pages def) (map_lines map_tree) p
   miscounted_line n p any =
-      let in_state = member-breaks_any (BreaksBlockCount ext pages def map_tree) (blocks_of_state n map_tree) p any in
-      let b : BreaksBlockCount ext pages def map_tree in_state.0 p = in_state.2 in
-      breaks_any-member (BreaksLineCount ext pages def) (map_lines map_tree) b.miscounted.line p b.miscounted.there
-      (record { page = b.page ∙ ap (first_page_of ext.cap ext.extent_pages) (sym b.miscounted.names); miscounted = b.miscounted.miscounted })
+      let in_state = member-breaks_any (BreaksBlockCount shape pages def map_tree) (blocks_of_state n map_tree) p any in
+      let b : BreaksBlockCount shape pages def map_tree in_state.0 p = in_state.2 in
+      breaks_any-member (BreaksLineCount shape pages def) (map_lines map_tree) b.miscounted.line p b.miscounted.there
+      (record { page = b.page ∙ ap (first_page_of shape.extents shape.extent_pages) (sym b.miscounted.names); miscounted = b.miscounted.miscounted })
 
-  line_miscounted : (p : ℕ) → BreaksAny (BreaksLineCount ext pages def) (map_lines map_tree) p → AnyMiscounted 1 p ⊎ (AnyMiscounted 0 p ⊎ AnyMiscounted 2 p)
+  line_miscounted : (p : ℕ) → BreaksAny (BreaksLineCount shape pages def) (map_lines map_tree) p → AnyMiscounted 1 p ⊎ (AnyMiscounted 0 p ⊎ AnyMiscounted 2 p)
   line_miscounted p any =
-      let in_lines = member-breaks_any (BreaksLineCount ext pages def) (map_lines map_tree) p any in
+      let in_lines = member-breaks_any (BreaksLineCount shape pages def) (map_lines map_tree) p any in
       let line = in_lines.0 in
-      let b : BreaksLineCount ext pages def line p = in_lines.2 in
+      let b : BreaksLineCount shape pages def line p = in_lines.2 in
       let in_state : (n : ℕ) → line.state ≡ n → AnyMiscounted n p = λ n is.
-      breaks_any-member (BreaksBlockCount ext pages def map_tree) (blocks_of_state n map_tree) line.block p (block_of_line map_tree line n in_lines.1 is)
+      breaks_any-member (BreaksBlockCount shape pages def map_tree) (blocks_of_state n map_tree) line.block p (block_of_line map_tree line n in_lines.1 is)
       (record { page = b.page; miscounted = record { line = line; there = in_lines.1; names = refl; miscounted = b.miscounted } }) in
       elim (states line in_lines.1) [
         | inl free ↦ inr (inl (in_state 0 free))
@@ -226,12 +226,12 @@ module _ (ext : Extents) (pages : PageList) (def : TableDef) (map_tree : Forest)
         | inr (inr pending) ↦ inr (inr (in_state 2 pending))
       ]
 
-  pub judges_lines : (used idle : Option ℕ) → JudgesEach (IsBlockCounted ext pages def map_tree) (BreaksBlockCount ext pages def map_tree) (blocks_of_state 1 map_tree) used
+  pub judges_lines : (used idle : Option ℕ) → JudgesEach (IsBlockCounted shape pages def map_tree) (BreaksBlockCount shape pages def map_tree) (blocks_of_state 1 map_tree) used
       → Judges (AreCounted 0 × AreCounted 2) (λ p. AnyMiscounted 0 p ⊎ AnyMiscounted 2 p) idle
-      → JudgesEach (IsLineCounted ext pages def) (BreaksLineCount ext pages def) (map_lines map_tree) (lower used idle)
+      → JudgesEach (IsLineCounted shape pages def) (BreaksLineCount shape pages def) (map_lines map_tree) (lower used idle)
   judges_lines used idle is_used is_idle =
-      judges_as {P = AreCounted 1 × (AreCounted 0 × AreCounted 2)} {Q = AllByRecursion (IsLineCounted ext pages def) (map_lines map_tree)} {A = λ p. AnyMiscounted 1 p ⊎ (AnyMiscounted 0 p ⊎ AnyMiscounted 2 p)}
-      {B = BreaksAny (BreaksLineCount ext pages def) (map_lines map_tree)}
+      judges_as {P = AreCounted 1 × (AreCounted 0 × AreCounted 2)} {Q = AllByRecursion (IsLineCounted shape pages def) (map_lines map_tree)} {A = λ p. AnyMiscounted 1 p ⊎ (AnyMiscounted 0 p ⊎ AnyMiscounted 2 p)}
+      {B = BreaksAny (BreaksLineCount shape pages def) (map_lines map_tree)}
       (lower used idle) all_lines (λ p any. elim any [
         | inl b ↦ miscounted_line 1 p b
         | inr (inl b) ↦ miscounted_line 0 p b

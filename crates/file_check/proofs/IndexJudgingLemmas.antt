@@ -13,8 +13,8 @@ use Rattle.store_api.specs.RunsOverPages.{RunsOverPages}
 use Rattle.store_api.specs.declared.fault.Damage.{Damage}
 use Rattle.store_api.specs.declared.fault.StoreFault.{StoreFault}
 use Rattle.store_api.specs.declared.pages.Pages.{Ghosts}
+use Rattle.store_api.specs.declared.shape.Shape.{Shape}
 use Rattle.store_api.proofs.RunsOverPagesLemmas.{runs_then, runs_wider}
-use Rattle.extent_map.specs.declared.extents.Extents.{Extents}
 use Rattle.node_page.specs.Node.{number_within}
 use Rattle.entry_tree.specs.Entries.{AreOfWidth}
 use Rattle.entry_tree.specs.Forest.{Forest}
@@ -102,23 +102,23 @@ notes_then first second entries old mid new a b = record {
     before entry (inl c) = wider entry (a.only entry c)
     before entry (inr c) = inr (Contains-append_right first second entry c)
 
-module _ (kind : IndexKind) (ext : Extents) (pages : PageList) (def : TableDef) (parts : List KeyPart) where
+module _ (kind : IndexKind) (shape : Shape) (pages : PageList) (def : TableDef) (parts : List KeyPart) where
   -- those of one block more
   pub blocks_more : (blocks : List ℕ) (i block : ℕ) → i < length blocks → get_or blocks i 0 ≡ block
-      → entries_of_blocks kind ext pages def parts (take (i + 1) blocks) ≡ entries_of_blocks kind ext pages def parts (take i blocks) ++ map (entry_of_kind kind def parts) (rows_in_block ext pages def block)
+      → entries_of_blocks kind shape pages def parts (take (i + 1) blocks) ≡ entries_of_blocks kind shape pages def parts (take i blocks) ++ map (entry_of_kind kind def parts) (rows_in_block shape pages def block)
   blocks_more blocks i block low at =
-      ap (entries_of_blocks kind ext pages def parts) (take_more blocks i 0 low ∙ ap (λ b. take i blocks ++ b ∷ []) at)
-      ∙ (ap (map (entry_of_kind kind def parts)) (sym (flat_map_more (rows_in_block ext pages def) [] (take i blocks) block))
-      ∙ map-append (entry_of_kind kind def parts) (flat_map (rows_in_block ext pages def) (take i blocks)) (rows_in_block ext pages def block))
+      ap (entries_of_blocks kind shape pages def parts) (take_more blocks i 0 low ∙ ap (λ b. take i blocks ++ b ∷ []) at)
+      ∙ (ap (map (entry_of_kind kind def parts)) (sym (flat_map_more (rows_in_block shape pages def) [] (take i blocks) block))
+      ∙ map-append (entry_of_kind kind def parts) (flat_map (rows_in_block shape pages def) (take i blocks)) (rows_in_block shape pages def block))
 
   -- an entry of a row in one of the blocks isn't there
-  pub lacks_of_blocks : (blocks : List ℕ) (block : ℕ) (entries : List Entry) → Contains blocks block → LacksOne (map (entry_of_kind kind def parts) (rows_in_block ext pages def block)) entries
-      → LacksOne (entries_of_blocks kind ext pages def parts blocks) entries
+  pub lacks_of_blocks : (blocks : List ℕ) (block : ℕ) (entries : List Entry) → Contains blocks block → LacksOne (map (entry_of_kind kind def parts) (rows_in_block shape pages def block)) entries
+      → LacksOne (entries_of_blocks kind shape pages def parts blocks) entries
   lacks_of_blocks blocks block entries there (entry, wanted, lacks) =
-      let row = from_map (entry_of_kind kind def parts) (rows_in_block ext pages def block) entry wanted in (
+      let row = from_map (entry_of_kind kind def parts) (rows_in_block shape pages def block) entry wanted in (
         entry,
-        subst (Contains (entries_of_blocks kind ext pages def parts blocks)) row.2
-            (in_map (entry_of_kind kind def parts) (flat_map (rows_in_block ext pages def) blocks) row.0 (contains_flat (rows_in_block ext pages def) blocks block row.0 there row.1)),
+        subst (Contains (entries_of_blocks kind shape pages def parts blocks)) row.2
+            (in_map (entry_of_kind kind def parts) (flat_map (rows_in_block shape pages def) blocks) row.0 (contains_flat (rows_in_block shape pages def) blocks block row.0 there row.1)),
         lacks,
       )
 
@@ -156,32 +156,32 @@ noted_as_sound wanted entries read spare old new key at notes same key_is sound 
 -- ---- damage
 
 -- A block of a list is to be read, behind calls that looked at rows and at an index.
-pub record ReadsListed {S : Type 0} (g : Ghosts S) (ext : Extents) (def : TableDef) (blocks : List ℕ) (place : TreePlace) (old now : S) (block : ℕ) : Type 0 where
+pub record ReadsListed {S : Type 0} (g : Ghosts S) (shape : Shape) (def : TableDef) (blocks : List ℕ) (place : TreePlace) (old now : S) (block : ℕ) : Type 0 where
   pub there : Contains blocks block
   pub same : (g.state now).work ≡ (g.state old).work
-  pub runs : RunsOverPages g NoPage AnyPage (UnlessReadable g ext old def blocks place) old now None
+  pub runs : RunsOverPages g NoPage AnyPage (UnlessReadable g shape old def blocks place) old now None
 
 -- it is read
-pub runs_listed : {S : Type 0} {g : Ghosts S} {ext : Extents} {def : TableDef} {blocks : List ℕ} {place : TreePlace} {old now new : S} {block : ℕ} {fault : Option StoreFault} → ReadsListed g ext def blocks place old now block
-    → RunsOverPages g NoPage AnyPage (Unless g now (λ told. BlockHasRowPages ext told def block)) now new fault → RunsOverPages g NoPage AnyPage (UnlessReadable g ext old def blocks place) old new fault
-runs_listed {ext = ext} {def = def} {block = block} is run =
+pub runs_listed : {S : Type 0} {g : Ghosts S} {shape : Shape} {def : TableDef} {blocks : List ℕ} {place : TreePlace} {old now new : S} {block : ℕ} {fault : Option StoreFault} → ReadsListed g shape def blocks place old now block
+    → RunsOverPages g NoPage AnyPage (Unless g now (λ told. BlockHasRowPages shape told def block)) now new fault → RunsOverPages g NoPage AnyPage (UnlessReadable g shape old def blocks place) old new fault
+runs_listed {shape = shape} {def = def} {block = block} is run =
     runs_then is.runs run (λ p there mine. mine) (λ p any. any)
-    (λ damage unless told readable tree has. unless (is.runs.works.steady.is_told ∙ told) (subst (λ (pages : PageList). BlockHasRowPages ext pages def block) (sym is.same) (readable block is.there).1))
+    (λ damage unless told readable tree has. unless (is.runs.works.steady.is_told ∙ told) (subst (λ (pages : PageList). BlockHasRowPages shape pages def block) (sym is.same) (readable block is.there).1))
 
 -- the index is looked at
-pub runs_in_tree : {S : Type 0} {g : Ghosts S} {old now new : S} {fault : Option StoreFault} (ext : Extents) (def : TableDef) (blocks : List ℕ) (place : TreePlace)
-    → RunsOverPages g NoPage AnyPage (UnlessReadable g ext old def blocks place) old now None → (g.state now).work ≡ (g.state old).work
-    → RunsOverPages g NoPage AnyPage (UnlessTree g now place) now new fault → RunsOverPages g NoPage AnyPage (UnlessReadable g ext old def blocks place) old new fault
-runs_in_tree ext def blocks place first same run =
+pub runs_in_tree : {S : Type 0} {g : Ghosts S} {old now new : S} {fault : Option StoreFault} (shape : Shape) (def : TableDef) (blocks : List ℕ) (place : TreePlace)
+    → RunsOverPages g NoPage AnyPage (UnlessReadable g shape old def blocks place) old now None → (g.state now).work ≡ (g.state old).work
+    → RunsOverPages g NoPage AnyPage (UnlessTree g now place) now new fault → RunsOverPages g NoPage AnyPage (UnlessReadable g shape old def blocks place) old new fault
+runs_in_tree shape def blocks place first same run =
     runs_then first run (λ p there mine. mine) (λ p any. any)
     (λ damage unless told readable tree has. unless (first.works.steady.is_told ∙ told) tree (subst (λ (pages : PageList). HasTree pages place tree) (sym same) has))
 
 -- it is read whole
-pub runs_entries : {S : Type 0} {g : Ghosts S} {old now new : S} {fault : Option StoreFault} (ext : Extents) (def : TableDef) (blocks : List ℕ) (tree : Tree)
-    → RunsOverPages g NoPage AnyPage (UnlessReadable g ext old def blocks (place_of_tree tree)) old now None → (g.state now).work ≡ (g.state old).work
-    → RunsOverPages g NoPage AnyPage (BreaksTree g now tree) now new fault → RunsOverPages g NoPage AnyPage (UnlessReadable g ext old def blocks (place_of_tree tree)) old new fault
-runs_entries {now = now} ext def blocks tree first same run =
-    runs_in_tree ext def blocks (place_of_tree tree) first same (runs_wider run (λ p there mine. mine) (λ p any. any) (λ damage b. unless_tree now now tree damage refl refl b))
+pub runs_entries : {S : Type 0} {g : Ghosts S} {old now new : S} {fault : Option StoreFault} (shape : Shape) (def : TableDef) (blocks : List ℕ) (tree : Tree)
+    → RunsOverPages g NoPage AnyPage (UnlessReadable g shape old def blocks (place_of_tree tree)) old now None → (g.state now).work ≡ (g.state old).work
+    → RunsOverPages g NoPage AnyPage (BreaksTree g now tree) now new fault → RunsOverPages g NoPage AnyPage (UnlessReadable g shape old def blocks (place_of_tree tree)) old new fault
+runs_entries {now = now} shape def blocks tree first same run =
+    runs_in_tree shape def blocks (place_of_tree tree) first same (runs_wider run (λ p there mine. mine) (λ p any. any) (λ damage b. unless_tree now now tree damage refl refl b))
 
 -- damage of a block map
 pub unless_map : {S : Type 0} (g : Ghosts S) (s : S) (tree : Tree) (damage : Damage) → BreaksMapTree g s tree AnyMap damage → UnlessMap g s (place_of_tree tree) damage
@@ -191,17 +191,17 @@ unless_map g s tree damage (inr b) told map_tree has form = b.broken map_tree (h
 -- ---- the indexes of a table
 
 -- pages tell a table's indexes of a kind
-abbrev pub TellsIndexes : IndexKind → Extents → TableDef → PageList → Type 0
-TellsIndexes kind ext def pages = (map_tree : Forest) × HasIndexes kind ext pages def map_tree
+abbrev pub TellsIndexes : IndexKind → Shape → TableDef → PageList → Type 0
+TellsIndexes kind shape def pages = (map_tree : Forest) × HasIndexes kind shape pages def map_tree
 
 -- its block map, in hand
 map_in_hand : (def : TableDef) (tree : Tree) → tree.root ≡ def.roots.map → tree.width ≡ 7 → (pages : PageList) (map_tree : Forest) → HasTree pages (map_place def) map_tree → HasTree pages (place_of_tree tree) map_tree
 map_in_hand def tree root width pages map_tree = subst (λ (place : TreePlace). HasTree pages place map_tree) (sym (same_tree_place (place_of_tree tree) (map_place def) root width))
 
-module _ {S : Type 0} {g : Ghosts S} (kind : IndexKind) (ext : Extents) (def : TableDef) {old : S} (tree : Tree) (root : tree.root ≡ def.roots.map) (width : tree.width ≡ 7) where
+module _ {S : Type 0} {g : Ghosts S} (kind : IndexKind) (shape : Shape) (def : TableDef) {old : S} (tree : Tree) (root : tree.root ≡ def.roots.map) (width : tree.width ≡ 7) where
   -- the Used blocks are listed
   pub runs_used : {Kind : ℕ → Type 0} {new : S} {fault : Option StoreFault} → RunsOverPages g NoPage Kind (BreaksMapTree g old tree AnyMap) old new fault
-      → RunsOverPages g NoPage AnyPage (Unless g old (TellsIndexes kind ext def)) old new fault
+      → RunsOverPages g NoPage AnyPage (Unless g old (TellsIndexes kind shape def)) old new fault
   runs_used run =
       runs_wider run (λ p there mine. mine) (λ p is. tt)
       (λ damage b told tells. unless_map g old tree damage b told tells.0 (map_in_hand def tree root width (g.state old).work tells.0 tells.1.map) tells.1.form)
@@ -210,13 +210,13 @@ module _ {S : Type 0} {g : Ghosts S} (kind : IndexKind) (ext : Extents) (def : T
       → IsTrue (g.state old).is_told → (map_tree : Forest) → HasTree (g.state old).work (map_place def) map_tree → used ≡ used_blocks map_tree
   used_listed used listed told map_tree has = listed map_tree (holds_told old (g.state old).work tree map_tree told refl (map_in_hand def tree root width (g.state old).work map_tree has))
 
-  module _ {now : S} (first : RunsOverPages g NoPage AnyPage (Unless g old (TellsIndexes kind ext def)) old now None) (same : (g.state now).work ≡ (g.state old).work) where
+  module _ {now : S} (first : RunsOverPages g NoPage AnyPage (Unless g old (TellsIndexes kind shape def)) old now None) (same : (g.state now).work ≡ (g.state old).work) where
     still_in_place : (map_tree : Forest) → HasTree (g.state old).work (map_place def) map_tree → HasTree (g.state now).work (place_of_tree tree) map_tree
     still_in_place map_tree has = subst (λ (pages : PageList). HasTree pages (place_of_tree tree) map_tree) (sym same) (map_in_hand def tree root width (g.state old).work map_tree has)
 
     -- and then the spare ones
     pub runs_spare : {new : S} {fault : Option StoreFault} → RunsOverPages g NoPage AnyPage (UnlessMap g now (place_of_tree tree)) now new fault
-        → RunsOverPages g NoPage AnyPage (Unless g old (TellsIndexes kind ext def)) old new fault
+        → RunsOverPages g NoPage AnyPage (Unless g old (TellsIndexes kind shape def)) old new fault
     runs_spare run =
         runs_then first run (λ p there mine. mine) (λ p is. is)
         (λ damage unless told tells. unless (first.works.steady.is_told ∙ told) tells.0 (still_in_place tells.0 tells.1.map) tells.1.form)

@@ -5,7 +5,7 @@ use Rattle.std.specs.List.{AllByRecursion, AllZip}
 use Rattle.mdc_ast.specs.declared.definition.IndexDef.{IndexDef}
 use Rattle.mdc_ast.specs.declared.definition.TableDef.{TableDef}
 use Rattle.mdc_ast.specs.Definitions.{Definitions}
-use Rattle.extent_map.specs.declared.extents.Extents.{Extents}
+use Rattle.store_api.specs.declared.shape.Shape.{Shape}
 use Rattle.key_codec.specs.Keys.{width_of_parts}
 use Rattle.node_page.specs.Node.{number_within}
 use Rattle.entry_tree.specs.Forest.{Forest, leaf_entries}
@@ -35,10 +35,10 @@ use Rattle.file_check.specs.TableIndexes.{BreaksPlace, IsPlaceSound, IsSoundTree
 
 -- ---- one index, in the words of the rules
 
-module _ (ext : Extents) (pages : PageList) (def : TableDef) (map_tree : Forest) (index : PlacedIndex) (tree : Forest) where
-  pub block_index_of : IsSoundTree Blocks ext pages def map_tree index tree → IsBlockIndexSound def (rows_in_table ext pages def map_tree) index.parts tree
+module _ (shape : Shape) (pages : PageList) (def : TableDef) (map_tree : Forest) (index : PlacedIndex) (tree : Forest) where
+  pub block_index_of : IsSoundTree Blocks shape pages def map_tree index tree → IsBlockIndexSound def (rows_in_table shape pages def map_tree) index.parts tree
   block_index_of sound =
-      let rows = rows_in_table ext pages def map_tree in
+      let rows = rows_in_table shape pages def map_tree in
       record {
         has = each_in (λ placed. Contains (leaf_entries tree) (entry_of_block def index.parts placed)) rows
             (λ placed there. sound.has (entry_of_block def index.parts placed) (in_map (entry_of_block def index.parts) rows placed there));
@@ -49,9 +49,9 @@ module _ (ext : Extents) (pages : PageList) (def : TableDef) (map_tree : Forest)
       no_spare X n (inl wanted) = wanted
       no_spare X n (inr (k, low, at)) = absurd (omega (arith, low))
 
-  pub of_block_index : IsBlockIndexSound def (rows_in_table ext pages def map_tree) index.parts tree → IsSoundTree Blocks ext pages def map_tree index tree
+  pub of_block_index : IsBlockIndexSound def (rows_in_table shape pages def map_tree) index.parts tree → IsSoundTree Blocks shape pages def map_tree index tree
   of_block_index sound =
-      let rows = rows_in_table ext pages def map_tree in
+      let rows = rows_in_table shape pages def map_tree in
       record {
         has = λ entry wanted.
             let row = from_map (entry_of_block def index.parts) rows entry wanted in
@@ -59,21 +59,21 @@ module _ (ext : Extents) (pages : PageList) (def : TableDef) (map_tree : Forest)
         only = λ entry there. inl (each_of (Contains (map (entry_of_block def index.parts) rows)) (leaf_entries tree) entry sound.only there);
       }
 
-module _ (ext : Extents) (pages : PageList) (def : TableDef) (map_tree : Forest) (index : IndexDef) (tree : Forest) where
-  pub record_index_of : IsSoundTree Rows ext pages def map_tree (record { place = record_place def index; parts = index.parts }) tree
-      → IsSoundIndex def (rows_in_table ext pages def map_tree) (pending_blocks map_tree) index tree
+module _ (shape : Shape) (pages : PageList) (def : TableDef) (map_tree : Forest) (index : IndexDef) (tree : Forest) where
+  pub record_index_of : IsSoundTree Rows shape pages def map_tree (record { place = record_place def index; parts = index.parts }) tree
+      → IsSoundIndex def (rows_in_table shape pages def map_tree) (pending_blocks map_tree) index tree
   record_index_of sound =
-      let rows = rows_in_table ext pages def map_tree in
+      let rows = rows_in_table shape pages def map_tree in
       record {
         has = each_in (λ placed. Contains (leaf_entries tree) (entry_of_row def index placed)) rows
             (λ placed there. sound.has (entry_of_row def index placed) (in_map (entry_of_row def index) rows placed there));
         only = each_in _ (leaf_entries tree) (λ entry there. sound.only entry there);
       }
 
-  pub of_record_index : IsSoundIndex def (rows_in_table ext pages def map_tree) (pending_blocks map_tree) index tree
-      → IsSoundTree Rows ext pages def map_tree (record { place = record_place def index; parts = index.parts }) tree
+  pub of_record_index : IsSoundIndex def (rows_in_table shape pages def map_tree) (pending_blocks map_tree) index tree
+      → IsSoundTree Rows shape pages def map_tree (record { place = record_place def index; parts = index.parts }) tree
   of_record_index sound =
-      let rows = rows_in_table ext pages def map_tree in
+      let rows = rows_in_table shape pages def map_tree in
       record {
         has = λ entry wanted.
             let row = from_map (entry_of_row def index) rows entry wanted in
@@ -83,17 +83,17 @@ module _ (ext : Extents) (pages : PageList) (def : TableDef) (map_tree : Forest)
 
 -- ---- all indexes of a table
 
-dimensions_of : (ext : Extents) (pages : PageList) (def : TableDef) (map_tree : Forest) (dims : List (List ℕ)) (roots : List ℕ) (trees more : List Forest) (rest : List TreePlace)
+dimensions_of : (shape : Shape) (pages : PageList) (def : TableDef) (map_tree : Forest) (dims : List (List ℕ)) (roots : List ℕ) (trees more : List Forest) (rest : List TreePlace)
     → length roots ≡ length dims → length trees ≡ length dims → AllZip (HasTree pages) (map (λ pair. dimension_place def pair.0 pair.1) (zip dims roots) ++ rest) (trees ++ more)
-    → AllByRecursion (IsPlaceSound Blocks ext pages def map_tree) (map (index_of_dimension def) (zip dims roots))
-    → AllZip (λ dim tree. IsBlockIndexSound def (rows_in_table ext pages def map_tree) (rising_parts dim) tree) dims trees
-dimensions_of ext pages def map_tree [] roots [] more rest one_each as_many stand sound = tt
-dimensions_of ext pages def map_tree [] roots (tree ∷ trees) more rest one_each as_many stand sound = absurd (omega (arith, as_many))
-dimensions_of ext pages def map_tree (dim ∷ dims) [] trees more rest one_each as_many stand sound = absurd (omega (arith, one_each))
-dimensions_of ext pages def map_tree (dim ∷ dims) (root ∷ roots) [] more rest one_each as_many stand sound = absurd (omega (arith, as_many))
-dimensions_of ext pages def map_tree (dim ∷ dims) (root ∷ roots) (tree ∷ trees) more rest one_each as_many stand sound = (
-  block_index_of ext pages def map_tree (index_of_dimension def (dim, root)) tree (sound.0 tree stand.0),
-  dimensions_of ext pages def map_tree dims roots trees more rest (omega (arith, one_each)) (omega (arith, as_many)) stand.1 sound.1,
+    → AllByRecursion (IsPlaceSound Blocks shape pages def map_tree) (map (index_of_dimension def) (zip dims roots))
+    → AllZip (λ dim tree. IsBlockIndexSound def (rows_in_table shape pages def map_tree) (rising_parts dim) tree) dims trees
+dimensions_of shape pages def map_tree [] roots [] more rest one_each as_many stand sound = tt
+dimensions_of shape pages def map_tree [] roots (tree ∷ trees) more rest one_each as_many stand sound = absurd (omega (arith, as_many))
+dimensions_of shape pages def map_tree (dim ∷ dims) [] trees more rest one_each as_many stand sound = absurd (omega (arith, one_each))
+dimensions_of shape pages def map_tree (dim ∷ dims) (root ∷ roots) [] more rest one_each as_many stand sound = absurd (omega (arith, as_many))
+dimensions_of shape pages def map_tree (dim ∷ dims) (root ∷ roots) (tree ∷ trees) more rest one_each as_many stand sound = (
+  block_index_of shape pages def map_tree (index_of_dimension def (dim, root)) tree (sound.0 tree stand.0),
+  dimensions_of shape pages def map_tree dims roots trees more rest (omega (arith, one_each)) (omega (arith, as_many)) stand.1 sound.1,
 )
 
 -- the trees behind those of the dimensions
@@ -108,15 +108,15 @@ length-dimension_places def [] roots one_each = refl
 length-dimension_places def (dim ∷ dims) [] one_each = absurd (omega (arith, one_each))
 length-dimension_places def (dim ∷ dims) (root ∷ roots) one_each = ap suc (length-dimension_places def dims roots (omega (arith, one_each)))
 
-records_of : (ext : Extents) (pages : PageList) (def : TableDef) (map_tree : Forest) (indexes : List IndexDef) (trees : List Forest) → AllZip (HasTree pages) (map (record_place def) indexes) trees
-    → AllByRecursion (IsPlaceSound Rows ext pages def map_tree) (map (λ index. record { place = record_place def index; parts = index.parts }) indexes)
-    → AllZip (IsSoundIndex def (rows_in_table ext pages def map_tree) (pending_blocks map_tree)) indexes trees
-records_of ext pages def map_tree [] [] stand sound = tt
-records_of ext pages def map_tree [] (tree ∷ trees) stand sound = absurd stand
-records_of ext pages def map_tree (index ∷ indexes) [] stand sound = absurd stand
-records_of ext pages def map_tree (index ∷ indexes) (tree ∷ trees) stand sound = (
-  record_index_of ext pages def map_tree index tree (sound.0 tree stand.0),
-  records_of ext pages def map_tree indexes trees stand.1 sound.1,
+records_of : (shape : Shape) (pages : PageList) (def : TableDef) (map_tree : Forest) (indexes : List IndexDef) (trees : List Forest) → AllZip (HasTree pages) (map (record_place def) indexes) trees
+    → AllByRecursion (IsPlaceSound Rows shape pages def map_tree) (map (λ index. record { place = record_place def index; parts = index.parts }) indexes)
+    → AllZip (IsSoundIndex def (rows_in_table shape pages def map_tree) (pending_blocks map_tree)) indexes trees
+records_of shape pages def map_tree [] [] stand sound = tt
+records_of shape pages def map_tree [] (tree ∷ trees) stand sound = absurd stand
+records_of shape pages def map_tree (index ∷ indexes) [] stand sound = absurd stand
+records_of shape pages def map_tree (index ∷ indexes) (tree ∷ trees) stand sound = (
+  record_index_of shape pages def map_tree index tree (sound.0 tree stand.0),
+  records_of shape pages def map_tree indexes trees stand.1 sound.1,
 )
 
 -- ---- places of a page that breaks a rule
@@ -139,20 +139,20 @@ at_zip (x0 ∷ xs) [] i x y e f = absurd (cc)
 at_zip (x0 ∷ xs) (y0 ∷ ys) zero x y e f = (0, omega arith, cc)
 at_zip (x0 ∷ xs) (y0 ∷ ys) (suc i) x y e f = contains_more (x, y) (x0, y0) (zip xs ys) (at_zip xs ys i x y e f)
 
-module _ (ext : Extents) (pages : PageList) (defs : Definitions) (view : DatabaseView) (known : ViewHasCells ext pages defs view) where
+module _ (shape : Shape) (pages : PageList) (defs : Definitions) (view : DatabaseView) (known : ViewHasCells shape pages defs view) where
   -- an index of a table of the view that isn't sound
   broken_index : (kind : IndexKind) (t : ℕ) (def : TableDef) (index : PlacedIndex) → t < 16 → DefinesTable pages t def → Contains (indexes_of_kind kind def) index
-      → ((map_tree tree : Forest) → HasTree pages (map_place def) map_tree → HasTree pages index.place tree → IsSoundTree kind ext pages def map_tree index tree → ⊥)
-      → BreaksAny (BreaksTableRule (Index kind) ext pages) (tables_there view.places) index.place.root
+      → ((map_tree tree : Forest) → HasTree pages (map_place def) map_tree → HasTree pages index.place tree → IsSoundTree kind shape pages def map_tree index tree → ⊥)
+      → BreaksAny (BreaksTableRule (Index kind) shape pages) (tables_there view.places) index.place.root
   broken_index kind t def index within defines there never =
-      let viewed = defined_is_viewed ext pages defs view t def known.rows.blocks.trees within defines in
+      let viewed = defined_is_viewed shape pages defs view t def known.rows.blocks.trees within defines in
       let table = viewed.table in
       let trees = there_at (λ table. AllZip (HasTree pages) (tree_places table.def) (trees_of_table table)) view.places t table viewed.stands known.rows.blocks.trees.rule4 in
-      let breaks : BreaksAny (BreaksPlace kind ext pages def table.map) (indexes_of_kind kind def) index.place.root =
-      breaks_any-member (BreaksPlace kind ext pages def table.map) (indexes_of_kind kind def) index index.place.root there
+      let breaks : BreaksAny (BreaksPlace kind shape pages def table.map) (indexes_of_kind kind def) index.place.root =
+      breaks_any-member (BreaksPlace kind shape pages def table.map) (indexes_of_kind kind def) index index.place.root there
       (refl, λ tree has sound. never table.map tree (subst (λ (d : TableDef). HasTree pages (map_place d) table.map) viewed.same trees.0) has sound) in
-      breaks_any-member (BreaksTableRule (Index kind) ext pages) (tables_there view.places) table index.place.root viewed.member
-      (subst (λ (d : TableDef). BreaksAny (BreaksPlace kind ext pages d table.map) (indexes_of_kind kind d) index.place.root) (sym viewed.same) breaks)
+      breaks_any-member (BreaksTableRule (Index kind) shape pages) (tables_there view.places) table index.place.root viewed.member
+      (subst (λ (d : TableDef). BreaksAny (BreaksPlace kind shape pages d table.map) (indexes_of_kind kind d) index.place.root) (sym viewed.same) breaks)
 
   -- of a table of the view, where its index stands
   pub record IsBrokenIndex (kind : IndexKind) (p : ℕ) : Type 0 where
@@ -163,14 +163,14 @@ module _ (ext : Extents) (pages : PageList) (defs : Definitions) (view : Databas
     pub index : PlacedIndex
     pub there : Contains (indexes_of_kind kind table.def) index
     pub page : p ≡ index.place.root
-    pub never : (map_tree tree : Forest) → HasTree pages (map_place table.def) map_tree → HasTree pages index.place tree → IsSoundTree kind ext pages table.def map_tree index tree → ⊥
+    pub never : (map_tree tree : Forest) → HasTree pages (map_place table.def) map_tree → HasTree pages index.place tree → IsSoundTree kind shape pages table.def map_tree index tree → ⊥
 
-  index_broken : (kind : IndexKind) (p : ℕ) → BreaksAny (BreaksTableRule (Index kind) ext pages) (tables_there view.places) p → IsBrokenIndex kind p
+  index_broken : (kind : IndexKind) (p : ℕ) → BreaksAny (BreaksTableRule (Index kind) shape pages) (tables_there view.places) p → IsBrokenIndex kind p
   index_broken kind p breaks =
-      let (table, member, any) = member-breaks_any (BreaksTableRule (Index kind) ext pages) (tables_there view.places) p breaks in
-      let (index, there, broken) = member-breaks_any (BreaksPlace kind ext pages table.def table.map) (indexes_of_kind kind table.def) p any in
+      let (table, member, any) = member-breaks_any (BreaksTableRule (Index kind) shape pages) (tables_there view.places) p breaks in
+      let (index, there, broken) = member-breaks_any (BreaksPlace kind shape pages table.def table.map) (indexes_of_kind kind table.def) p any in
       let (t, at) = member_is_placed view table member in
-      let defined = viewed_is_defined ext pages defs view t table known.rows.blocks.trees at in
+      let defined = viewed_is_defined shape pages defs view t table known.rows.blocks.trees at in
       let trees = there_at (λ table. AllZip (HasTree pages) (tree_places table.def) (trees_of_table table)) view.places t table at known.rows.blocks.trees.rule4 in
       record {
         t = t;
@@ -181,97 +181,97 @@ module _ (ext : Extents) (pages : PageList) (defs : Definitions) (view : Databas
         there = there;
         page = broken.0;
         never = λ map_tree tree has_map has sound.
-            broken.1 tree has (subst (λ (m : Forest). IsSoundTree kind ext pages table.def m index tree) (one_tree_at pages (map_place table.def) map_tree table.map has_map trees.0) sound);
+            broken.1 tree has (subst (λ (m : Forest). IsSoundTree kind shape pages table.def m index tree) (one_tree_at pages (map_place table.def) map_tree table.map has_map trees.0) sound);
       }
 
   -- ---- rule 10
 
-  block_indexes_sound : AllByRecursion (KeepsTableRule (Index Blocks) ext pages) (tables_there view.places) → AreBlockIndexesSound ext pages view
-  block_indexes_sound all = each_there (AreTableBlockIndexesSound ext pages) view.places (λ t table at.
-      let sound = there_at (KeepsTableRule (Index Blocks) ext pages) view.places t table at all in
+  block_indexes_sound : AllByRecursion (KeepsTableRule (Index Blocks) shape pages) (tables_there view.places) → AreBlockIndexesSound shape pages view
+  block_indexes_sound all = each_there (AreTableBlockIndexesSound shape pages) view.places (λ t table at.
+      let sound = there_at (KeepsTableRule (Index Blocks) shape pages) view.places t table at all in
       let trees = there_at (λ table. AllZip (HasTree pages) (tree_places table.def) (trees_of_table table)) view.places t table at known.rows.blocks.trees.rule4 in
       let split = there_at (λ table. length table.dims ≡ length table.def.dims) view.places t table at known.rows.blocks.trees.split in
-      let defined = viewed_is_defined ext pages defs view t table known.rows.blocks.trees at in
+      let defined = viewed_is_defined shape pages defs view t table known.rows.blocks.trees at in
       record {
-        composite = block_index_of ext pages table.def table.map (record { place = composite_place table.def; parts = cell_parts table.def }) table.composite (sound.0 table.composite trees.1.0);
-        dims = dimensions_of ext pages table.def table.map table.def.dims table.def.roots.dims table.dims table.indexes (record_places table.def) defined.defines.limits.roots.one_each split trees.1.1 sound.1;
+        composite = block_index_of shape pages table.def table.map (record { place = composite_place table.def; parts = cell_parts table.def }) table.composite (sound.0 table.composite trees.1.0);
+        dims = dimensions_of shape pages table.def table.map table.def.dims table.def.roots.dims table.dims table.indexes (record_places table.def) defined.defines.limits.roots.one_each split trees.1.1 sound.1;
       })
 
-  breaks_rule_10 : (p : ℕ) → BreaksAny (BreaksTableRule (Index Blocks) ext pages) (tables_there view.places) p → BreaksRule ext pages 10 p
+  breaks_rule_10 : (p : ℕ) → BreaksAny (BreaksTableRule (Index Blocks) shape pages) (tables_there view.places) p → BreaksRule shape pages 10 p
   breaks_rule_10 p breaks =
       let broken = index_broken Blocks p breaks in
-      subst (BreaksRule ext pages 10) (sym broken.page) (go broken (contains_cases broken.index (record { place = composite_place broken.table.def; parts = cell_parts broken.table.def })
+      subst (BreaksRule shape pages 10) (sym broken.page) (go broken (contains_cases broken.index (record { place = composite_place broken.table.def; parts = cell_parts broken.table.def })
       (map (index_of_dimension broken.table.def) (zip broken.table.def.dims broken.table.def.roots.dims)) broken.there))
     where
       dimension_broken : (broken : IsBrokenIndex Blocks p) (pair : List ℕ × ℕ) → Contains (zip broken.table.def.dims broken.table.def.roots.dims) pair → index_of_dimension broken.table.def pair ≡ broken.index
-          → BreaksRule ext pages 10 broken.index.place.root
+          → BreaksRule shape pages 10 broken.index.place.root
       dimension_broken broken pair there is =
           let def = broken.table.def in
           let (i, dim_at, root_at) = zip_at def.dims def.roots.dims pair there in
-          subst (λ (index : PlacedIndex). BreaksRule ext pages 10 index.place.root) is
+          subst (λ (index : PlacedIndex). BreaksRule shape pages 10 index.place.root) is
           (BreaksRule.dimension broken.t i pair.1 def pair.0 broken.within broken.defines dim_at root_at (λ map_tree tree has_map has sound.
           broken.never map_tree tree has_map (subst (λ (index : PlacedIndex). HasTree pages index.place tree) is has)
-          (subst (λ (index : PlacedIndex). IsSoundTree Blocks ext pages def map_tree index tree) is (of_block_index ext pages def map_tree (index_of_dimension def pair) tree sound))))
+          (subst (λ (index : PlacedIndex). IsSoundTree Blocks shape pages def map_tree index tree) is (of_block_index shape pages def map_tree (index_of_dimension def pair) tree sound))))
 
       go : (broken : IsBrokenIndex Blocks p) → (record { place = composite_place broken.table.def; parts = cell_parts broken.table.def } ≡ broken.index) ⊎ Contains (map (index_of_dimension broken.table.def) (zip broken.table.def.dims broken.table.def.roots.dims)) broken.index
-          → BreaksRule ext pages 10 broken.index.place.root
+          → BreaksRule shape pages 10 broken.index.place.root
       go broken (inl is) =
           let def = broken.table.def in
-          subst (λ (index : PlacedIndex). BreaksRule ext pages 10 index.place.root) is
+          subst (λ (index : PlacedIndex). BreaksRule shape pages 10 index.place.root) is
           (BreaksRule.composite broken.t def broken.within broken.defines (λ map_tree tree has_map has sound.
           broken.never map_tree tree has_map (subst (λ (index : PlacedIndex). HasTree pages index.place tree) is has)
-          (subst (λ (index : PlacedIndex). IsSoundTree Blocks ext pages def map_tree index tree) is
-          (of_block_index ext pages def map_tree (record { place = composite_place def; parts = cell_parts def }) tree sound))))
+          (subst (λ (index : PlacedIndex). IsSoundTree Blocks shape pages def map_tree index tree) is
+          (of_block_index shape pages def map_tree (record { place = composite_place def; parts = cell_parts def }) tree sound))))
       go broken (inr later) =
           let found = from_map (index_of_dimension broken.table.def) (zip broken.table.def.dims broken.table.def.roots.dims) broken.index later in
           dimension_broken broken found.0 found.1 found.2
 
-  rule_10_breaks : (p : ℕ) → BreaksRule ext pages 10 p → BreaksAny (BreaksTableRule (Index Blocks) ext pages) (tables_there view.places) p
+  rule_10_breaks : (p : ℕ) → BreaksRule shape pages 10 p → BreaksAny (BreaksTableRule (Index Blocks) shape pages) (tables_there view.places) p
   rule_10_breaks _ (BreaksRule.composite t def within defines never) =
       let index : PlacedIndex = record { place = composite_place def; parts = cell_parts def } in
       broken_index Blocks t def index within defines (0, omega arith, refl)
-      (λ map_tree tree has_map has sound. never map_tree tree has_map has (block_index_of ext pages def map_tree index tree sound))
+      (λ map_tree tree has_map has sound. never map_tree tree has_map has (block_index_of shape pages def map_tree index tree sound))
   rule_10_breaks _ (BreaksRule.dimension t i root def dim within defines dim_at root_at never) =
       let index = index_of_dimension def (dim, root) in
       broken_index Blocks t def index within defines
       (contains_more index (record { place = composite_place def; parts = cell_parts def }) (map (index_of_dimension def) (zip def.dims def.roots.dims))
       (in_map (index_of_dimension def) (zip def.dims def.roots.dims) (dim, root) (at_zip def.dims def.roots.dims i dim root dim_at root_at)))
-      (λ map_tree tree has_map has sound. never map_tree tree has_map has (block_index_of ext pages def map_tree index tree sound))
+      (λ map_tree tree has_map has sound. never map_tree tree has_map has (block_index_of shape pages def map_tree index tree sound))
 
-  pub judges_rule_10 : (found : Option ℕ) → JudgesEach (KeepsTableRule (Index Blocks) ext pages) (BreaksTableRule (Index Blocks) ext pages) (tables_there view.places) found → JudgesRule ext pages 10 (AreBlockIndexesSound ext pages view) found
+  pub judges_rule_10 : (found : Option ℕ) → JudgesEach (KeepsTableRule (Index Blocks) shape pages) (BreaksTableRule (Index Blocks) shape pages) (tables_there view.places) found → JudgesRule shape pages 10 (AreBlockIndexesSound shape pages view) found
   judges_rule_10 found judged =
-      judges_as {P = AllByRecursion (KeepsTableRule (Index Blocks) ext pages) (tables_there view.places)} {Q = AreBlockIndexesSound ext pages view}
-      {A = BreaksAny (BreaksTableRule (Index Blocks) ext pages) (tables_there view.places)} {B = BreaksRule ext pages 10} found block_indexes_sound breaks_rule_10 rule_10_breaks judged
+      judges_as {P = AllByRecursion (KeepsTableRule (Index Blocks) shape pages) (tables_there view.places)} {Q = AreBlockIndexesSound shape pages view}
+      {A = BreaksAny (BreaksTableRule (Index Blocks) shape pages) (tables_there view.places)} {B = BreaksRule shape pages 10} found block_indexes_sound breaks_rule_10 rule_10_breaks judged
 
   -- ---- rule 11
 
-  record_indexes_sound : AllByRecursion (KeepsTableRule (Index Rows) ext pages) (tables_there view.places) → AreSoundIndexes ext pages view
-  record_indexes_sound all = each_there (AreTableIndexesSound ext pages) view.places (λ t table at.
-      let sound = there_at (KeepsTableRule (Index Rows) ext pages) view.places t table at all in
+  record_indexes_sound : AllByRecursion (KeepsTableRule (Index Rows) shape pages) (tables_there view.places) → AreSoundIndexes shape pages view
+  record_indexes_sound all = each_there (AreTableIndexesSound shape pages) view.places (λ t table at.
+      let sound = there_at (KeepsTableRule (Index Rows) shape pages) view.places t table at all in
       let trees = there_at (λ table. AllZip (HasTree pages) (tree_places table.def) (trees_of_table table)) view.places t table at known.rows.blocks.trees.rule4 in
       let split = there_at (λ table. length table.dims ≡ length table.def.dims) view.places t table at known.rows.blocks.trees.split in
-      let defined = viewed_is_defined ext pages defs view t table known.rows.blocks.trees at in
-      records_of ext pages table.def table.map table.def.indexes table.indexes
+      let defined = viewed_is_defined shape pages defs view t table known.rows.blocks.trees at in
+      records_of shape pages table.def table.map table.def.indexes table.indexes
       (behind_dimensions pages (dimension_places table.def) (record_places table.def) table.dims table.indexes
       (split ∙ sym (length-dimension_places table.def table.def.dims table.def.roots.dims defined.defines.limits.roots.one_each)) trees.1.1) sound)
 
-  breaks_rule_11 : (p : ℕ) → BreaksAny (BreaksTableRule (Index Rows) ext pages) (tables_there view.places) p → BreaksRule ext pages 11 p
+  breaks_rule_11 : (p : ℕ) → BreaksAny (BreaksTableRule (Index Rows) shape pages) (tables_there view.places) p → BreaksRule shape pages 11 p
   breaks_rule_11 p breaks =
       let broken = index_broken Rows p breaks in
       let def = broken.table.def in
       let (index, there, is) = from_map (λ index. record { place = record_place def index; parts = index.parts }) def.indexes broken.index broken.there in
-      subst (BreaksRule ext pages 11) (sym broken.page) (subst (λ (placed : PlacedIndex). BreaksRule ext pages 11 placed.place.root) is
+      subst (BreaksRule shape pages 11) (sym broken.page) (subst (λ (placed : PlacedIndex). BreaksRule shape pages 11 placed.place.root) is
       (BreaksRule.record_index broken.t def index broken.within broken.defines there (λ map_tree tree has_map has sound.
       broken.never map_tree tree has_map (subst (λ (placed : PlacedIndex). HasTree pages placed.place tree) is has)
-      (subst (λ (placed : PlacedIndex). IsSoundTree Rows ext pages def map_tree placed tree) is (of_record_index ext pages def map_tree index tree sound)))))
+      (subst (λ (placed : PlacedIndex). IsSoundTree Rows shape pages def map_tree placed tree) is (of_record_index shape pages def map_tree index tree sound)))))
 
-  rule_11_breaks : (p : ℕ) → BreaksRule ext pages 11 p → BreaksAny (BreaksTableRule (Index Rows) ext pages) (tables_there view.places) p
+  rule_11_breaks : (p : ℕ) → BreaksRule shape pages 11 p → BreaksAny (BreaksTableRule (Index Rows) shape pages) (tables_there view.places) p
   rule_11_breaks _ (BreaksRule.record_index t def index within defines there never) =
       broken_index Rows t def (record { place = record_place def index; parts = index.parts }) within defines
       (in_map (λ index. record { place = record_place def index; parts = index.parts }) def.indexes index there)
-      (λ map_tree tree has_map has sound. never map_tree tree has_map has (record_index_of ext pages def map_tree index tree sound))
+      (λ map_tree tree has_map has sound. never map_tree tree has_map has (record_index_of shape pages def map_tree index tree sound))
 
-  pub judges_rule_11 : (found : Option ℕ) → JudgesEach (KeepsTableRule (Index Rows) ext pages) (BreaksTableRule (Index Rows) ext pages) (tables_there view.places) found → JudgesRule ext pages 11 (AreSoundIndexes ext pages view) found
+  pub judges_rule_11 : (found : Option ℕ) → JudgesEach (KeepsTableRule (Index Rows) shape pages) (BreaksTableRule (Index Rows) shape pages) (tables_there view.places) found → JudgesRule shape pages 11 (AreSoundIndexes shape pages view) found
   judges_rule_11 found judged =
-      judges_as {P = AllByRecursion (KeepsTableRule (Index Rows) ext pages) (tables_there view.places)} {Q = AreSoundIndexes ext pages view}
-      {A = BreaksAny (BreaksTableRule (Index Rows) ext pages) (tables_there view.places)} {B = BreaksRule ext pages 11} found record_indexes_sound breaks_rule_11 rule_11_breaks judged
+      judges_as {P = AllByRecursion (KeepsTableRule (Index Rows) shape pages) (tables_there view.places)} {Q = AreSoundIndexes shape pages view}
+      {A = BreaksAny (BreaksTableRule (Index Rows) shape pages) (tables_there view.places)} {B = BreaksRule shape pages 11} found record_indexes_sound breaks_rule_11 rule_11_breaks judged

@@ -6,7 +6,7 @@ use Rattle.std.proofs.lemmas.Option.{same_Some, slice_get-get_or, slice_get_with
 use Rattle.mdc_ast.specs.declared.definition.IndexDef.{IndexDef}
 use Rattle.mdc_ast.specs.declared.definition.TableDef.{TableDef}
 use Rattle.mdc_ast.specs.Definitions.{Definitions}
-use Rattle.extent_map.specs.declared.extents.Extents.{Extents}
+use Rattle.store_api.specs.declared.shape.Shape.{Shape}
 use Rattle.extent_map.specs.declared.kind.Kind.{Kind}
 use Rattle.stored_catalog.specs.StoredDefinitions.{AreWithinLimits, IsWithinLimits}
 use Rattle.table_page.proofs.TablePageLemmas.{one_definition}
@@ -44,43 +44,43 @@ pub no_place : (P : ℕ → Option TableDef → Type 0) → EachPlace P []
 no_place P u def at = absurd (cc)
 
 -- one of the first places breaks the rule by itself
-abbrev pub BreaksBefore : Extents → PageList → ℕ → ℕ → Type 0
-BreaksBefore ext pages n p = (u : ℕ) × (u < n) × BreaksTableAlone ext pages u p
+abbrev pub BreaksBefore : Shape → PageList → ℕ → ℕ → Type 0
+BreaksBefore shape pages n p = (u : ℕ) × (u < n) × BreaksTableAlone shape pages u p
 
 -- the first places were judged by themselves
-pub record JudgedSoFar (ext : Extents) (pages : PageList) (owners : List Kind) (n : ℕ) (defs : Definitions) (found : Option ℕ) : Type 0 where
+pub record JudgedSoFar (shape : Shape) (pages : PageList) (owners : List Kind) (n : ℕ) (defs : Definitions) (found : Option ℕ) : Type 0 where
   pub defines : EachPlace (IsDefinitionOf pages) defs
-  pub judged : Judges (EachPlace (IsDefinitionSound ext pages owners) defs) (BreaksBefore ext pages n) found
+  pub judged : Judges (EachPlace (IsDefinitionSound shape pages owners) defs) (BreaksBefore shape pages n) found
 
-pub none_judged : (ext : Extents) (pages : PageList) (owners : List Kind) → JudgedSoFar ext pages owners 0 [] None
-none_judged ext pages owners = record {
+pub none_judged : (shape : Shape) (pages : PageList) (owners : List Kind) → JudgedSoFar shape pages owners 0 [] None
+none_judged shape pages owners = record {
   defines = no_place (IsDefinitionOf pages);
-  judged = record { holds = no_place (IsDefinitionSound ext pages owners); unbroken = λ p broken. omega (arith, broken.1) };
+  judged = record { holds = no_place (IsDefinitionSound shape pages owners); unbroken = λ p broken. omega (arith, broken.1) };
 }
 
-pub one_more_judged : (ext : Extents) (pages : PageList) (owners : List Kind) (n : ℕ) (defs : Definitions) (found : Option ℕ) (page : JudgedPage) → length defs ≡ n
-    → JudgedSoFar ext pages owners n defs found → JudgesTablePage ext pages owners n page → JudgedSoFar ext pages owners (n + 1) (defs ++ page.def ∷ []) (lower found page.broken)
-one_more_judged ext pages owners n defs found page count so_far here = record {
+pub one_more_judged : (shape : Shape) (pages : PageList) (owners : List Kind) (n : ℕ) (defs : Definitions) (found : Option ℕ) (page : JudgedPage) → length defs ≡ n
+    → JudgedSoFar shape pages owners n defs found → JudgesTablePage shape pages owners n page → JudgedSoFar shape pages owners (n + 1) (defs ++ page.def ∷ []) (lower found page.broken)
+one_more_judged shape pages owners n defs found page count so_far here = record {
   defines = each_place_more (IsDefinitionOf pages) defs n page.def count so_far.defines here.defines;
-  judged = judges_as {P = EachPlace (IsDefinitionSound ext pages owners) defs × IsDefinitionSound ext pages owners n page.def} {Q = EachPlace (IsDefinitionSound ext pages owners) (defs ++ page.def ∷ [])}
-      {A = λ p. BreaksBefore ext pages n p ⊎ BreaksTableAlone ext pages n p} {B = BreaksBefore ext pages (n + 1)}
-      (lower found page.broken) (λ both. each_place_more (IsDefinitionSound ext pages owners) defs n page.def count both.0 both.1) there back
-      (judges_both (EachPlace (IsDefinitionSound ext pages owners) defs) (IsDefinitionSound ext pages owners n page.def) (BreaksBefore ext pages n) (BreaksTableAlone ext pages n) found page.broken so_far.judged here.judged);
+  judged = judges_as {P = EachPlace (IsDefinitionSound shape pages owners) defs × IsDefinitionSound shape pages owners n page.def} {Q = EachPlace (IsDefinitionSound shape pages owners) (defs ++ page.def ∷ [])}
+      {A = λ p. BreaksBefore shape pages n p ⊎ BreaksTableAlone shape pages n p} {B = BreaksBefore shape pages (n + 1)}
+      (lower found page.broken) (λ both. each_place_more (IsDefinitionSound shape pages owners) defs n page.def count both.0 both.1) there back
+      (judges_both (EachPlace (IsDefinitionSound shape pages owners) defs) (IsDefinitionSound shape pages owners n page.def) (BreaksBefore shape pages n) (BreaksTableAlone shape pages n) found page.broken so_far.judged here.judged);
 }
   where
-    there : (p : ℕ) → BreaksBefore ext pages n p ⊎ BreaksTableAlone ext pages n p → BreaksBefore ext pages (n + 1) p
+    there : (p : ℕ) → BreaksBefore shape pages n p ⊎ BreaksTableAlone shape pages n p → BreaksBefore shape pages (n + 1) p
     there p (inl before) = (before.0, omega (arith, before.1), before.2)
     there p (inr last) = (n, omega arith, last)
 
-    back : (p : ℕ) → BreaksBefore ext pages (n + 1) p → BreaksBefore ext pages n p ⊎ BreaksTableAlone ext pages n p
+    back : (p : ℕ) → BreaksBefore shape pages (n + 1) p → BreaksBefore shape pages n p ⊎ BreaksTableAlone shape pages n p
     back p (u, low, breaks) = elim (cases_eq u n) [
-      | inl same ↦ inr (subst (λ (v : ℕ). BreaksTableAlone ext pages v p) same breaks)
+      | inl same ↦ inr (subst (λ (v : ℕ). BreaksTableAlone shape pages v p) same breaks)
       | inr apart ↦ inl (u, omega (arith, low, apart), breaks)
     ]
 
 -- ---- all of them
 
-module _ (ext : Extents) (pages : PageList) (owners : List Kind) (defs : Definitions) (count : length defs ≡ 16) (defines : EachPlace (IsDefinitionOf pages) defs) where
+module _ (shape : Shape) (pages : PageList) (owners : List Kind) (defs : Definitions) (count : length defs ≡ 16) (defines : EachPlace (IsDefinitionOf pages) defs) where
   -- a table that a page defines stands in its place
   stands : (t : ℕ) (a : TableDef) → t < 16 → DefinesTable pages t a → slice_get defs t ≡ Some (Some a)
   stands t a few is = go (slice_get defs t) refl
@@ -97,16 +97,16 @@ module _ (ext : Extents) (pages : PageList) (owners : List Kind) (defs : Definit
       go (Some def) at = it_is def at (defines t def at)
 
   abbrev Parts : ℕ → Type 0
-  Parts p = BreaksBefore ext pages 16 p ⊎ SharesOnPage 1 defs p
+  Parts p = BreaksBefore shape pages 16 p ⊎ SharesOnPage 1 defs p
 
-  wrong_root_breaks : (u p : ℕ) → u < 16 → p ≡ 1 + u → HasWrongRoot ext pages u → BreaksRule ext pages 3 p
-  wrong_root_breaks u p low at wrong = subst (BreaksRule ext pages 3) (sym at) (elim wrong.wrong [
+  wrong_root_breaks : (u p : ℕ) → u < 16 → p ≡ 1 + u → HasWrongRoot shape pages u → BreaksRule shape pages 3 p
+  wrong_root_breaks u p low at wrong = subst (BreaksRule shape pages 3) (sym at) (elim wrong.wrong [
     | inl outside ↦ BreaksRule.root_outside u wrong.def wrong.place low wrong.defines wrong.is_its outside
     | inr other ↦ BreaksRule.root_no_index u wrong.def wrong.place other.0 low wrong.defines wrong.is_its other.1 other.2
   ])
 
-  shared_breaks : (p : ℕ) → SharesOnPage 1 defs p → BreaksRule ext pages 3 p
-  shared_breaks p s = subst (BreaksRule ext pages 3) (sym s.page) (elim (share_names-says s.a s.b s.shared) [
+  shared_breaks : (p : ℕ) → SharesOnPage 1 defs p → BreaksRule shape pages 3 p
+  shared_breaks p s = subst (BreaksRule shape pages 3) (sym s.page) (elim (share_names-says s.a s.b s.shared) [
     | inl same ↦ BreaksRule.table_name s.t s.u s.a s.b s.later high first second same
     | inr (i, j, ours, theirs, same) ↦
         BreaksRule.index_name s.t s.u i j s.later (record { within = low; def = s.a; defines = first; is_its = ours }) (record { within = high; def = s.b; defines = second; is_its = theirs }) same
@@ -124,8 +124,8 @@ module _ (ext : Extents) (pages : PageList) (owners : List Kind) (defs : Definit
       second : DefinesTable pages s.u s.b
       second = defines s.u (Some s.b) s.higher
 
-  parts_break : (p : ℕ) → Parts p → BreaksRule ext pages 3 p
-  parts_break p (inl (u, low, (at, inl formless))) = subst (BreaksRule ext pages 3) (sym at) (BreaksRule.table u low formless.0 formless.1)
+  parts_break : (p : ℕ) → Parts p → BreaksRule shape pages 3 p
+  parts_break p (inl (u, low, (at, inl formless))) = subst (BreaksRule shape pages 3) (sym at) (BreaksRule.table u low formless.0 formless.1)
   parts_break p (inl (u, low, (at, inr wrong))) = wrong_root_breaks u p low at wrong
   parts_break p (inr shares) = shared_breaks p shares
 
@@ -142,7 +142,7 @@ module _ (ext : Extents) (pages : PageList) (owners : List Kind) (defs : Definit
     shared = says-share_names a b shared;
   }
 
-  break_parts : (rule p : ℕ) → BreaksRule ext pages rule p → rule ≡ 3 → Parts p
+  break_parts : (rule p : ℕ) → BreaksRule shape pages rule p → rule ≡ 3 → Parts p
   break_parts rule p (BreaksRule.table t low blank none) is = inl (t, low, (refl, inl (blank, none)))
   break_parts rule p (BreaksRule.root_outside t def place low defined there outside) is =
       inl (t, low, (refl, inr (record { def = def; defines = defined; place = place; is_its = there; wrong = inl outside })))
@@ -154,9 +154,9 @@ module _ (ext : Extents) (pages : PageList) (owners : List Kind) (defs : Definit
   break_parts rule p other is = absurd (omega (arith, is))
 
   -- where each is sound and none share a name, all are
-  parts_hold : EachPlace (IsDefinitionSound ext pages owners) defs → NoneShare defs → AreDefinitionsSound ext pages owners defs
+  parts_hold : EachPlace (IsDefinitionSound shape pages owners) defs → NoneShare defs → AreDefinitionsSound shape pages owners defs
   parts_hold each none = record {
-    each = range_each (IsDefinitionSound ext pages owners) 0 16 defs count (λ i def at. let same : i ≡ 0 + i = omega arith in subst (λ (u : ℕ). IsDefinitionSound ext pages owners u def) same (each i def at));
+    each = range_each (IsDefinitionSound shape pages owners) 0 16 defs count (λ i def at. let same : i ≡ 0 + i = omega arith in subst (λ (u : ℕ). IsDefinitionSound shape pages owners u def) same (each i def at));
     tables_differ = pairs_there (λ a b. a.name ≢ b.name) defs (λ t u a b low at other same. differ t u a b low at other (inl same));
     indexes_differ = pairs_of_lists (λ (i j : IndexDef). i.name ≢ j.name) (λ (def : TableDef). def.indexes) (defs_there defs)
         (λ def there. let at = there_at defs def there in index_names_differ def.indexes (each at.0 (Some def) at.1).0.limits.indexes.differ)
@@ -169,21 +169,21 @@ module _ (ext : Extents) (pages : PageList) (owners : List Kind) (defs : Definit
           let never : share_names a b ≡ false = none t u a b low at other in
           let always : share_names a b ≡ true = says-share_names a b shared in cc
 
-  pub all_judged : (found shared : Option ℕ) → Judges (EachPlace (IsDefinitionSound ext pages owners) defs) (BreaksBefore ext pages 16) found → Judges (NoneShare defs) (SharesOnPage 1 defs) shared
-      → Judges (AreDefinitionsSound ext pages owners defs) (BreaksRule ext pages 3) (lower found shared)
+  pub all_judged : (found shared : Option ℕ) → Judges (EachPlace (IsDefinitionSound shape pages owners) defs) (BreaksBefore shape pages 16) found → Judges (NoneShare defs) (SharesOnPage 1 defs) shared
+      → Judges (AreDefinitionsSound shape pages owners defs) (BreaksRule shape pages 3) (lower found shared)
   all_judged found shared alone names =
-      judges_as {P = EachPlace (IsDefinitionSound ext pages owners) defs × NoneShare defs} {Q = AreDefinitionsSound ext pages owners defs} {A = Parts} {B = BreaksRule ext pages 3} (lower found shared)
+      judges_as {P = EachPlace (IsDefinitionSound shape pages owners) defs × NoneShare defs} {Q = AreDefinitionsSound shape pages owners defs} {A = Parts} {B = BreaksRule shape pages 3} (lower found shared)
       (λ both. parts_hold both.0 both.1) parts_break (λ p broken. break_parts 3 p broken refl)
-      (judges_both (EachPlace (IsDefinitionSound ext pages owners) defs) (NoneShare defs) (BreaksBefore ext pages 16) (SharesOnPage 1 defs) found shared alone names)
+      (judges_both (EachPlace (IsDefinitionSound shape pages owners) defs) (NoneShare defs) (BreaksBefore shape pages 16) (SharesOnPage 1 defs) found shared alone names)
 
 -- the lowest of what was found breaks the rule
-pub table_pages_judged : (ext : Extents) (pages : PageList) (owners : List Kind) (n : ℕ) (defs given : Definitions) (found shared lowered answer : Option ℕ) → n ≡ 16 → length defs ≡ n
-    → JudgedSoFar ext pages owners n defs found → given ≡ defs → shared ≡ first_shared 1 given → lowered ≡ lower found shared → lowered ≡ answer
-    → Judges (AreDefinitionsSound ext pages owners defs) (BreaksRule ext pages 3) answer
-table_pages_judged ext pages owners n defs given found shared lowered answer all count so_far same names low is =
-    subst (Judges (AreDefinitionsSound ext pages owners defs) (BreaksRule ext pages 3)) (sym low ∙ is)
-    (all_judged ext pages owners defs (count ∙ all) so_far.defines found shared
-    (subst (λ (m : ℕ). Judges (EachPlace (IsDefinitionSound ext pages owners) defs) (BreaksBefore ext pages m) found) all so_far.judged)
+pub table_pages_judged : (shape : Shape) (pages : PageList) (owners : List Kind) (n : ℕ) (defs given : Definitions) (found shared lowered answer : Option ℕ) → n ≡ 16 → length defs ≡ n
+    → JudgedSoFar shape pages owners n defs found → given ≡ defs → shared ≡ first_shared 1 given → lowered ≡ lower found shared → lowered ≡ answer
+    → Judges (AreDefinitionsSound shape pages owners defs) (BreaksRule shape pages 3) answer
+table_pages_judged shape pages owners n defs given found shared lowered answer all count so_far same names low is =
+    subst (Judges (AreDefinitionsSound shape pages owners defs) (BreaksRule shape pages 3)) (sym low ∙ is)
+    (all_judged shape pages owners defs (count ∙ all) so_far.defines found shared
+    (subst (λ (m : ℕ). Judges (EachPlace (IsDefinitionSound shape pages owners) defs) (BreaksBefore shape pages m) found) all so_far.judged)
     (subst (Judges (NoneShare defs) (SharesOnPage 1 defs)) (sym (names ∙ ap (first_shared 1) same)) (first_shared-judges 1 defs)))
 
 -- the limits of each place are those of all

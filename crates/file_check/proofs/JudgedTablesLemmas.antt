@@ -7,8 +7,8 @@ use Rattle.store_api.specs.Frame.{NoPage}
 use Rattle.store_api.specs.RunsOverPages.{RunsOverPages}
 use Rattle.store_api.specs.declared.fault.StoreFault.{StoreFault}
 use Rattle.store_api.specs.declared.pages.Pages.{Ghosts}
+use Rattle.store_api.specs.declared.shape.Shape.{Shape}
 use Rattle.store_api.proofs.RunsOverPagesLemmas.{runs_wider}
-use Rattle.extent_map.specs.declared.extents.Extents.{Extents}
 use Rattle.entry_tree.specs.Forest.{Forest}
 use Rattle.block_map.specs.MapLines.{used_blocks}
 use Rattle.table_trees.specs.ToldPages.{PageList}
@@ -59,99 +59,99 @@ lower_found Keys x y low a b c d e f = f
 
 -- ---- what is known of a table
 
-module _ {ext : Extents} {pages : PageList} {def : TableDef} {map_tree : Forest} (known : TableHasRows ext pages def map_tree) where
+module _ {shape : Shape} {pages : PageList} {def : TableDef} {map_tree : Forest} (known : TableHasRows shape pages def map_tree) where
   -- its rows are told
-  pub rows_told : HasTableRows ext pages def map_tree
+  pub rows_told : HasTableRows shape pages def map_tree
   rows_told = record { map = known.trees.map; rows = known.rows }
 
   -- so are its indexes of a kind
-  pub indexes_told : (kind : IndexKind) → HasIndexes kind ext pages def map_tree
+  pub indexes_told : (kind : IndexKind) → HasIndexes kind shape pages def map_tree
   indexes_told kind = record {
     map = known.trees.map.tree;
     form = known.trees.map.form;
-    used = λ block there. (block_within ext.cap 1 map_tree block known.trees.map.within there, (known.rows block there).forms);
+    used = λ block there. (block_within shape.extents 1 map_tree block known.trees.map.within there, (known.rows block there).forms);
     trees = known.trees.indexes kind;
   }
 
 -- ---- blocks
 
-module _ (ext : Extents) (pages : PageList) (def : TableDef) (map_tree : Forest) where
+module _ (shape : Shape) (pages : PageList) (def : TableDef) (map_tree : Forest) where
   -- none was judged yet
-  pub none_judged : (found : UsedRows) → found.counts ≡ None → found.cells ≡ None → found.entries ≡ None → found.numbers.items ≡ [] → JudgesUsed ext pages def map_tree [] found
+  pub none_judged : (found : UsedRows) → found.counts ≡ None → found.cells ≡ None → found.entries ≡ None → found.numbers.items ≡ [] → JudgesUsed shape pages def map_tree [] found
   none_judged found counts cells entries numbers = record {
-    counts = subst (JudgesEach (IsBlockCounted ext pages def map_tree) (BreaksBlockCount ext pages def map_tree) []) (sym counts) (judges_nothing (IsBlockCounted ext pages def map_tree) (BreaksBlockCount ext pages def map_tree));
-    cells = subst (JudgesEach (IsOfOneCell ext pages def) (BreaksBlockCell ext pages def) []) (sym cells) (judges_nothing (IsOfOneCell ext pages def) (BreaksBlockCell ext pages def));
-    entries = subst (JudgesEach (IsBlockEntered ext pages def) (LacksBlock ext pages def) []) (sym entries) (judges_nothing (IsBlockEntered ext pages def) (LacksBlock ext pages def));
+    counts = subst (JudgesEach (IsBlockCounted shape pages def map_tree) (BreaksBlockCount shape pages def map_tree) []) (sym counts) (judges_nothing (IsBlockCounted shape pages def map_tree) (BreaksBlockCount shape pages def map_tree));
+    cells = subst (JudgesEach (IsOfOneCell shape pages def) (BreaksBlockCell shape pages def) []) (sym cells) (judges_nothing (IsOfOneCell shape pages def) (BreaksBlockCell shape pages def));
+    entries = subst (JudgesEach (IsBlockEntered shape pages def) (LacksBlock shape pages def) []) (sym entries) (judges_nothing (IsBlockEntered shape pages def) (LacksBlock shape pages def));
     numbers = numbers;
   }
 
   -- one more was
-  pub one_more_judged : (block : ℕ) (done : List ℕ) (old new : UsedRows) (counts cells entries : Option ℕ) (rows : List PlacedRow) → rows ≡ rows_in_block ext pages def block
+  pub one_more_judged : (block : ℕ) (done : List ℕ) (old new : UsedRows) (counts cells entries : Option ℕ) (rows : List PlacedRow) → rows ≡ rows_in_block shape pages def block
       → new.counts ≡ lower old.counts counts → new.cells ≡ lower old.cells cells → new.entries ≡ lower old.entries entries
       → ((before : List PlacedRow) → AreNumbersOf old.numbers.items before → AreNumbersOf new.numbers.items (before ++ rows))
-      → Judges (IsBlockCounted ext pages def map_tree block) (BreaksBlockCount ext pages def map_tree block) counts
-      → Judges (IsOfOneCell ext pages def block) (BreaksBlockCell ext pages def block) cells
+      → Judges (IsBlockCounted shape pages def map_tree block) (BreaksBlockCount shape pages def map_tree block) counts
+      → Judges (IsOfOneCell shape pages def block) (BreaksBlockCell shape pages def block) cells
       → Judges (IsFirstEntered pages def rows) (LacksFirst pages def rows) entries
-      → JudgesUsed ext pages def map_tree done old → JudgesUsed ext pages def map_tree (done ++ block ∷ []) new
+      → JudgesUsed shape pages def map_tree done old → JudgesUsed shape pages def map_tree (done ++ block ∷ []) new
   one_more_judged block done old new counts cells entries rows are lower_counts lower_cells lower_entries pushed count cell entered before = record {
-    counts = subst (JudgesEach (IsBlockCounted ext pages def map_tree) (BreaksBlockCount ext pages def map_tree) (done ++ block ∷ [])) (sym lower_counts)
-        (judges_next (IsBlockCounted ext pages def map_tree) (BreaksBlockCount ext pages def map_tree) done block old.counts counts before.counts count);
-    cells = subst (JudgesEach (IsOfOneCell ext pages def) (BreaksBlockCell ext pages def) (done ++ block ∷ [])) (sym lower_cells)
-        (judges_next (IsOfOneCell ext pages def) (BreaksBlockCell ext pages def) done block old.cells cells before.cells cell);
-    entries = subst (JudgesEach (IsBlockEntered ext pages def) (LacksBlock ext pages def) (done ++ block ∷ [])) (sym lower_entries)
-        (judges_next (IsBlockEntered ext pages def) (LacksBlock ext pages def) done block old.entries entries before.entries
+    counts = subst (JudgesEach (IsBlockCounted shape pages def map_tree) (BreaksBlockCount shape pages def map_tree) (done ++ block ∷ [])) (sym lower_counts)
+        (judges_next (IsBlockCounted shape pages def map_tree) (BreaksBlockCount shape pages def map_tree) done block old.counts counts before.counts count);
+    cells = subst (JudgesEach (IsOfOneCell shape pages def) (BreaksBlockCell shape pages def) (done ++ block ∷ [])) (sym lower_cells)
+        (judges_next (IsOfOneCell shape pages def) (BreaksBlockCell shape pages def) done block old.cells cells before.cells cell);
+    entries = subst (JudgesEach (IsBlockEntered shape pages def) (LacksBlock shape pages def) (done ++ block ∷ [])) (sym lower_entries)
+        (judges_next (IsBlockEntered shape pages def) (LacksBlock shape pages def) done block old.entries entries before.entries
         (subst (λ (placed : List PlacedRow). Judges (IsFirstEntered pages def placed) (LacksFirst pages def placed) entries) are entered));
-    numbers = subst (AreNumbersOf new.numbers.items) (ap (λ placed. flat_map (rows_in_block ext pages def) done ++ placed) are ∙ flat_map_more (rows_in_block ext pages def) [] done block)
-        (pushed (flat_map (rows_in_block ext pages def) done) before.numbers);
+    numbers = subst (AreNumbersOf new.numbers.items) (ap (λ placed. flat_map (rows_in_block shape pages def) done ++ placed) are ∙ flat_map_more (rows_in_block shape pages def) [] done block)
+        (pushed (flat_map (rows_in_block shape pages def) done) before.numbers);
   }
 
   -- so were all
-  pub all_judged : (items : List ℕ) (i : ℕ) (found : UsedRows) → items ≡ used_blocks map_tree → length items ≤ i → found.blocks ≡ length items → JudgesUsed ext pages def map_tree (take i items) found
-      → JudgesAllUsed ext pages def map_tree found
+  pub all_judged : (items : List ℕ) (i : ℕ) (found : UsedRows) → items ≡ used_blocks map_tree → length items ≤ i → found.blocks ≡ length items → JudgesUsed shape pages def map_tree (take i items) found
+      → JudgesAllUsed shape pages def map_tree found
   all_judged items i found are past count judged = record {
-    judged = subst (λ (blocks : List ℕ). JudgesUsed ext pages def map_tree blocks found) (take_all i items past ∙ are) judged;
+    judged = subst (λ (blocks : List ℕ). JudgesUsed shape pages def map_tree blocks found) (take_all i items past ∙ are) judged;
     count = count ∙ ap length are;
   }
 
 -- one more was, of later pages that are the same
-pub next_judged : (ext : Extents) (pages later : PageList) (def : TableDef) (map_tree : Forest) (items : List ℕ) (i : ℕ) (old new : UsedRows) → later ≡ pages → i < length items
-    → (TableHasRows ext later def map_tree → JudgesUsed ext later def map_tree (take i items) old → JudgesUsed ext later def map_tree (take i items ++ get_or items i 0 ∷ []) new)
-    → TableHasRows ext pages def map_tree → JudgesUsed ext pages def map_tree (take i items) old → JudgesUsed ext pages def map_tree (take (i + 1) items) new
-next_judged ext pages later def map_tree items i old new same low step known before =
-    subst (λ (blocks : List ℕ). JudgesUsed ext pages def map_tree blocks new) (sym (take_more items i 0 low))
-    (subst (λ (told : PageList). TableHasRows ext told def map_tree → JudgesUsed ext told def map_tree (take i items) old → JudgesUsed ext told def map_tree (take i items ++ get_or items i 0 ∷ []) new) same step known before)
+pub next_judged : (shape : Shape) (pages later : PageList) (def : TableDef) (map_tree : Forest) (items : List ℕ) (i : ℕ) (old new : UsedRows) → later ≡ pages → i < length items
+    → (TableHasRows shape later def map_tree → JudgesUsed shape later def map_tree (take i items) old → JudgesUsed shape later def map_tree (take i items ++ get_or items i 0 ∷ []) new)
+    → TableHasRows shape pages def map_tree → JudgesUsed shape pages def map_tree (take i items) old → JudgesUsed shape pages def map_tree (take (i + 1) items) new
+next_judged shape pages later def map_tree items i old new same low step known before =
+    subst (λ (blocks : List ℕ). JudgesUsed shape pages def map_tree blocks new) (sym (take_more items i 0 low))
+    (subst (λ (told : PageList). TableHasRows shape told def map_tree → JudgesUsed shape told def map_tree (take i items) old → JudgesUsed shape told def map_tree (take i items ++ get_or items i 0 ∷ []) new) same step known before)
 
 -- ---- damage
 
 -- a Used block of a table with rows is known
-abbrev pub KnowsBlock : Extents → TableDef → ℕ → PageList → Type 0
-KnowsBlock ext def block pages = (map_tree : Forest) × TableHasRows ext pages def map_tree × Contains (used_blocks map_tree) block
+abbrev pub KnowsBlock : Shape → TableDef → ℕ → PageList → Type 0
+KnowsBlock shape def block pages = (map_tree : Forest) × TableHasRows shape pages def map_tree × Contains (used_blocks map_tree) block
 
 -- the Used blocks are listed
-pub runs_listing_used : {S : Type 0} {g : Ghosts S} {old new : S} {fault : Option StoreFault} (ext : Extents) (def : TableDef) → RunsOverPages g NoPage AnyPage (Unless g old (TellsMap ext def)) old new fault
-    → RunsOverPages g NoPage AnyPage (Unless g old (TellsTable ext def)) old new fault
-runs_listing_used ext def run = runs_wider run (λ p there mine. mine) (λ p is. is) (λ damage unless told tells. unless told (tells.0, tells.1.trees.map))
+pub runs_listing_used : {S : Type 0} {g : Ghosts S} {old new : S} {fault : Option StoreFault} (shape : Shape) (def : TableDef) → RunsOverPages g NoPage AnyPage (Unless g old (TellsMap shape def)) old new fault
+    → RunsOverPages g NoPage AnyPage (Unless g old (TellsTable shape def)) old new fault
+runs_listing_used shape def run = runs_wider run (λ p there mine. mine) (λ p is. is) (λ damage unless told tells. unless told (tells.0, tells.1.trees.map))
 
 -- ---- by rule
 
-module _ {ext : Extents} {pages : PageList} {def : TableDef} {map_tree : Forest} where
+module _ {shape : Shape} {pages : PageList} {def : TableDef} {map_tree : Forest} where
   -- row pages that were judged to be sound
-  pub rows_kept : (row_pages : Option ℕ) → row_pages ≡ None → JudgesEach (AreBlockRowsSound ext pages def) (BreaksBlockRows ext pages def) (used_blocks map_tree) row_pages → TableHasTrees ext pages def map_tree → TableHasRows ext pages def map_tree
-  rows_kept None is judged trees = record { trees = trees; rows = λ block there. each_of (AreBlockRowsSound ext pages def) (used_blocks map_tree) block judged.holds there }
+  pub rows_kept : (row_pages : Option ℕ) → row_pages ≡ None → JudgesEach (AreBlockRowsSound shape pages def) (BreaksBlockRows shape pages def) (used_blocks map_tree) row_pages → TableHasTrees shape pages def map_tree → TableHasRows shape pages def map_tree
+  rows_kept None is judged trees = record { trees = trees; rows = λ block there. each_of (AreBlockRowsSound shape pages def) (used_blocks map_tree) block judged.holds there }
   rows_kept (Some page) is judged trees = absurd (cc)
 
   -- and ones that weren't
-  rows_broken : (page : ℕ) → JudgesEach (AreBlockRowsSound ext pages def) (BreaksBlockRows ext pages def) (used_blocks map_tree) (Some page) → TableHasRows ext pages def map_tree → ⊥
+  rows_broken : (page : ℕ) → JudgesEach (AreBlockRowsSound shape pages def) (BreaksBlockRows shape pages def) (used_blocks map_tree) (Some page) → TableHasRows shape pages def map_tree → ⊥
   rows_broken page judged known =
-      let block = member-breaks_any (BreaksBlockRows ext pages def) (used_blocks map_tree) page judged.breaks in
-      sound_breaks_none ext pages def block.0 (known.rows block.0 block.1) page block.2
+      let block = member-breaks_any (BreaksBlockRows shape pages def) (used_blocks map_tree) page judged.breaks in
+      sound_breaks_none shape pages def block.0 (known.rows block.0 block.1) page block.2
 
   -- each rule is judged where the row pages are broken
   pub judged_broken : (rule : TableRule) (found : Findings) (row_pages : Option ℕ) (page : ℕ) → row_pages ≡ Some page → found.row_pages ≡ Some page
-      → (TableHasTrees ext pages def map_tree → JudgesEach (AreBlockRowsSound ext pages def) (BreaksBlockRows ext pages def) (used_blocks map_tree) row_pages) → TableKnownFor rule ext pages def map_tree
-      → Judges (TableKeeps rule ext pages def map_tree) (TableBreaks rule ext pages def map_tree) (found_of rule found)
+      → (TableHasTrees shape pages def map_tree → JudgesEach (AreBlockRowsSound shape pages def) (BreaksBlockRows shape pages def) (used_blocks map_tree) row_pages) → TableKnownFor rule shape pages def map_tree
+      → Judges (TableKeeps rule shape pages def map_tree) (TableBreaks rule shape pages def map_tree) (found_of rule found)
   judged_broken rule found None page is here judged known = absurd (cc)
-  judged_broken (Block RowPages) found (Some other) page is here judged known = subst (JudgesEach (AreBlockRowsSound ext pages def) (BreaksBlockRows ext pages def) (used_blocks map_tree)) (is ∙ sym here) (judged known)
+  judged_broken (Block RowPages) found (Some other) page is here judged known = subst (JudgesEach (AreBlockRowsSound shape pages def) (BreaksBlockRows shape pages def) (used_blocks map_tree)) (is ∙ sym here) (judged known)
   judged_broken (Block Counts) found (Some other) page is here judged known = absurd (rows_broken other (judged known.trees) known)
   judged_broken (Block Cells) found (Some other) page is here judged known = absurd (rows_broken other (judged known.trees) known)
   judged_broken (Index kind) found (Some other) page is here judged known = absurd (rows_broken other (judged known.rows.trees) known.rows)
@@ -159,11 +159,11 @@ module _ {ext : Extents} {pages : PageList} {def : TableDef} {map_tree : Forest}
 
   -- and where they are sound
   pub judged_sound : (rule : TableRule) (found : Findings) (row_pages : Option ℕ) → row_pages ≡ None
-      → (TableHasTrees ext pages def map_tree → JudgesEach (AreBlockRowsSound ext pages def) (BreaksBlockRows ext pages def) (used_blocks map_tree) row_pages)
-      → (TableHasRows ext pages def map_tree → JudgesTable ext pages def map_tree found) → TableKnownFor rule ext pages def map_tree
-      → Judges (TableKeeps rule ext pages def map_tree) (TableBreaks rule ext pages def map_tree) (found_of rule found)
+      → (TableHasTrees shape pages def map_tree → JudgesEach (AreBlockRowsSound shape pages def) (BreaksBlockRows shape pages def) (used_blocks map_tree) row_pages)
+      → (TableHasRows shape pages def map_tree → JudgesTable shape pages def map_tree found) → TableKnownFor rule shape pages def map_tree
+      → Judges (TableKeeps rule shape pages def map_tree) (TableBreaks rule shape pages def map_tree) (found_of rule found)
   judged_sound (Block RowPages) found row_pages none rows judged known =
-      subst (JudgesEach (AreBlockRowsSound ext pages def) (BreaksBlockRows ext pages def) (used_blocks map_tree)) (none ∙ sym (judged (rows_kept row_pages none (rows known) known)).row_pages) (rows known)
+      subst (JudgesEach (AreBlockRowsSound shape pages def) (BreaksBlockRows shape pages def) (used_blocks map_tree)) (none ∙ sym (judged (rows_kept row_pages none (rows known) known)).row_pages) (rows known)
   judged_sound (Block Counts) found row_pages none rows judged known = (judged known).counts
   judged_sound (Block Cells) found row_pages none rows judged known = (judged known).cells
   judged_sound (Index Blocks) found row_pages none rows judged known = (judged known.rows).block_indexes known

@@ -4,7 +4,7 @@ use Rattle.std.specs.List.{AllZip, range_with_len}
 use Rattle.std.proofs.Common.{Global, Vec, zero, suc, refl, sym, ap, subst, ◌∙◌}
 use Rattle.mdc_ast.specs.declared.definition.TableDef.{TableDef}
 use Rattle.mdc_ast.specs.Definitions.{Definitions}
-use Rattle.extent_map.specs.declared.extents.Extents.{Extents}
+use Rattle.store_api.specs.declared.shape.Shape.{Shape}
 use Rattle.extent_map.specs.declared.kind.Kind.{Kind}
 use Rattle.table_trees.specs.ToldPages.{PageList}
 use Rattle.mdc_sound.specs.Breaks.{BreaksRule, IsFirstBreak}
@@ -25,154 +25,154 @@ FindsNone found = (page : ℕ) → found ≡ Some page → ⊥
 
 -- ---- what each judge says of pages
 
-abbrev pub SaysRoot : Extents → Option ℕ → PageList → Type 0
-SaysRoot ext found pages = JudgesRule ext pages 1 (IsRootSound ext pages) found
+abbrev pub SaysRoot : Shape → Option ℕ → PageList → Type 0
+SaysRoot shape found pages = JudgesRule shape pages 1 (IsRootSound shape pages) found
 
-abbrev pub SaysExtents : Extents → Option ℕ → PageList → Type 0
-SaysExtents ext found pages = IsRootSound ext pages → JudgesRule ext pages 2 ((owners : List Kind) × IsMapSound ext pages owners) found
+abbrev pub SaysExtents : Shape → Option ℕ → PageList → Type 0
+SaysExtents shape found pages = IsRootSound shape pages → JudgesRule shape pages 2 ((owners : List Kind) × IsMapSound shape pages owners) found
 
-abbrev pub SaysTables : Extents → TablePages → PageList → Type 0
-SaysTables ext answer pages = (owners : List Kind) → IsRootSound ext pages → IsMapSound ext pages owners → JudgesTablePages ext pages owners answer
+abbrev pub SaysTables : Shape → TablePages → PageList → Type 0
+SaysTables shape answer pages = (owners : List Kind) → IsRootSound shape pages → IsMapSound shape pages owners → JudgesTablePages shape pages owners answer
 
 abbrev pub SaysTrees : Definitions → List ℕ → Option ℕ → PageList → Type 0
 SaysTrees defs times found pages =
-    (ext : Extents) (owners : List Kind) → HasDefinitions ext pages owners defs → JudgesRule ext pages 4 (StandAsCounted pages owners defs times) found
+    (shape : Shape) (owners : List Kind) → HasDefinitions shape pages owners defs → JudgesRule shape pages 4 (StandAsCounted pages owners defs times) found
 
-abbrev pub SaysTreePages : Extents → List ℕ → Option ℕ → PageList → Type 0
-SaysTreePages ext times found pages =
-    (defs : Definitions) (view : DatabaseView) → ViewHasTrees ext pages defs view → AreTimesInTrees pages view times → JudgesRule ext pages 5 (AreTreePagesSound ext view) found
+abbrev pub SaysTreePages : Shape → List ℕ → Option ℕ → PageList → Type 0
+SaysTreePages shape times found pages =
+    (defs : Definitions) (view : DatabaseView) → ViewHasTrees shape pages defs view → AreTimesInTrees pages view times → JudgesRule shape pages 5 (AreTreePagesSound shape view) found
 
-abbrev pub SaysBlockMaps : Extents → Definitions → Option ℕ → PageList → Type 0
-SaysBlockMaps ext defs found pages = (view : DatabaseView) → ViewHasTrees ext pages defs view → JudgesRule ext pages 6 (AreBlockMapsSound ext view) found
+abbrev pub SaysBlockMaps : Shape → Definitions → Option ℕ → PageList → Type 0
+SaysBlockMaps shape defs found pages = (view : DatabaseView) → ViewHasTrees shape pages defs view → JudgesRule shape pages 6 (AreBlockMapsSound shape view) found
 
 -- ---- what they rest on
 
-abbrev pub SomeOwners : Extents → PageList → Type 0
-SomeOwners ext pages = IsRootSound ext pages × (owners : List Kind) × IsMapSound ext pages owners
+abbrev pub SomeOwners : Shape → PageList → Type 0
+SomeOwners shape pages = IsRootSound shape pages × (owners : List Kind) × IsMapSound shape pages owners
 
-abbrev pub SomeTrees : Extents → PageList → Type 0
-SomeTrees ext pages = (defs : Definitions) × (view : DatabaseView) × ViewHasTrees ext pages defs view
+abbrev pub SomeTrees : Shape → PageList → Type 0
+SomeTrees shape pages = (defs : Definitions) × (view : DatabaseView) × ViewHasTrees shape pages defs view
 
 -- ---- what is known behind the others
 
 -- the first rule is kept
-pub record KeepsRoot (ext : Extents) (pages : PageList) : Type 0 where
-  pub root : IsRootSound ext pages
-  pub before : NoneBreaksBefore ext pages 2
+pub record KeepsRoot (shape : Shape) (pages : PageList) : Type 0 where
+  pub root : IsRootSound shape pages
+  pub before : NoneBreaksBefore shape pages 2
 
 -- the first two
-pub record KeepsExtents (ext : Extents) (pages : PageList) : Type 0 where
-  pub root : IsRootSound ext pages
+pub record KeepsExtents (shape : Shape) (pages : PageList) : Type 0 where
+  pub root : IsRootSound shape pages
   pub owners : List Kind
-  pub map : IsMapSound ext pages owners
-  pub before : NoneBreaksBefore ext pages 3
+  pub map : IsMapSound shape pages owners
+  pub before : NoneBreaksBefore shape pages 3
 
 -- the first four, and the trees are counted
-pub record KeepsCounted (ext : Extents) (defs : Definitions) (times : List ℕ) (pages : PageList) : Type 0 where
+pub record KeepsCounted (shape : Shape) (defs : Definitions) (times : List ℕ) (pages : PageList) : Type 0 where
   pub view : DatabaseView
-  pub known : ViewHasTrees ext pages defs view
+  pub known : ViewHasTrees shape pages defs view
   pub counted : AreTimesInTrees pages view times
-  pub before : NoneBreaksBefore ext pages 5
+  pub before : NoneBreaksBefore shape pages 5
 
 -- ---- the table pages of a view
 
-places_of_defs : (ext : Extents) (pages : PageList) (owners : List Kind) (a n : ℕ) (places : List (Option TableView))
-    → AllZip (IsDefinitionSound ext pages owners) (range_with_len a n) (map (option_map (λ table. table.def)) places) → AllZip (IsTablePlaceSound ext pages owners) (range_with_len a n) places
-places_of_defs ext pages owners a zero [] all = tt
-places_of_defs ext pages owners a zero (place ∷ places) all = absurd all
-places_of_defs ext pages owners a (suc n) [] all = absurd all
-places_of_defs ext pages owners a (suc n) (None ∷ places) all = (all.0, places_of_defs ext pages owners (a + 1) n places all.1)
-places_of_defs ext pages owners a (suc n) (Some table ∷ places) all = (all.0, places_of_defs ext pages owners (a + 1) n places all.1)
+places_of_defs : (shape : Shape) (pages : PageList) (owners : List Kind) (a n : ℕ) (places : List (Option TableView))
+    → AllZip (IsDefinitionSound shape pages owners) (range_with_len a n) (map (option_map (λ table. table.def)) places) → AllZip (IsTablePlaceSound shape pages owners) (range_with_len a n) places
+places_of_defs shape pages owners a zero [] all = tt
+places_of_defs shape pages owners a zero (place ∷ places) all = absurd all
+places_of_defs shape pages owners a (suc n) [] all = absurd all
+places_of_defs shape pages owners a (suc n) (None ∷ places) all = (all.0, places_of_defs shape pages owners (a + 1) n places all.1)
+places_of_defs shape pages owners a (suc n) (Some table ∷ places) all = (all.0, places_of_defs shape pages owners (a + 1) n places all.1)
 
 defs_of_places : (places : List (Option TableView)) → defs_there (map (option_map (λ table. table.def)) places) ≡ map (λ (table : TableView). table.def) (tables_there places)
 defs_of_places [] = refl
 defs_of_places (None ∷ places) = defs_of_places places
 defs_of_places (Some table ∷ places) = ap (λ defs. table.def ∷ defs) (defs_of_places places)
 
-pub table_pages_of_defs : (ext : Extents) (pages : PageList) (defs : Definitions) (view : DatabaseView) → defs_of view ≡ defs → AreDefinitionsSound ext pages view.owners defs → AreTablePagesSound ext pages view
-table_pages_of_defs ext pages defs view is sound =
+pub table_pages_of_defs : (shape : Shape) (pages : PageList) (defs : Definitions) (view : DatabaseView) → defs_of view ≡ defs → AreDefinitionsSound shape pages view.owners defs → AreTablePagesSound shape pages view
+table_pages_of_defs shape pages defs view is sound =
     let there : defs_there defs ≡ definitions_in view = ap defs_there (sym is) ∙ defs_of_places view.places in
     record {
-      each = places_of_defs ext pages view.owners 0 16 view.places (subst (λ ds. AllZip (IsDefinitionSound ext pages view.owners) (range_with_len 0 16) ds) (sym is) sound.each);
+      each = places_of_defs shape pages view.owners 0 16 view.places (subst (λ ds. AllZip (IsDefinitionSound shape pages view.owners) (range_with_len 0 16) ds) (sym is) sound.each);
       tables_differ = subst (λ ds. AllPairs (λ a b. a.name ≢ b.name) ds) there sound.tables_differ;
       indexes_differ = subst (λ (ds : List TableDef). AllPairs (λ a b. a.name ≢ b.name) (flat_map (λ def. def.indexes) ds)) there sound.indexes_differ;
     }
 
 -- the trees of the tables that are defined
-trees_of_defs : (ext : Extents) (pages : PageList) (owners : List Kind) (defs : Definitions) (view : DatabaseView) → HasDefinitions ext pages owners defs → HasTheirTrees pages owners defs view → ViewHasTrees ext pages defs view
-trees_of_defs ext pages owners defs view has trees = record {
+trees_of_defs : (shape : Shape) (pages : PageList) (owners : List Kind) (defs : Definitions) (view : DatabaseView) → HasDefinitions shape pages owners defs → HasTheirTrees pages owners defs view → ViewHasTrees shape pages defs view
+trees_of_defs shape pages owners defs view has trees = record {
   defined = trees.defined;
   rule1 = has.rule1;
-  rule2 = subst (IsMapSound ext pages) (sym trees.owned) has.rule2;
-  rule3 = table_pages_of_defs ext pages defs view trees.defined (subst (λ owned. AreDefinitionsSound ext pages owned defs) (sym trees.owned) has.rule3);
+  rule2 = subst (IsMapSound shape pages) (sym trees.owned) has.rule2;
+  rule3 = table_pages_of_defs shape pages defs view trees.defined (subst (λ owned. AreDefinitionsSound shape pages owned defs) (sym trees.owned) has.rule3);
   rule4 = trees.rule4;
   split = trees.split;
 }
 
 -- ---- one rule after another
 
-pub tables_kept : (ext : Extents) (pages : PageList) (answer : TablePages) (defs : Vec (Option TableDef) Global) → answer ≡ Sound defs → KeepsExtents ext pages → SaysTables ext answer pages → KeepsTables ext defs.items pages
-tables_kept ext pages answer defs is kept says =
-    let sound : JudgesTablePages ext pages kept.owners (Sound defs) = subst (JudgesTablePages ext pages kept.owners) is (says kept.owners kept.root kept.map) in
+pub tables_kept : (shape : Shape) (pages : PageList) (answer : TablePages) (defs : Vec (Option TableDef) Global) → answer ≡ Sound defs → KeepsExtents shape pages → SaysTables shape answer pages → KeepsTables shape defs.items pages
+tables_kept shape pages answer defs is kept says =
+    let sound : JudgesTablePages shape pages kept.owners (Sound defs) = subst (JudgesTablePages shape pages kept.owners) is (says kept.owners kept.root kept.map) in
     record {
       owners = kept.owners;
       known = record { rule1 = kept.root; rule2 = kept.map; rule3 = sound.holds };
-      before = none_next ext pages 3 kept.before sound.unbroken;
+      before = none_next shape pages 3 kept.before sound.unbroken;
     }
 
-module _ (ext : Extents) (pages : PageList) (found : Option ℕ) (none : FindsNone found) where
-  pub root_kept : SaysRoot ext found pages → KeepsRoot ext pages
+module _ (shape : Shape) (pages : PageList) (found : Option ℕ) (none : FindsNone found) where
+  pub root_kept : SaysRoot shape found pages → KeepsRoot shape pages
   root_kept says =
-      let sound = holds_unbroken (IsRootSound ext pages) (BreaksRule ext pages 1) found none says in
-      record { root = sound.holds; before = none_next ext pages 1 (none_yet ext pages) sound.unbroken }
+      let sound = holds_unbroken (IsRootSound shape pages) (BreaksRule shape pages 1) found none says in
+      record { root = sound.holds; before = none_next shape pages 1 (none_yet shape pages) sound.unbroken }
 
-  pub extents_kept : KeepsRoot ext pages → SaysExtents ext found pages → KeepsExtents ext pages
+  pub extents_kept : KeepsRoot shape pages → SaysExtents shape found pages → KeepsExtents shape pages
   extents_kept kept says =
-      let sound = holds_unbroken ((owners : List Kind) × IsMapSound ext pages owners) (BreaksRule ext pages 2) found none (says kept.root) in
-      record { root = kept.root; owners = sound.holds.0; map = sound.holds.1; before = none_next ext pages 2 kept.before sound.unbroken }
+      let sound = holds_unbroken ((owners : List Kind) × IsMapSound shape pages owners) (BreaksRule shape pages 2) found none (says kept.root) in
+      record { root = kept.root; owners = sound.holds.0; map = sound.holds.1; before = none_next shape pages 2 kept.before sound.unbroken }
 
-  pub trees_kept : (defs : Definitions) (times : List ℕ) → KeepsTables ext defs pages → SaysTrees defs times found pages → KeepsCounted ext defs times pages
+  pub trees_kept : (defs : Definitions) (times : List ℕ) → KeepsTables shape defs pages → SaysTrees defs times found pages → KeepsCounted shape defs times pages
   trees_kept defs times kept says =
-      let sound = holds_unbroken (StandAsCounted pages kept.owners defs times) (BreaksRule ext pages 4) found none (says ext kept.owners kept.known) in
+      let sound = holds_unbroken (StandAsCounted pages kept.owners defs times) (BreaksRule shape pages 4) found none (says shape kept.owners kept.known) in
       record {
         view = sound.holds.view;
-        known = trees_of_defs ext pages kept.owners defs sound.holds.view kept.known sound.holds.trees;
+        known = trees_of_defs shape pages kept.owners defs sound.holds.view kept.known sound.holds.trees;
         counted = sound.holds.counted;
-        before = none_next ext pages 4 kept.before sound.unbroken;
+        before = none_next shape pages 4 kept.before sound.unbroken;
       }
 
-  pub tree_pages_kept : (defs : Definitions) (times : List ℕ) → KeepsCounted ext defs times pages → SaysTreePages ext times found pages → KeepsTrees ext defs pages
+  pub tree_pages_kept : (defs : Definitions) (times : List ℕ) → KeepsCounted shape defs times pages → SaysTreePages shape times found pages → KeepsTrees shape defs pages
   tree_pages_kept defs times kept says =
-      let sound = holds_unbroken (AreTreePagesSound ext kept.view) (BreaksRule ext pages 5) found none (says defs kept.view kept.known kept.counted) in
-      record { view = kept.view; known = kept.known; rule5 = sound.holds; before = none_next ext pages 5 kept.before sound.unbroken }
+      let sound = holds_unbroken (AreTreePagesSound shape kept.view) (BreaksRule shape pages 5) found none (says defs kept.view kept.known kept.counted) in
+      record { view = kept.view; known = kept.known; rule5 = sound.holds; before = none_next shape pages 5 kept.before sound.unbroken }
 
-  pub block_maps_kept : (defs : Definitions) → KeepsTrees ext defs pages → SaysBlockMaps ext defs found pages → KeepsBlockMaps ext defs pages
+  pub block_maps_kept : (defs : Definitions) → KeepsTrees shape defs pages → SaysBlockMaps shape defs found pages → KeepsBlockMaps shape defs pages
   block_maps_kept defs kept says =
-      let sound = holds_unbroken (AreBlockMapsSound ext kept.view) (BreaksRule ext pages 6) found none (says kept.view kept.known) in
+      let sound = holds_unbroken (AreBlockMapsSound shape kept.view) (BreaksRule shape pages 6) found none (says kept.view kept.known) in
       record {
         view = kept.view;
         known = record { trees = kept.known; rule5 = kept.rule5; rule6 = sound.holds };
-        before = none_next ext pages 6 kept.before sound.unbroken;
+        before = none_next shape pages 6 kept.before sound.unbroken;
       }
 
 -- ---- the first that is broken
 
-pub tables_broken : (ext : Extents) (pages : PageList) (answer : TablePages) (page : ℕ) → answer ≡ Broken page → KeepsExtents ext pages → SaysTables ext answer pages → IsFirstBreak ext pages 3 page
-tables_broken ext pages answer page is kept says =
-    first_lowest ext pages 3 page kept.before (subst (JudgesTablePages ext pages kept.owners) is (says kept.owners kept.root kept.map))
+pub tables_broken : (shape : Shape) (pages : PageList) (answer : TablePages) (page : ℕ) → answer ≡ Broken page → KeepsExtents shape pages → SaysTables shape answer pages → IsFirstBreak shape pages 3 page
+tables_broken shape pages answer page is kept says =
+    first_lowest shape pages 3 page kept.before (subst (JudgesTablePages shape pages kept.owners) is (says kept.owners kept.root kept.map))
 
-module _ (ext : Extents) (pages : PageList) (found : Option ℕ) (page : ℕ) (is : found ≡ Some page) where
-  pub root_broken : SaysRoot ext found pages → IsFirstBreak ext pages 1 page
-  root_broken says = first_break ext pages 1 (IsRootSound ext pages) found page is (none_yet ext pages) says
+module _ (shape : Shape) (pages : PageList) (found : Option ℕ) (page : ℕ) (is : found ≡ Some page) where
+  pub root_broken : SaysRoot shape found pages → IsFirstBreak shape pages 1 page
+  root_broken says = first_break shape pages 1 (IsRootSound shape pages) found page is (none_yet shape pages) says
 
-  pub extents_broken : KeepsRoot ext pages → SaysExtents ext found pages → IsFirstBreak ext pages 2 page
-  extents_broken kept says = first_break ext pages 2 ((owners : List Kind) × IsMapSound ext pages owners) found page is kept.before (says kept.root)
+  pub extents_broken : KeepsRoot shape pages → SaysExtents shape found pages → IsFirstBreak shape pages 2 page
+  extents_broken kept says = first_break shape pages 2 ((owners : List Kind) × IsMapSound shape pages owners) found page is kept.before (says kept.root)
 
-  pub trees_broken : (defs : Definitions) (times : List ℕ) → KeepsTables ext defs pages → SaysTrees defs times found pages → IsFirstBreak ext pages 4 page
-  trees_broken defs times kept says = first_break ext pages 4 (StandAsCounted pages kept.owners defs times) found page is kept.before (says ext kept.owners kept.known)
+  pub trees_broken : (defs : Definitions) (times : List ℕ) → KeepsTables shape defs pages → SaysTrees defs times found pages → IsFirstBreak shape pages 4 page
+  trees_broken defs times kept says = first_break shape pages 4 (StandAsCounted pages kept.owners defs times) found page is kept.before (says shape kept.owners kept.known)
 
-  pub tree_pages_broken : (defs : Definitions) (times : List ℕ) → KeepsCounted ext defs times pages → SaysTreePages ext times found pages → IsFirstBreak ext pages 5 page
-  tree_pages_broken defs times kept says = first_break ext pages 5 (AreTreePagesSound ext kept.view) found page is kept.before (says defs kept.view kept.known kept.counted)
+  pub tree_pages_broken : (defs : Definitions) (times : List ℕ) → KeepsCounted shape defs times pages → SaysTreePages shape times found pages → IsFirstBreak shape pages 5 page
+  tree_pages_broken defs times kept says = first_break shape pages 5 (AreTreePagesSound shape kept.view) found page is kept.before (says defs kept.view kept.known kept.counted)
 
-  pub block_maps_broken : (defs : Definitions) → KeepsTrees ext defs pages → SaysBlockMaps ext defs found pages → IsFirstBreak ext pages 6 page
-  block_maps_broken defs kept says = first_break ext pages 6 (AreBlockMapsSound ext kept.view) found page is kept.before (says kept.view kept.known)
+  pub block_maps_broken : (defs : Definitions) → KeepsTrees shape defs pages → SaysBlockMaps shape defs found pages → IsFirstBreak shape pages 6 page
+  block_maps_broken defs kept says = first_break shape pages 6 (AreBlockMapsSound shape kept.view) found page is kept.before (says kept.view kept.known)

@@ -5,7 +5,7 @@ use Rattle.std.specs.List.{AllByRecursion}
 use Rattle.mdc_ast.specs.declared.definition.IndexDef.{IndexDef}
 use Rattle.mdc_ast.specs.declared.definition.TableDef.{TableDef}
 use Rattle.mdc_ast.specs.Definitions.{Definitions}
-use Rattle.extent_map.specs.declared.extents.Extents.{Extents}
+use Rattle.store_api.specs.declared.shape.Shape.{Shape}
 use Rattle.entry_tree.specs.Forest.{Forest}
 use Rattle.key_codec.specs.Keys.{ArePartsOf}
 use Rattle.row_page.specs.Row.{AreRowColumns}
@@ -34,14 +34,14 @@ use Rattle.file_check.proofs.ShownTablesLemmas.{member_map}
 -- ---- one table
 
 -- the rows of a table of the view are told
-pub known_rows : (ext : Extents) (pages : PageList) (defs : Definitions) (view : DatabaseView) (table : TableView) → ViewHasCells ext pages defs view → Contains (tables_there view.places) table
-    → HasTableRows ext pages table.def table.map
-known_rows ext pages defs view table has there =
+pub known_rows : (shape : Shape) (pages : PageList) (defs : Definitions) (view : DatabaseView) (table : TableView) → ViewHasCells shape pages defs view → Contains (tables_there view.places) table
+    → HasTableRows shape pages table.def table.map
+known_rows shape pages defs view table has there =
     record {
-      map = member_map ext pages defs view has.rows.blocks.trees has.rows.blocks.rule6 table there;
+      map = member_map shape pages defs view has.rows.blocks.trees has.rows.blocks.rule6 table there;
       rows = λ block used.
-          each_of (AreBlockRowsSound ext pages table.def) (used_blocks table.map) block
-          (each_of (λ x. AllByRecursion (AreBlockRowsSound ext pages x.def) (used_blocks x.map)) (tables_there view.places) table has.rows.rule7 there) used;
+          each_of (AreBlockRowsSound shape pages table.def) (used_blocks table.map) block
+          (each_of (λ x. AllByRecursion (AreBlockRowsSound shape pages x.def) (used_blocks x.map)) (tables_there view.places) table has.rows.rule7 there) used;
     }
 
 -- ---- what a definition has
@@ -56,69 +56,69 @@ has_index_parts t def is =
 -- ---- rule 12
 
 -- a table breaks rule 12
-table_breaks : (ext : Extents) (pages : PageList) (t : ℕ) (table : TableView) → IsDefinedAt pages t table → HasTree pages (map_place table.def) table.map
-    → (AreRowNumbersSound table.def (rows_in_table ext pages table.def table.map) → ⊥)
-    ⊎ ((index : IndexDef) × Contains table.def.indexes index × (IsUniqueSound (rows_in_table ext pages table.def table.map) index → ⊥)) → BreaksRule ext pages 12 (1 + t)
-table_breaks ext pages t table defined has (inl numbers) =
+table_breaks : (shape : Shape) (pages : PageList) (t : ℕ) (table : TableView) → IsDefinedAt pages t table → HasTree pages (map_place table.def) table.map
+    → (AreRowNumbersSound table.def (rows_in_table shape pages table.def table.map) → ⊥)
+    ⊎ ((index : IndexDef) × Contains table.def.indexes index × (IsUniqueSound (rows_in_table shape pages table.def table.map) index → ⊥)) → BreaksRule shape pages 12 (1 + t)
+table_breaks shape pages t table defined has (inl numbers) =
     BreaksRule.numbers t table.def (record {
       within = defined.within;
       defines = defined.defines;
-      map = λ u other. subst (λ (w : Forest). AreRowNumbersSound table.def (rows_in_table ext pages table.def w) → ⊥) (one_tree_at pages (map_place table.def) table.map u has other) numbers;
+      map = λ u other. subst (λ (w : Forest). AreRowNumbersSound table.def (rows_in_table shape pages table.def w) → ⊥) (one_tree_at pages (map_place table.def) table.map u has other) numbers;
     })
-table_breaks ext pages t table defined has (inr (index, inside, unique)) =
+table_breaks shape pages t table defined has (inr (index, inside, unique)) =
     BreaksRule.unique t table.def index inside (record {
       within = defined.within;
       defines = defined.defines;
-      map = λ u other. subst (λ (w : Forest). IsUniqueSound (rows_in_table ext pages table.def w) index → ⊥) (one_tree_at pages (map_place table.def) table.map u has other) unique;
+      map = λ u other. subst (λ (w : Forest). IsUniqueSound (rows_in_table shape pages table.def w) index → ⊥) (one_tree_at pages (map_place table.def) table.map u has other) unique;
     })
 
 -- what it says that a page breaks rule 12
-record IsKeysBreak (ext : Extents) (pages : PageList) (page : ℕ) : Type 0 where
+record IsKeysBreak (shape : Shape) (pages : PageList) (page : ℕ) : Type 0 where
   t : ℕ
   def : TableDef
   is_its : page ≡ 1 + t
-  shows : ShowsTable pages t def (λ map_tree. (AreRowNumbersSound def (rows_in_table ext pages def map_tree) → ⊥)
-      ⊎ ((index : IndexDef) × Contains def.indexes index × (IsUniqueSound (rows_in_table ext pages def map_tree) index → ⊥)))
+  shows : ShowsTable pages t def (λ map_tree. (AreRowNumbersSound def (rows_in_table shape pages def map_tree) → ⊥)
+      ⊎ ((index : IndexDef) × Contains def.indexes index × (IsUniqueSound (rows_in_table shape pages def map_tree) index → ⊥)))
 
-says_keys : (ext : Extents) (pages : PageList) (rule page : ℕ) → rule ≡ 12 → BreaksRule ext pages rule page → IsKeysBreak ext pages page
-says_keys ext pages rule page is (BreaksRule.numbers t def shows) = record {
+says_keys : (shape : Shape) (pages : PageList) (rule page : ℕ) → rule ≡ 12 → BreaksRule shape pages rule page → IsKeysBreak shape pages page
+says_keys shape pages rule page is (BreaksRule.numbers t def shows) = record {
   t = t;
   def = def;
   is_its = refl;
   shows = record { within = shows.within; defines = shows.defines; map = λ u has. inl (shows.map u has) };
 }
-says_keys ext pages rule page is (BreaksRule.unique t def index inside shows) = record {
+says_keys shape pages rule page is (BreaksRule.unique t def index inside shows) = record {
   t = t;
   def = def;
   is_its = refl;
   shows = record { within = shows.within; defines = shows.defines; map = λ u has. inr (index, inside, shows.map u has) };
 }
-says_keys ext pages rule page is other = absurd (omega (arith, is))
+says_keys shape pages rule page is other = absurd (omega (arith, is))
 
 -- all tables
-pub judges_keys : (ext : Extents) (pages : PageList) (defs : Definitions) (view : DatabaseView) (found : Option ℕ) → ViewHasCells ext pages defs view
-    → JudgesEach (KeepsTableRule Keys ext pages) (BreaksTableRule Keys ext pages) (tables_there view.places) found → JudgesRule ext pages 12 (AreKeysSound ext pages view) found
-judges_keys ext pages defs view found has judged =
+pub judges_keys : (shape : Shape) (pages : PageList) (defs : Definitions) (view : DatabaseView) (found : Option ℕ) → ViewHasCells shape pages defs view
+    → JudgesEach (KeepsTableRule Keys shape pages) (BreaksTableRule Keys shape pages) (tables_there view.places) found → JudgesRule shape pages 12 (AreKeysSound shape pages view) found
+judges_keys shape pages defs view found has judged =
     let tables = tables_there view.places in
-    judges_as {P = AllByRecursion (KeepsTableRule Keys ext pages) tables} {Q = AreKeysSound ext pages view} {A = BreaksAny (BreaksTableRule Keys ext pages) tables} {B = BreaksRule ext pages 12} found
+    judges_as {P = AllByRecursion (KeepsTableRule Keys shape pages) tables} {Q = AreKeysSound shape pages view} {A = BreaksAny (BreaksTableRule Keys shape pages) tables} {B = BreaksRule shape pages 12} found
     (λ all. record {
-      numbers = each_as (KeepsTableRule Keys ext pages) (λ table. AreRowNumbersSound table.def (rows_in_table ext pages table.def table.map)) tables (λ table there keys. keys.numbers) all;
-      unique = each_as (KeepsTableRule Keys ext pages) (λ table. AllByRecursion (IsUniqueSound (rows_in_table ext pages table.def table.map)) table.def.indexes) tables (λ table there keys. keys.unique) all;
+      numbers = each_as (KeepsTableRule Keys shape pages) (λ table. AreRowNumbersSound table.def (rows_in_table shape pages table.def table.map)) tables (λ table there keys. keys.numbers) all;
+      unique = each_as (KeepsTableRule Keys shape pages) (λ table. AllByRecursion (IsUniqueSound (rows_in_table shape pages table.def table.map)) table.def.indexes) tables (λ table there keys. keys.unique) all;
     })
     (λ p broken.
-    let (table, member, breaks) = member-breaks_any (BreaksTableRule Keys ext pages) tables p broken in
+    let (table, member, breaks) = member-breaks_any (BreaksTableRule Keys shape pages) tables p broken in
     let (t, at) = member_is_placed view table member in
-    let defined = viewed_is_defined ext pages defs view t table has.rows.blocks.trees at in
-    subst (BreaksRule ext pages 12) (sym (breaks.is_its ∙ ap (λ n. 1 + n) defined.number)) (table_breaks ext pages t table defined (known_rows ext pages defs view table has member).map.tree breaks.broken))
+    let defined = viewed_is_defined shape pages defs view t table has.rows.blocks.trees at in
+    subst (BreaksRule shape pages 12) (sym (breaks.is_its ∙ ap (λ n. 1 + n) defined.number)) (table_breaks shape pages t table defined (known_rows shape pages defs view table has member).map.tree breaks.broken))
     (λ p broken.
-    let says = says_keys ext pages 12 p refl broken in
-    let viewed = defined_is_viewed ext pages defs view says.t says.def has.rows.blocks.trees says.shows.within says.shows.defines in
+    let says = says_keys shape pages 12 p refl broken in
+    let viewed = defined_is_viewed shape pages defs view says.t says.def has.rows.blocks.trees says.shows.within says.shows.defines in
     let table = viewed.table in
-    let defined = viewed_is_defined ext pages defs view says.t table has.rows.blocks.trees viewed.stands in
-    let tree : HasTree pages (map_place says.def) table.map = subst (λ d. HasTree pages (map_place d) table.map) viewed.same (known_rows ext pages defs view table has viewed.member).map.tree in
-    breaks_any-member (BreaksTableRule Keys ext pages) tables table p viewed.member (record {
+    let defined = viewed_is_defined shape pages defs view says.t table has.rows.blocks.trees viewed.stands in
+    let tree : HasTree pages (map_place says.def) table.map = subst (λ d. HasTree pages (map_place d) table.map) viewed.same (known_rows shape pages defs view table has viewed.member).map.tree in
+    breaks_any-member (BreaksTableRule Keys shape pages) tables table p viewed.member (record {
       is_its = says.is_its ∙ ap (λ n. 1 + n) (sym defined.number);
-      broken = subst (λ d. (AreRowNumbersSound d (rows_in_table ext pages d table.map) → ⊥) ⊎ ((index : IndexDef) × Contains d.indexes index × (IsUniqueSound (rows_in_table ext pages d table.map) index → ⊥)))
+      broken = subst (λ d. (AreRowNumbersSound d (rows_in_table shape pages d table.map) → ⊥) ⊎ ((index : IndexDef) × Contains d.indexes index × (IsUniqueSound (rows_in_table shape pages d table.map) index → ⊥)))
           (sym viewed.same) (says.shows.map table.map tree);
     }))
     judged

@@ -5,7 +5,7 @@ use Rattle.std.proofs.lemmas.Option.{slice_get-get_or}
 use Rattle.mdc_ast.specs.declared.definition.TableDef.{TableDef}
 use Rattle.mdc_ast.specs.Definitions.{Definitions}
 use Rattle.store_api.specs.StoreState.{zero_page}
-use Rattle.extent_map.specs.declared.extents.Extents.{Extents}
+use Rattle.store_api.specs.declared.shape.Shape.{Shape}
 use Rattle.table_page.specs.TablePage.{IsTablePageOf}
 use Rattle.table_page.proofs.TablePageLemmas.{no_blank_table, one_definition}
 use Rattle.table_trees.specs.ToldPages.{PageList}
@@ -39,19 +39,19 @@ pub record IsViewed (view : DatabaseView) (t : ℕ) (def : TableDef) : Type 0 wh
   pub member : Contains (tables_there view.places) table
   pub same : table.def ≡ def
 
-pub defined_is_viewed : (ext : Extents) (pages : PageList) (defs : Definitions) (view : DatabaseView) (t : ℕ) (def : TableDef)
-    → ViewHasTrees ext pages defs view → t < 16 → DefinesTable pages t def → IsViewed view t def
-defined_is_viewed ext pages defs view t def has low defines =
-    go (get_or view.places t None) (slice_get-get_or view.places t None (omega (arith, low, range_length (IsTablePlaceSound ext pages view.owners) 0 16 view.places has.rule3.each)))
+pub defined_is_viewed : (shape : Shape) (pages : PageList) (defs : Definitions) (view : DatabaseView) (t : ℕ) (def : TableDef)
+    → ViewHasTrees shape pages defs view → t < 16 → DefinesTable pages t def → IsViewed view t def
+defined_is_viewed shape pages defs view t def has low defines =
+    go (get_or view.places t None) (slice_get-get_or view.places t None (omega (arith, low, range_length (IsTablePlaceSound shape pages view.owners) 0 16 view.places has.rule3.each)))
   where
     go : (place : Option TableView) → slice_get view.places t ≡ Some place → IsViewed view t def
     go None at =
-        let here = range_at (IsTablePlaceSound ext pages view.owners) 0 16 view.places t None has.rule3.each at in
+        let here = range_at (IsTablePlaceSound shape pages view.owners) 0 16 view.places t None has.rule3.each at in
         let same : 0 + t ≡ t = omega arith in
         let blank : table_page_at pages t ≡ zero_page = subst (λ n. table_page_at pages n ≡ zero_page) same here.1 in
         absurd (no_blank_table t def (subst (λ page. IsTablePageOf t def page) blank defines))
     go (Some table) at =
-        let here = range_at (IsTablePlaceSound ext pages view.owners) 0 16 view.places t (Some table) has.rule3.each at in
+        let here = range_at (IsTablePlaceSound shape pages view.owners) 0 16 view.places t (Some table) has.rule3.each at in
         let same : 0 + t ≡ t = omega arith in
         record {
           table = table;
@@ -66,10 +66,10 @@ pub record IsDefinedAt (pages : PageList) (t : ℕ) (table : TableView) : Type 0
   pub number : table.def.number ≡ t
   pub defines : DefinesTable pages t table.def
 
-pub viewed_is_defined : (ext : Extents) (pages : PageList) (defs : Definitions) (view : DatabaseView) (t : ℕ) (table : TableView)
-    → ViewHasTrees ext pages defs view → slice_get view.places t ≡ Some (Some table) → IsDefinedAt pages t table
-viewed_is_defined ext pages defs view t table has at =
-    let here = range_at (IsTablePlaceSound ext pages view.owners) 0 16 view.places t (Some table) has.rule3.each at in
+pub viewed_is_defined : (shape : Shape) (pages : PageList) (defs : Definitions) (view : DatabaseView) (t : ℕ) (table : TableView)
+    → ViewHasTrees shape pages defs view → slice_get view.places t ≡ Some (Some table) → IsDefinedAt pages t table
+viewed_is_defined shape pages defs view t table has at =
+    let here = range_at (IsTablePlaceSound shape pages view.owners) 0 16 view.places t (Some table) has.rule3.each at in
     let same : 0 + t ≡ t = omega arith in
     record { within = here.0; number = here.1.0.limits.stands ∙ same; defines = subst (λ n. DefinesTable pages n table.def) same here.1.0 }
 

@@ -3,7 +3,6 @@ pub mod BlockHitsLemmas
 pub mod BlockMapsLemmas
 pub mod BlockSlotsLemmas
 pub mod BranchesLemmas
-pub mod BreaksAlongLemmas
 pub mod BroughtPagesLemmas
 pub mod CellsLemmas
 pub mod CellsRuleLemmas
@@ -41,7 +40,6 @@ pub mod RowKeysLemmas
 pub mod RowPagesRuleLemmas
 pub mod RulesInOrderLemmas
 pub mod RulesOfTablesLemmas
-pub mod SameShapeLemmas
 pub mod SharedNamesLemmas
 pub mod ShownBreaksLemmas
 pub mod ShownTablesLemmas

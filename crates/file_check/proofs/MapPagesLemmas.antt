@@ -10,10 +10,10 @@ use Rattle.std.proofs.lemmas.Option.{same_Some}
 use Rattle.mdc_words.proofs.ListedLemmas.{get_or-listed, length-listed}
 use Rattle.store_api.specs.Extents.{map_pages}
 use Rattle.store_api.specs.StoreState.{page_at}
+use Rattle.store_api.specs.declared.shape.Shape.{Shape}
 use Rattle.extent_map.specs.Kinds.{IsKindOf, block_stated, free_stated, index_stated, kind_bytes, kind_marked, kind_stated}
 use Rattle.extent_map.specs.Map.{entry_of, map_entries, map_page, map_page_of}
 use Rattle.extent_map.specs.Owners.{owner_of}
-use Rattle.extent_map.specs.declared.extents.Extents.{Extents}
 use Rattle.extent_map.specs.declared.kind.Kind.{Kind}
 use Rattle.extent_map.specs.declared.kind.Kind.TheVariants.{Free, Block, Index}
 use Rattle.extent_map.proofs.ExtentsLemmas.{extent_limits}
@@ -150,43 +150,43 @@ bytes_of_entry page e are i = elim (cases_lt i 8) [
 
 -- ---- from entries to the page, and back
 
-module _ (ext : Extents) (pages : PageList) (root : IsRootSound ext pages) (tables : List Bool) (told : TellTables pages tables) where
+module _ (shape : Shape) (pages : PageList) (root : IsRootSound shape pages) (tables : List Bool) (told : TellTables pages tables) where
   -- an extent that ends within the pages is one of those that there may be
-  within_cap : (e : ℕ) → EndsWithin ext (length pages) e → e < ext.cap
-  within_cap e ends = elim (cases_lt e ext.cap) [
+  within_cap : (e : ℕ) → EndsWithin shape (length pages) e → e < shape.extents
+  within_cap e ends = elim (cases_lt e shape.extents) [
     | inl low ↦ low
     | inr past ↦
         let next : root.count.extents ≤ e = omega (arith, root.count.within, past) in
-        let less : root.count.extents * ext.extent_pages ≤ e * ext.extent_pages = mul-le-mul_right ext.extent_pages next in
-        absurd (omega (arith, ends, root.count.count, less, (extent_limits ext).0))
+        let less : root.count.extents * shape.extent_pages ≤ e * shape.extent_pages = mul-le-mul_right shape.extent_pages next in
+        absurd (omega (arith, ends, root.count.count, less, (extent_limits shape).0))
   ]
 
   -- an extent behind the last is free
-  free_past : (e : ℕ) (kind : Kind) → ext.cap ≤ e → IsKindSound ext (length pages) tables e kind → kind ≡ Free
+  free_past : (e : ℕ) (kind : Kind) → shape.extents ≤ e → IsKindSound shape (length pages) tables e kind → kind ≡ Free
   free_past e Free past sound = refl
   free_past e (Block t) past sound = absurd (omega (arith, past, within_cap e sound.1))
   free_past e (Index used) past sound = absurd (omega (arith, past, within_cap e sound))
 
   -- what an entry says is what the list of all owners says
-  owner_shown : (e : ℕ) (page : List ℕ) → page_at pages (17 + e / 512) ≡ page → (found : Option Kind) → kind_on ext page e ≡ found → IsEntrySound ext (length pages) tables e found
-      → found ≡ Some (owner_of (owners_on ext pages) e)
+  owner_shown : (e : ℕ) (page : List ℕ) → page_at pages (17 + e / 512) ≡ page → (found : Option Kind) → kind_on shape page e ≡ found → IsEntrySound shape (length pages) tables e found
+      → found ≡ Some (owner_of (owners_on shape pages) e)
   owner_shown e page at None is sound = absurd sound
-  owner_shown e page at (Some kind) is sound = elim (cases_lt e ext.cap) [
+  owner_shown e page at (Some kind) is sound = elim (cases_lt e shape.extents) [
     | inl low ↦
-        let here : owner_of (owners_on ext pages) e ≡ unwrap_or (kind_on ext (page_at pages (map_page_of e)) e) Free =
-        get_or-listed ext.cap (λ x. unwrap_or (kind_on ext (page_at pages (map_page_of x)) x) Free) e Free low in
-        ap Some (sym (here ∙ ap (λ bytes. unwrap_or (kind_on ext bytes e) Free) at ∙ ap (λ x. unwrap_or x Free) is))
+        let here : owner_of (owners_on shape pages) e ≡ unwrap_or (kind_on shape (page_at pages (map_page_of e)) e) Free =
+        get_or-listed shape.extents (λ x. unwrap_or (kind_on shape (page_at pages (map_page_of x)) x) Free) e Free low in
+        ap Some (sym (here ∙ ap (λ bytes. unwrap_or (kind_on shape bytes e) Free) at ∙ ap (λ x. unwrap_or x Free) is))
     | inr past ↦
-        let none : owner_of (owners_on ext pages) e ≡ Free = get_or_past (owners_on ext pages) e Free (omega (arith, past, length-listed ext.cap (λ x. unwrap_or (kind_on ext (page_at pages (map_page_of x)) x) Free))) in
+        let none : owner_of (owners_on shape pages) e ≡ Free = get_or_past (owners_on shape pages) e Free (omega (arith, past, length-listed shape.extents (λ x. unwrap_or (kind_on shape (page_at pages (map_page_of x)) x) Free))) in
         ap Some (free_past e kind past sound ∙ sym none)
   ]
 
-  ends_of : (e : ℕ) (kind : Kind) → IsKindSound ext (length pages) tables e kind → kind ≢ Free → EndsWithin ext (length pages) e
+  ends_of : (e : ℕ) (kind : Kind) → IsKindSound shape (length pages) tables e kind → kind ≢ Free → EndsWithin shape (length pages) e
   ends_of e Free sound used = absurd (used refl)
   ends_of e (Block t) sound used = sound.1
   ends_of e (Index bits) sound used = sound
 
-  owner_there : (e : ℕ) (kind : Kind) → IsKindSound ext (length pages) tables e kind → IsOwnerThere pages kind
+  owner_there : (e : ℕ) (kind : Kind) → IsKindSound shape (length pages) tables e kind → IsOwnerThere pages kind
   owner_there e Free sound = tt
   owner_there e (Block t) sound = elim (cases_lt t 16) [
     | inl low ↦ (told.each t low).0 sound.0
@@ -195,63 +195,63 @@ module _ (ext : Extents) (pages : PageList) (root : IsRootSound ext pages) (tabl
   owner_there e (Index bits) sound = tt
 
   -- and back
-  kind_there : (e : ℕ) (kind : Kind) → IsOwnerThere pages kind → (kind ≢ Free → EndsWithin ext (length pages) e) → IsKindSound ext (length pages) tables e kind
+  kind_there : (e : ℕ) (kind : Kind) → IsOwnerThere pages kind → (kind ≢ Free → EndsWithin shape (length pages) e) → IsKindSound shape (length pages) tables e kind
   kind_there e Free there ends = tt
   kind_there e (Block t) there ends = ((told.each t there.0).1 there, ends (λ is. absurd (cc)))
   kind_there e (Index bits) there ends = ends (λ is. absurd (cc))
 
   -- a sound page, from its entries
-  pub sound_of_entries : (i : ℕ) (page : List ℕ) → i < map_pages ext.cap → page_at pages (17 + i) ≡ page → length page ≡ 4096 → AreBytes page
-      → AreEntriesSound ext (length pages) tables page i → IsMapPageSound ext pages (owners_on ext pages) i
+  pub sound_of_entries : (i : ℕ) (page : List ℕ) → i < map_pages shape.extents → page_at pages (17 + i) ≡ page → length page ≡ 4096 → AreBytes page
+      → AreEntriesSound shape (length pages) tables page i → IsMapPageSound shape pages (owners_on shape pages) i
   sound_of_entries i page low at long are sound = record {
     held = record {
       page = record {
         is_told = refl;
         within = omega (arith, low, root.count.count);
-        bytes_are = at ∙ page_of_entries (owners_on ext pages) i page long (λ e on. (says e on).0);
+        bytes_are = at ∙ page_of_entries (owners_on shape pages) i page long (λ e on. (says e on).0);
       };
       kinds = λ e on. (says e on).1;
-      there = λ e on used. ends_of e (owner_of (owners_on ext pages) e) (kind_sound e on) used;
+      there = λ e on used. ends_of e (owner_of (owners_on shape pages) e) (kind_sound e on) used;
     };
-    owned = λ e on. owner_there e (owner_of (owners_on ext pages) e) (kind_sound e on);
+    owned = λ e on. owner_there e (owner_of (owners_on shape pages) e) (kind_sound e on);
   }
     where
-      is_owner : (e : ℕ) → e / 512 ≡ i → kind_on ext page e ≡ Some (owner_of (owners_on ext pages) e)
-      is_owner e on = owner_shown e page (subst (λ k. page_at pages (17 + k) ≡ page) (sym on) at) (kind_on ext page e) refl (sound e on)
+      is_owner : (e : ℕ) → e / 512 ≡ i → kind_on shape page e ≡ Some (owner_of (owners_on shape pages) e)
+      is_owner e on = owner_shown e page (subst (λ k. page_at pages (17 + k) ≡ page) (sym on) at) (kind_on shape page e) refl (sound e on)
 
-      kind_sound : (e : ℕ) → e / 512 ≡ i → IsKindSound ext (length pages) tables e (owner_of (owners_on ext pages) e)
-      kind_sound e on = subst (IsEntrySound ext (length pages) tables e) (is_owner e on) (sound e on)
+      kind_sound : (e : ℕ) → e / 512 ≡ i → IsKindSound shape (length pages) tables e (owner_of (owners_on shape pages) e)
+      kind_sound e on = subst (IsEntrySound shape (length pages) tables e) (is_owner e on) (sound e on)
 
-      says : (e : ℕ) → e / 512 ≡ i → (entry_of page e ≡ kind_bytes (owner_of (owners_on ext pages) e)) × IsKindOf ext.extent_pages (owner_of (owners_on ext pages) e)
-      says e on = bytes_of_kind ext.extent_pages (entry_of page e) (owner_of (owners_on ext pages) e) (length-entry_of page e long) (bytes_of_entry page e are) (is_owner e on)
+      says : (e : ℕ) → e / 512 ≡ i → (entry_of page e ≡ kind_bytes (owner_of (owners_on shape pages) e)) × IsKindOf shape.extent_pages (owner_of (owners_on shape pages) e)
+      says e on = bytes_of_kind shape.extent_pages (entry_of page e) (owner_of (owners_on shape pages) e) (length-entry_of page e long) (bytes_of_entry page e are) (is_owner e on)
 
   -- and its entries, from a sound page
-  pub entries_of_sound : (i : ℕ) (page : List ℕ) (owners : List Kind) → page_at pages (17 + i) ≡ page → IsMapPageSound ext pages owners i → AreEntriesSound ext (length pages) tables page i
+  pub entries_of_sound : (i : ℕ) (page : List ℕ) (owners : List Kind) → page_at pages (17 + i) ≡ page → IsMapPageSound shape pages owners i → AreEntriesSound shape (length pages) tables page i
   entries_of_sound i page owners at sound e on =
       let kind = owner_of owners e in
       let bytes : page ≡ map_page owners i = sym at ∙ sound.held.page.bytes_are in
       let entry : entry_of page e ≡ kind_bytes kind = ap (λ b. entry_of b e) bytes ∙ entry_of-map_page owners i e on in
-      let shown : kind_on ext page e ≡ Some kind = ap (kind_stated ext.extent_pages) entry ∙ kind_stated-kind_bytes ext.extent_pages kind (extent_limits ext).1 (sound.held.kinds e on) in
-      subst (IsEntrySound ext (length pages) tables e) (sym shown) (kind_there e kind (sound.owned e on) (λ used. sound.held.there e on used))
+      let shown : kind_on shape page e ≡ Some kind = ap (kind_stated shape.extent_pages) entry ∙ kind_stated-kind_bytes shape.extent_pages kind (extent_limits shape).1 (sound.held.kinds e on) in
+      subst (IsEntrySound shape (length pages) tables e) (sym shown) (kind_there e kind (sound.owned e on) (λ used. sound.held.there e on used))
 
 -- ---- which page breaks the rule
 
-pub map_broken : (ext : Extents) (pages : PageList) (i : ℕ) → i < map_pages ext.cap → ((owners : List Kind) → IsMapPageSound ext pages owners i → ⊥)
-    → ((j : ℕ) → j < i → IsMapPageSound ext pages (owners_on ext pages) j) → IsLowestBreak (BreaksRule ext pages 2) (17 + i)
-map_broken ext pages i low broken before = record {
+pub map_broken : (shape : Shape) (pages : PageList) (i : ℕ) → i < map_pages shape.extents → ((owners : List Kind) → IsMapPageSound shape pages owners i → ⊥)
+    → ((j : ℕ) → j < i → IsMapPageSound shape pages (owners_on shape pages) j) → IsLowestBreak (BreaksRule shape pages 2) (17 + i)
+map_broken shape pages i low broken before = record {
   breaks = BreaksRule.map_page i low broken;
   lowest = go;
 }
   where
-    go : (p : ℕ) → BreaksRule ext pages 2 p → 17 + i ≤ p
-    go _ (BreaksRule.map_page j less none) = elim (cases_lt j i) [ inl early ↦ absurd (none (owners_on ext pages) (before j early)) | inr late ↦ omega (arith, late) ]
+    go : (p : ℕ) → BreaksRule shape pages 2 p → 17 + i ≤ p
+    go _ (BreaksRule.map_page j less none) = elim (cases_lt j i) [ inl early ↦ absurd (none (owners_on shape pages) (before j early)) | inr late ↦ omega (arith, late) ]
 
-pub map_holds : (ext : Extents) (pages : PageList) → ((j : ℕ) → j < map_pages ext.cap → IsMapPageSound ext pages (owners_on ext pages) j)
-    → HoldsUnbroken ((owners : List Kind) × IsMapSound ext pages owners) (BreaksRule ext pages 2)
-map_holds ext pages each = record {
-  holds = (owners_on ext pages, record { count = length-listed ext.cap _; each = each });
+pub map_holds : (shape : Shape) (pages : PageList) → ((j : ℕ) → j < map_pages shape.extents → IsMapPageSound shape pages (owners_on shape pages) j)
+    → HoldsUnbroken ((owners : List Kind) × IsMapSound shape pages owners) (BreaksRule shape pages 2)
+map_holds shape pages each = record {
+  holds = (owners_on shape pages, record { count = length-listed shape.extents _; each = each });
   unbroken = go;
 }
   where
-    go : (p : ℕ) → BreaksRule ext pages 2 p → ⊥
-    go _ (BreaksRule.map_page j less none) = none (owners_on ext pages) (each j less)
+    go : (p : ℕ) → BreaksRule shape pages 2 p → ⊥
+    go _ (BreaksRule.map_page j less none) = none (owners_on shape pages) (each j less)

@@ -3,7 +3,7 @@ use Rattle.std.proofs.Common.{◌+◌, ◌/◌, ◌%◌, ℕ, Option, refl, sym,
 use Rattle.std.specs.List.{AllByRecursion}
 use Rattle.mdc_ast.specs.Definitions.{Definitions}
 use Rattle.store_api.specs.Extents.{first_page_of}
-use Rattle.extent_map.specs.declared.extents.Extents.{Extents}
+use Rattle.store_api.specs.declared.shape.Shape.{Shape}
 use Rattle.row_page.specs.RowPage.{slot_count}
 use Rattle.block_map.specs.MapLines.{used_blocks}
 use Rattle.table_trees.specs.ToldPages.{PageList}
@@ -21,26 +21,26 @@ use Rattle.file_check.proofs.BlockSlotsLemmas.{page_of_row, row_on_page}
 use Rattle.file_check.proofs.JudgingLemmas.{judges_as}
 use Rattle.file_check.proofs.ShownBreaksLemmas.{shown_break, viewed_break}
 
-module _ (ext : Extents) (pages : PageList) (defs : Definitions) (view : DatabaseView) (has : ViewHasTrees ext pages defs view) where
-  breaks_rule7 : (p : ℕ) → BreaksAny (BreaksTableRule (Block RowPages) ext pages) (tables_there view.places) p → BreaksRule ext pages 7 p
+module _ (shape : Shape) (pages : PageList) (defs : Definitions) (view : DatabaseView) (has : ViewHasTrees shape pages defs view) where
+  breaks_rule7 : (p : ℕ) → BreaksAny (BreaksTableRule (Block RowPages) shape pages) (tables_there view.places) p → BreaksRule shape pages 7 p
   breaks_rule7 p broken =
-      let b = shown_break ext pages defs view has used_blocks (BreaksBlockRows ext pages) p broken in
+      let b = shown_break shape pages defs view has used_blocks (BreaksBlockRows shape pages) p broken in
       let def = b.def in
       let block = b.item in
-      subst (BreaksRule ext pages 7) (sym b.breaks.page) (elim b.breaks.unfit [
+      subst (BreaksRule shape pages 7) (sym b.breaks.page) (elim b.breaks.unfit [
         | inl no_form ↦ BreaksRule.row_page b.t def block b.breaks.place b.shows b.breaks.within no_form
         | inr misfit ↦
-            let on = row_on_page ext pages def block b.breaks.place misfit.slot misfit.row b.breaks.within misfit.within misfit.stands in
-            subst (λ n. BreaksRule ext pages 7 (first_page_of ext.cap ext.extent_pages block + n)) on.page_is
+            let on = row_on_page shape pages def block b.breaks.place misfit.slot misfit.row b.breaks.within misfit.within misfit.stands in
+            subst (λ n. BreaksRule shape pages 7 (first_page_of shape.extents shape.extent_pages block + n)) on.page_is
             (BreaksRule.row b.t def block on.placed b.shows on.there (λ fits. misfit.unfit (subst (RowFits def) on.row_is fits)))
       ])
 
-  rule7_breaks : (p : ℕ) → BreaksRule ext pages 7 p → BreaksAny (BreaksTableRule (Block RowPages) ext pages) (tables_there view.places) p
+  rule7_breaks : (p : ℕ) → BreaksRule shape pages 7 p → BreaksAny (BreaksTableRule (Block RowPages) shape pages) (tables_there view.places) p
   rule7_breaks p (BreaksRule.row_page t def block j shows low no_form) =
-      viewed_break ext pages defs view has used_blocks (BreaksBlockRows ext pages) t def block p shows (record { place = j; within = low; page = refl; unfit = inl no_form })
+      viewed_break shape pages defs view has used_blocks (BreaksBlockRows shape pages) t def block p shows (record { place = j; within = low; page = refl; unfit = inl no_form })
   rule7_breaks p (BreaksRule.row t def block placed shows there unfit) =
-      let is = page_of_row ext pages def block placed there in
-      viewed_break ext pages defs view has used_blocks (BreaksBlockRows ext pages) t def block p shows (record {
+      let is = page_of_row shape pages def block placed there in
+      viewed_break shape pages defs view has used_blocks (BreaksBlockRows shape pages) t def block p shows (record {
         place = placed.rid.slot / slot_count def.columns;
         within = is.page;
         page = refl;
@@ -48,7 +48,7 @@ module _ (ext : Extents) (pages : PageList) (defs : Definitions) (view : Databas
       })
 
   -- the tables that were judged are the rule
-  pub judges_rule7 : (found : Option ℕ) → JudgesEach (KeepsTableRule (Block RowPages) ext pages) (BreaksTableRule (Block RowPages) ext pages) (tables_there view.places) found → JudgesRule ext pages 7 (AreRowPagesSound ext pages view) found
+  pub judges_rule7 : (found : Option ℕ) → JudgesEach (KeepsTableRule (Block RowPages) shape pages) (BreaksTableRule (Block RowPages) shape pages) (tables_there view.places) found → JudgesRule shape pages 7 (AreRowPagesSound shape pages view) found
   judges_rule7 found judged =
-      judges_as {P = AllByRecursion (KeepsTableRule (Block RowPages) ext pages) (tables_there view.places)} {Q = AreRowPagesSound ext pages view} {A = BreaksAny (BreaksTableRule (Block RowPages) ext pages) (tables_there view.places)} {B = BreaksRule ext pages 7}
+      judges_as {P = AllByRecursion (KeepsTableRule (Block RowPages) shape pages) (tables_there view.places)} {Q = AreRowPagesSound shape pages view} {A = BreaksAny (BreaksTableRule (Block RowPages) shape pages) (tables_there view.places)} {B = BreaksRule shape pages 7}
       found (λ all. all) breaks_rule7 rule7_breaks judged

@@ -3,7 +3,7 @@ use Rattle.std.proofs.Common.{◌≡◌, ◌<◌, ◌≤◌, ◌+◌, ℕ, zero,
 use Rattle.std.specs.List.{AllByRecursion}
 use Rattle.std.proofs.lemmas.List.{take_more}
 use Rattle.mdc_ast.specs.Definitions.{Definitions}
-use Rattle.extent_map.specs.declared.extents.Extents.{Extents}
+use Rattle.store_api.specs.declared.shape.Shape.{Shape}
 use Rattle.table_trees.specs.ToldPages.{PageList}
 use Rattle.mdc_sound.specs.Breaks.{BreaksRule, IsFirstBreak}
 use Rattle.mdc_sound.specs.SoundDatabase.{KeepAllRules}
@@ -35,62 +35,62 @@ number_at (suc (suc (suc (suc (suc zero))))) low = refl
 number_at (suc (suc (suc (suc (suc (suc i)))))) low = absurd (omega (arith, low))
 
 -- the first rules are kept by a view
-abbrev pub AreKept : Extents → PageList → DatabaseView → ℕ → Type 0
-AreKept ext pages view i = AllByRecursion (λ rule. ViewKeeps rule ext pages view) (take i table_rules)
+abbrev pub AreKept : Shape → PageList → DatabaseView → ℕ → Type 0
+AreKept shape pages view i = AllByRecursion (λ rule. ViewKeeps rule shape pages view) (take i table_rules)
 
 -- and so what the next one rests on is known
-known_at : (ext : Extents) (pages : PageList) (defs : Definitions) (view : DatabaseView) (i : ℕ) → i < 6 → ViewHasBlocks ext pages defs view → AreKept ext pages view i → ViewKnownFor (rule_at i) ext pages defs view
-known_at ext pages defs view zero low blocks kept = blocks
-known_at ext pages defs view (suc zero) low blocks kept = record { blocks = blocks; rule7 = kept.0 }
-known_at ext pages defs view (suc (suc zero)) low blocks kept = record { blocks = blocks; rule7 = kept.0 }
-known_at ext pages defs view (suc (suc (suc zero))) low blocks kept = record { rows = record { blocks = blocks; rule7 = kept.0 }; rule8 = kept.1.0; rule9 = kept.1.1.0 }
-known_at ext pages defs view (suc (suc (suc (suc zero)))) low blocks kept = record { rows = record { blocks = blocks; rule7 = kept.0 }; rule8 = kept.1.0; rule9 = kept.1.1.0 }
-known_at ext pages defs view (suc (suc (suc (suc (suc zero))))) low blocks kept = record { rows = record { blocks = blocks; rule7 = kept.0 }; rule8 = kept.1.0; rule9 = kept.1.1.0 }
-known_at ext pages defs view (suc (suc (suc (suc (suc (suc i)))))) low blocks kept = absurd (omega (arith, low))
+known_at : (shape : Shape) (pages : PageList) (defs : Definitions) (view : DatabaseView) (i : ℕ) → i < 6 → ViewHasBlocks shape pages defs view → AreKept shape pages view i → ViewKnownFor (rule_at i) shape pages defs view
+known_at shape pages defs view zero low blocks kept = blocks
+known_at shape pages defs view (suc zero) low blocks kept = record { blocks = blocks; rule7 = kept.0 }
+known_at shape pages defs view (suc (suc zero)) low blocks kept = record { blocks = blocks; rule7 = kept.0 }
+known_at shape pages defs view (suc (suc (suc zero))) low blocks kept = record { rows = record { blocks = blocks; rule7 = kept.0 }; rule8 = kept.1.0; rule9 = kept.1.1.0 }
+known_at shape pages defs view (suc (suc (suc (suc zero)))) low blocks kept = record { rows = record { blocks = blocks; rule7 = kept.0 }; rule8 = kept.1.0; rule9 = kept.1.1.0 }
+known_at shape pages defs view (suc (suc (suc (suc (suc zero))))) low blocks kept = record { rows = record { blocks = blocks; rule7 = kept.0 }; rule8 = kept.1.0; rule9 = kept.1.1.0 }
+known_at shape pages defs view (suc (suc (suc (suc (suc (suc i)))))) low blocks kept = absurd (omega (arith, low))
 
 -- the block maps are sound, the first of these rules are kept, and no page breaks one before the next
-pub record KeepsFirst (ext : Extents) (defs : Definitions) (i : ℕ) (pages : PageList) : Type 0 where
+pub record KeepsFirst (shape : Shape) (defs : Definitions) (i : ℕ) (pages : PageList) : Type 0 where
   pub view : DatabaseView
-  pub blocks : ViewHasBlocks ext pages defs view
-  pub kept : AreKept ext pages view i
-  pub before : NoneBreaksBefore ext pages (7 + i)
+  pub blocks : ViewHasBlocks shape pages defs view
+  pub kept : AreKept shape pages view i
+  pub before : NoneBreaksBefore shape pages (7 + i)
 
 -- what judging the next says
-abbrev pub SaysNext : Extents → Definitions → ℕ → Option ℕ → PageList → Type 0
-SaysNext ext defs i found pages = (view : DatabaseView) → ViewKnownFor (rule_at i) ext pages defs view → JudgesRule ext pages (rule_number (rule_at i)) (ViewKeeps (rule_at i) ext pages view) found
+abbrev pub SaysNext : Shape → Definitions → ℕ → Option ℕ → PageList → Type 0
+SaysNext shape defs i found pages = (view : DatabaseView) → ViewKnownFor (rule_at i) shape pages defs view → JudgesRule shape pages (rule_number (rule_at i)) (ViewKeeps (rule_at i) shape pages view) found
 
-module _ (ext : Extents) (pages : PageList) (defs : Definitions) where
+module _ (shape : Shape) (pages : PageList) (defs : Definitions) where
   -- none was judged yet
-  pub keeps_none_yet : KeepsBlockMaps ext defs pages → KeepsFirst ext defs 0 pages
+  pub keeps_none_yet : KeepsBlockMaps shape defs pages → KeepsFirst shape defs 0 pages
   keeps_none_yet kept = record { view = kept.view; blocks = kept.known; kept = tt; before = kept.before }
 
-  module _ (i : ℕ) (low : i < 6) (first : KeepsFirst ext defs i pages) where
+  module _ (i : ℕ) (low : i < 6) (first : KeepsFirst shape defs i pages) where
     -- the next one is kept
-    pub keeps_next : (found : Option ℕ) → FindsNone found → SaysNext ext defs i found pages → KeepsFirst ext defs (i + 1) pages
+    pub keeps_next : (found : Option ℕ) → FindsNone found → SaysNext shape defs i found pages → KeepsFirst shape defs (i + 1) pages
     keeps_next found none says =
-        let sound = holds_unbroken (ViewKeeps (rule_at i) ext pages first.view) (BreaksRule ext pages (rule_number (rule_at i))) found none (says first.view (known_at ext pages defs first.view i low first.blocks first.kept)) in
+        let sound = holds_unbroken (ViewKeeps (rule_at i) shape pages first.view) (BreaksRule shape pages (rule_number (rule_at i))) found none (says first.view (known_at shape pages defs first.view i low first.blocks first.kept)) in
         let behind : 7 + i + 1 ≡ 7 + (i + 1) = omega arith in
         record {
           view = first.view;
           blocks = first.blocks;
-          kept = subst (AllByRecursion (λ rule. ViewKeeps rule ext pages first.view)) (sym (take_more table_rules i (Block RowPages) low))
-              (all_next (λ rule. ViewKeeps rule ext pages first.view) (take i table_rules) (rule_at i) first.kept sound.holds);
-          before = subst (NoneBreaksBefore ext pages) behind
-              (none_next ext pages (7 + i) first.before (subst (λ (n : ℕ). (p : ℕ) → BreaksRule ext pages n p → ⊥) (number_at i low) sound.unbroken));
+          kept = subst (AllByRecursion (λ rule. ViewKeeps rule shape pages first.view)) (sym (take_more table_rules i (Block RowPages) low))
+              (all_next (λ rule. ViewKeeps rule shape pages first.view) (take i table_rules) (rule_at i) first.kept sound.holds);
+          before = subst (NoneBreaksBefore shape pages) behind
+              (none_next shape pages (7 + i) first.before (subst (λ (n : ℕ). (p : ℕ) → BreaksRule shape pages n p → ⊥) (number_at i low) sound.unbroken));
         }
 
     -- or it is the first that is broken
-    pub next_broken : (found : Option ℕ) (page : ℕ) → found ≡ Some page → SaysNext ext defs i found pages → IsFirstBreak ext pages (rule_number (rule_at i)) page
+    pub next_broken : (found : Option ℕ) (page : ℕ) → found ≡ Some page → SaysNext shape defs i found pages → IsFirstBreak shape pages (rule_number (rule_at i)) page
     next_broken found page is says =
-        first_break ext pages (rule_number (rule_at i)) (ViewKeeps (rule_at i) ext pages first.view) found page is (subst (NoneBreaksBefore ext pages) (sym (number_at i low)) first.before) (says first.view (known_at ext pages defs first.view i low first.blocks first.kept))
+        first_break shape pages (rule_number (rule_at i)) (ViewKeeps (rule_at i) shape pages first.view) found page is (subst (NoneBreaksBefore shape pages) (sym (number_at i low)) first.before) (says first.view (known_at shape pages defs first.view i low first.blocks first.kept))
 
   -- all are kept
-  pub keeps_all : (i : ℕ) → 6 ≤ i → i ≤ 6 → KeepsFirst ext defs i pages → AreSoundUnbroken ext pages
+  pub keeps_all : (i : ℕ) → 6 ≤ i → i ≤ 6 → KeepsFirst shape defs i pages → AreSoundUnbroken shape pages
   keeps_all i past within first =
       let is : i ≡ 6 = omega (arith, past, within) in
-      let all = subst (AreKept ext pages first.view) is first.kept in
+      let all = subst (AreKept shape pages first.view) is first.kept in
       let trees = first.blocks.trees in
-      let sound : KeepAllRules ext pages first.view = record {
+      let sound : KeepAllRules shape pages first.view = record {
         first = record {
           rule1 = trees.rule1;
           rule2 = trees.rule2;
@@ -106,4 +106,4 @@ module _ (ext : Extents) (pages : PageList) (defs : Definitions) where
         rule11 = all.1.1.1.1.0;
         rule12 = all.1.1.1.1.1.0;
       } in
-      record { sound = (first.view, sound); unbroken = none_at_all ext pages (subst (λ n. NoneBreaksBefore ext pages (7 + n)) is first.before) }
+      record { sound = (first.view, sound); unbroken = none_at_all shape pages (subst (λ n. NoneBreaksBefore shape pages (7 + n)) is first.before) }

@@ -5,7 +5,7 @@ use Rattle.mdc_ast.specs.declared.definition.TableDef.{TableDef}
 use Rattle.mdc_ast.specs.Definitions.{Definitions}
 use Rattle.store_api.specs.declared.fault.Damage.{Damage}
 use Rattle.store_api.specs.declared.pages.Pages.{Ghosts}
-use Rattle.extent_map.specs.declared.extents.Extents.{Extents}
+use Rattle.store_api.specs.declared.shape.Shape.{Shape}
 use Rattle.entry_tree.specs.Forest.{Forest}
 use Rattle.table_trees.specs.ToldPages.{PageList}
 use Rattle.mdc_sound.specs.SpaceRules.{DatabaseView, tables_there}
@@ -29,53 +29,53 @@ use Rattle.file_check.proofs.ShownTablesLemmas.{place_of_def}
 use Rattle.file_check.proofs.TableJudgingLemmas.{table_cells, table_rows, table_trees}
 
 -- its trees stand
-pub trees_known : (rule : TableRule) (ext : Extents) (pages : PageList) (defs : Definitions) (view : DatabaseView) → ViewKnownFor rule ext pages defs view → ViewHasTrees ext pages defs view
-trees_known (Block RowPages) ext pages defs view known = known.trees
-trees_known (Block Counts) ext pages defs view known = known.blocks.trees
-trees_known (Block Cells) ext pages defs view known = known.blocks.trees
-trees_known (Index kind) ext pages defs view known = known.rows.blocks.trees
-trees_known Keys ext pages defs view known = known.rows.blocks.trees
+pub trees_known : (rule : TableRule) (shape : Shape) (pages : PageList) (defs : Definitions) (view : DatabaseView) → ViewKnownFor rule shape pages defs view → ViewHasTrees shape pages defs view
+trees_known (Block RowPages) shape pages defs view known = known.trees
+trees_known (Block Counts) shape pages defs view known = known.blocks.trees
+trees_known (Block Cells) shape pages defs view known = known.blocks.trees
+trees_known (Index kind) shape pages defs view known = known.rows.blocks.trees
+trees_known Keys shape pages defs view known = known.rows.blocks.trees
 
 -- what is known of a table of the view
-table_known : (rule : TableRule) (ext : Extents) (pages : PageList) (defs : Definitions) (view : DatabaseView) (i : ℕ) (table : TableView) → ViewKnownFor rule ext pages defs view
-    → slice_get view.places i ≡ Some (Some table) → TableKnownFor rule ext pages table.def table.map
-table_known (Block RowPages) ext pages defs view i table known at = table_trees ext pages defs view i table at known
-table_known (Block Counts) ext pages defs view i table known at = table_rows ext pages defs view i table at known
-table_known (Block Cells) ext pages defs view i table known at = table_rows ext pages defs view i table at known
-table_known (Index kind) ext pages defs view i table known at = table_cells ext pages defs view i table at known
-table_known Keys ext pages defs view i table known at = table_cells ext pages defs view i table at known
+table_known : (rule : TableRule) (shape : Shape) (pages : PageList) (defs : Definitions) (view : DatabaseView) (i : ℕ) (table : TableView) → ViewKnownFor rule shape pages defs view
+    → slice_get view.places i ≡ Some (Some table) → TableKnownFor rule shape pages table.def table.map
+table_known (Block RowPages) shape pages defs view i table known at = table_trees shape pages defs view i table at known
+table_known (Block Counts) shape pages defs view i table known at = table_rows shape pages defs view i table at known
+table_known (Block Cells) shape pages defs view i table known at = table_rows shape pages defs view i table at known
+table_known (Index kind) shape pages defs view i table known at = table_cells shape pages defs view i table at known
+table_known Keys shape pages defs view i table known at = table_cells shape pages defs view i table at known
 
 -- of a definition in a place
-def_known : (rule : TableRule) (ext : Extents) (pages : PageList) (defs : Definitions) (view : DatabaseView) (i : ℕ) (def : TableDef) → ViewKnownFor rule ext pages defs view
-    → slice_get defs i ≡ Some (Some def) → (map_tree : Forest) × TableKnownFor rule ext pages def map_tree
-def_known rule ext pages defs view i def known at =
-    let there = place_with view.places i def (place_of_def ext pages defs view (trees_known rule ext pages defs view known) i (Some def) at) in
-    (there.0.map, subst (λ (d : TableDef). TableKnownFor rule ext pages d there.0.map) there.2 (table_known rule ext pages defs view i there.0 known there.1))
+def_known : (rule : TableRule) (shape : Shape) (pages : PageList) (defs : Definitions) (view : DatabaseView) (i : ℕ) (def : TableDef) → ViewKnownFor rule shape pages defs view
+    → slice_get defs i ≡ Some (Some def) → (map_tree : Forest) × TableKnownFor rule shape pages def map_tree
+def_known rule shape pages defs view i def known at =
+    let there = place_with view.places i def (place_of_def shape pages defs view (trees_known rule shape pages defs view known) i (Some def) at) in
+    (there.0.map, subst (λ (d : TableDef). TableKnownFor rule shape pages d there.0.map) there.2 (table_known rule shape pages defs view i there.0 known there.1))
 
 -- damage of its table isn't named then
-pub table_unless : {S : Type 0} (g : Ghosts S) (ext : Extents) (old now : S) (defs : Definitions) (i : ℕ) (def : TableDef) (damage : Damage) → (g.state now).is_told ≡ (g.state old).is_told
-    → (g.state now).work ≡ (g.state old).work → slice_get defs i ≡ Some (Some def) → Unless g now (TellsTrees ext def) damage
-    → Unless g old (λ told. (view : DatabaseView) × ViewHasBlocks ext told defs view) damage
-table_unless g ext old now defs i def damage tells works at b told known =
-    b (tells ∙ told) (subst (TellsTrees ext def) (sym works) (def_known (Block RowPages) ext (g.state old).work defs known.0 i def known.1 at))
+pub table_unless : {S : Type 0} (g : Ghosts S) (shape : Shape) (old now : S) (defs : Definitions) (i : ℕ) (def : TableDef) (damage : Damage) → (g.state now).is_told ≡ (g.state old).is_told
+    → (g.state now).work ≡ (g.state old).work → slice_get defs i ≡ Some (Some def) → Unless g now (TellsTrees shape def) damage
+    → Unless g old (λ told. (view : DatabaseView) × ViewHasBlocks shape told defs view) damage
+table_unless g shape old now defs i def damage tells works at b told known =
+    b (tells ∙ told) (subst (TellsTrees shape def) (sym works) (def_known (Block RowPages) shape (g.state old).work defs known.0 i def known.1 at))
 
 -- what was judged later of a definition is judged of its table in the view
-pub judged_in_view : (rule : TableRule) (ext : Extents) (pages later : PageList) (defs : Definitions) (view : DatabaseView) (i : ℕ) (table : TableView) (def : TableDef) (here : Option ℕ) → later ≡ pages
-    → ViewKnownFor rule ext pages defs view → slice_get view.places i ≡ Some (Some table) → table.def ≡ def
-    → ((map_tree : Forest) → TableKnownFor rule ext later def map_tree → Judges (TableKeeps rule ext later def map_tree) (TableBreaks rule ext later def map_tree) here)
-    → Judges (KeepsTableRule rule ext pages table) (BreaksTableRule rule ext pages table) here
-judged_in_view rule ext pages later defs view i table def here same known at is judged =
-    let has = subst (λ (d : TableDef). TableKnownFor rule ext pages d table.map) is (table_known rule ext pages defs view i table known at) in
-    let found = judged table.map (subst (λ (told : PageList). TableKnownFor rule ext told def table.map) (sym same) has) in
-    subst (λ (d : TableDef). Judges (TableKeeps rule ext pages d table.map) (TableBreaks rule ext pages d table.map) here) (sym is)
-    (subst (λ (told : PageList). Judges (TableKeeps rule ext told def table.map) (TableBreaks rule ext told def table.map) here) same found)
+pub judged_in_view : (rule : TableRule) (shape : Shape) (pages later : PageList) (defs : Definitions) (view : DatabaseView) (i : ℕ) (table : TableView) (def : TableDef) (here : Option ℕ) → later ≡ pages
+    → ViewKnownFor rule shape pages defs view → slice_get view.places i ≡ Some (Some table) → table.def ≡ def
+    → ((map_tree : Forest) → TableKnownFor rule shape later def map_tree → Judges (TableKeeps rule shape later def map_tree) (TableBreaks rule shape later def map_tree) here)
+    → Judges (KeepsTableRule rule shape pages table) (BreaksTableRule rule shape pages table) here
+judged_in_view rule shape pages later defs view i table def here same known at is judged =
+    let has = subst (λ (d : TableDef). TableKnownFor rule shape pages d table.map) is (table_known rule shape pages defs view i table known at) in
+    let found = judged table.map (subst (λ (told : PageList). TableKnownFor rule shape told def table.map) (sym same) has) in
+    subst (λ (d : TableDef). Judges (TableKeeps rule shape pages d table.map) (TableBreaks rule shape pages d table.map) here) (sym is)
+    (subst (λ (told : PageList). Judges (TableKeeps rule shape told def table.map) (TableBreaks rule shape told def table.map) here) same found)
 
 -- the tables that were judged are the rule
-pub judges_tables : (rule : TableRule) (ext : Extents) (pages : PageList) (defs : Definitions) (view : DatabaseView) (found : Option ℕ) → ViewKnownFor rule ext pages defs view
-    → JudgesEach (KeepsTableRule rule ext pages) (BreaksTableRule rule ext pages) (tables_there view.places) found → JudgesRule ext pages (rule_number rule) (ViewKeeps rule ext pages view) found
-judges_tables (Block RowPages) ext pages defs view found known judged = judges_rule7 ext pages defs view known.trees found judged
-judges_tables (Block Counts) ext pages defs view found known judged = judges_rule8 ext pages defs view known.blocks.trees found judged
-judges_tables (Block Cells) ext pages defs view found known judged = judges_rule9 ext pages defs view known.blocks.trees found judged
-judges_tables (Index Blocks) ext pages defs view found known judged = judges_rule_10 ext pages defs view known found judged
-judges_tables (Index Rows) ext pages defs view found known judged = judges_rule_11 ext pages defs view known found judged
-judges_tables Keys ext pages defs view found known judged = judges_keys ext pages defs view found known judged
+pub judges_tables : (rule : TableRule) (shape : Shape) (pages : PageList) (defs : Definitions) (view : DatabaseView) (found : Option ℕ) → ViewKnownFor rule shape pages defs view
+    → JudgesEach (KeepsTableRule rule shape pages) (BreaksTableRule rule shape pages) (tables_there view.places) found → JudgesRule shape pages (rule_number rule) (ViewKeeps rule shape pages view) found
+judges_tables (Block RowPages) shape pages defs view found known judged = judges_rule7 shape pages defs view known.trees found judged
+judges_tables (Block Counts) shape pages defs view found known judged = judges_rule8 shape pages defs view known.blocks.trees found judged
+judges_tables (Block Cells) shape pages defs view found known judged = judges_rule9 shape pages defs view known.blocks.trees found judged
+judges_tables (Index Blocks) shape pages defs view found known judged = judges_rule_10 shape pages defs view known found judged
+judges_tables (Index Rows) shape pages defs view found known judged = judges_rule_11 shape pages defs view known found judged
+judges_tables Keys shape pages defs view found known judged = judges_keys shape pages defs view found known judged

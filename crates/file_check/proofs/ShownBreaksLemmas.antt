@@ -3,7 +3,7 @@ use Rattle.std.proofs.Common.{ℕ, List}
 use Rattle.std.specs.Prelude.{Contains}
 use Rattle.mdc_ast.specs.declared.definition.TableDef.{TableDef}
 use Rattle.mdc_ast.specs.Definitions.{Definitions}
-use Rattle.extent_map.specs.declared.extents.Extents.{Extents}
+use Rattle.store_api.specs.declared.shape.Shape.{Shape}
 use Rattle.entry_tree.specs.Forest.{Forest}
 use Rattle.table_trees.specs.ToldPages.{PageList}
 use Rattle.mdc_sound.specs.Breaks.{ShowsTable}
@@ -14,7 +14,7 @@ use Rattle.file_check.specs.Known.{ViewHasTrees}
 use Rattle.file_check.proofs.JudgingLemmas.{breaks_any-member, member-breaks_any}
 use Rattle.file_check.proofs.ShownTablesLemmas.{shown_is_viewed, viewed_is_shown}
 
-module _ (ext : Extents) (pages : PageList) (defs : Definitions) (view : DatabaseView) (has : ViewHasTrees ext pages defs view) {X : Type 0} (items : Forest → List X) (Breaks : TableDef → X → ℕ → Type 0) where
+module _ (shape : Shape) (pages : PageList) (defs : Definitions) (view : DatabaseView) (has : ViewHasTrees shape pages defs view) {X : Type 0} (items : Forest → List X) (Breaks : TableDef → X → ℕ → Type 0) where
   -- an item of a table breaks it
   abbrev BreaksInTable : TableView → ℕ → Type 0
   BreaksInTable table = BreaksAny (Breaks table.def) (items table.map)
@@ -32,11 +32,11 @@ module _ (ext : Extents) (pages : PageList) (defs : Definitions) (view : Databas
       let in_table = member-breaks_any BreaksInTable (tables_there view.places) p broken in
       let table = in_table.0 in
       let in_items = member-breaks_any (Breaks table.def) (items table.map) p in_table.2 in
-      let shown = viewed_is_shown ext pages defs view has table (λ m. Contains (items m) in_items.0) in_table.1 in_items.1 in
+      let shown = viewed_is_shown shape pages defs view has table (λ m. Contains (items m) in_items.0) in_table.1 in_items.1 in
       record { t = shown.0; def = table.def; item = in_items.0; shows = shown.1; breaks = in_items.2 }
 
   pub viewed_break : (t : ℕ) (def : TableDef) (item : X) (p : ℕ) → ShowsTable pages t def (λ map_tree. Contains (items map_tree) item) → Breaks def item p → BreaksAny BreaksInTable (tables_there view.places) p
   viewed_break t def item p shows broken =
-      let shown = shown_is_viewed ext pages defs view has t def (λ d m. Contains (items m) item × Breaks d item p)
+      let shown = shown_is_viewed shape pages defs view has t def (λ d m. Contains (items m) item × Breaks d item p)
       (record { within = shows.within; defines = shows.defines; map = λ m tree. (shows.map m tree, broken) }) in
       breaks_any-member BreaksInTable (tables_there view.places) shown.table p shown.member (breaks_any-member (Breaks shown.table.def) (items shown.table.map) item p shown.holds.0 shown.holds.1)

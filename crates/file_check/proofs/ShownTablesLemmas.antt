@@ -7,11 +7,11 @@ use Rattle.mdc_sound.proofs.SpaceRulesLemmas.{range_at}
 use Rattle.std.proofs.lemmas.Option.{slice_get-get_or}
 use Rattle.mdc_ast.specs.declared.definition.TableDef.{TableDef}
 use Rattle.mdc_ast.specs.Definitions.{Definitions}
-use Rattle.extent_map.specs.declared.extents.Extents.{Extents}
 use Rattle.entry_tree.specs.Forest.{Forest}
 use Rattle.block_map.specs.MapLines.{map_lines}
 use Rattle.stored_catalog.specs.StoredDefinitions.{AreWithinLimits, IsWithinLimits}
 use Rattle.mdc_ast.specs.TableLimits.{IsTableDef}
+use Rattle.store_api.specs.declared.shape.Shape.{Shape}
 use Rattle.table_trees.specs.TableTrees.{map_place, tree_places}
 use Rattle.table_trees.specs.ToldPages.{HasTree, PageList}
 use Rattle.mdc_sound.specs.Breaks.{ShowsTable}
@@ -32,7 +32,7 @@ limits_found defs i def within at =
     let here = (range_at IsWithinLimits 0 16 defs i (Some def) within at).1 in
     subst (λ t. IsTableDef t def) (sym here.stands) here
 
-module _ (ext : Extents) (pages : PageList) (defs : Definitions) (view : DatabaseView) (has : ViewHasTrees ext pages defs view) where
+module _ (shape : Shape) (pages : PageList) (defs : Definitions) (view : DatabaseView) (has : ViewHasTrees shape pages defs view) where
   -- the block map of a table of the view stands
   pub viewed_map : (table : TableView) → Contains (tables_there view.places) table → HasTree pages (map_place table.def) table.map
   viewed_map table there = (each_of (λ (t : TableView). AllZip (HasTree pages) (tree_places t.def) (trees_of_table t)) (tables_there view.places) table has.rule4 there).0
@@ -45,7 +45,7 @@ module _ (ext : Extents) (pages : PageList) (defs : Definitions) (view : Databas
 
   pub shown_is_viewed : (t : ℕ) (def : TableDef) (P : TableDef → Forest → Type 0) → ShowsTable pages t def (P def) → IsShown def P
   shown_is_viewed t def P shows =
-      let viewed = defined_is_viewed ext pages defs view t def has shows.within shows.defines in
+      let viewed = defined_is_viewed shape pages defs view t def has shows.within shows.defines in
       let tree : HasTree pages (map_place def) viewed.table.map = subst (λ (d : TableDef). HasTree pages (map_place d) viewed.table.map) viewed.same (viewed_map viewed.table viewed.member) in
       record { table = viewed.table; member = viewed.member; holds = subst (λ (d : TableDef). P d viewed.table.map) (sym viewed.same) (shows.map viewed.table.map tree) }
 
@@ -53,7 +53,7 @@ module _ (ext : Extents) (pages : PageList) (defs : Definitions) (view : Databas
   pub viewed_is_shown : (table : TableView) (P : Forest → Type 0) → Contains (tables_there view.places) table → P table.map → (t : ℕ) × ShowsTable pages t table.def P
   viewed_is_shown table P there holds =
       let placed = member_is_placed view table there in
-      let defined = viewed_is_defined ext pages defs view placed.0 table has placed.1 in (
+      let defined = viewed_is_defined shape pages defs view placed.0 table has placed.1 in (
         placed.0,
         record {
           within = defined.within;
@@ -75,15 +75,15 @@ module _ (ext : Extents) (pages : PageList) (defs : Definitions) (view : Databas
       take_all i view.places (omega (arith, past, count))
 
   -- its block map stands, and names extents
-  pub member_map : AreBlockMapsSound ext view → (table : TableView) → Contains (tables_there view.places) table → HasBlockMap ext pages table.def table.map
+  pub member_map : AreBlockMapsSound shape view → (table : TableView) → Contains (tables_there view.places) table → HasBlockMap shape pages table.def table.map
   member_map rule6 table member =
-      let sound : IsBlockMapSound ext view.owners table.def table.map = each_of (λ (t : TableView). IsBlockMapSound ext view.owners t.def t.map) (tables_there view.places) table rule6 member in
+      let sound : IsBlockMapSound shape view.owners table.def table.map = each_of (λ (t : TableView). IsBlockMapSound shape view.owners t.def t.map) (tables_there view.places) table rule6 member in
       record {
         tree = viewed_map table member;
         form = record {
-          states = each_as (IsMapLineSound ext view.owners table.def) (λ line. line.state ≤ 2) (map_lines table.map) (λ line inside is. is.state) sound.lines;
+          states = each_as (IsMapLineSound shape view.owners table.def) (λ line. line.state ≤ 2) (map_lines table.map) (λ line inside is. is.state) sound.lines;
           once_each = sound.once_each;
         };
         entries = sound.entries;
-        within = each_as (IsMapLineSound ext view.owners table.def) (λ line. line.block < ext.cap) (map_lines table.map) (λ line inside is. is.within) sound.lines;
+        within = each_as (IsMapLineSound shape view.owners table.def) (λ line. line.block < shape.extents) (map_lines table.map) (λ line inside is. is.within) sound.lines;
       }

@@ -12,8 +12,8 @@ use Rattle.store_api.specs.RunsOverPages.{RunsOverPages}
 use Rattle.store_api.specs.declared.fault.Damage.{Damage}
 use Rattle.store_api.specs.declared.fault.StoreFault.{StoreFault}
 use Rattle.store_api.specs.declared.pages.Pages.{Ghosts}
+use Rattle.store_api.specs.declared.shape.Shape.{Shape}
 use Rattle.store_api.proofs.RunsOverPagesLemmas.{runs_then}
-use Rattle.extent_map.specs.declared.extents.Extents.{Extents}
 use Rattle.key_codec.specs.Keys.{width_of_parts}
 use Rattle.entry_tree.specs.Forest.{Forest, leaf_entries}
 use Rattle.block_map.specs.MapLines.{map_lines, used_blocks}
@@ -42,33 +42,33 @@ use Rattle.file_check.specs.TableIndexes.{AreReadable, AreSoundEntries, BreaksPl
 
 -- ---- one index
 
-module _ (kind : IndexKind) (ext : Extents) (pages : PageList) (def : TableDef) (map_tree : Forest) (index : PlacedIndex) (tree : Forest) (here : HasTree pages index.place tree) where
-  judged_sound : IsSoundTree kind ext pages def map_tree index tree → Judges (IsPlaceSound kind ext pages def map_tree index) (BreaksPlace kind ext pages def map_tree index) None
+module _ (kind : IndexKind) (shape : Shape) (pages : PageList) (def : TableDef) (map_tree : Forest) (index : PlacedIndex) (tree : Forest) (here : HasTree pages index.place tree) where
+  judged_sound : IsSoundTree kind shape pages def map_tree index tree → Judges (IsPlaceSound kind shape pages def map_tree index) (BreaksPlace kind shape pages def map_tree index) None
   judged_sound sound = record {
-    holds = λ other has. subst (IsSoundTree kind ext pages def map_tree index) (one_tree_at pages index.place tree other here has) sound;
+    holds = λ other has. subst (IsSoundTree kind shape pages def map_tree index) (one_tree_at pages index.place tree other here has) sound;
     unbroken = λ p breaks. breaks.1 tree here sound;
   }
 
-  judged_broken : (IsSoundTree kind ext pages def map_tree index tree → ⊥) → Judges (IsPlaceSound kind ext pages def map_tree index) (BreaksPlace kind ext pages def map_tree index) (Some index.place.root)
+  judged_broken : (IsSoundTree kind shape pages def map_tree index tree → ⊥) → Judges (IsPlaceSound kind shape pages def map_tree index) (BreaksPlace kind shape pages def map_tree index) (Some index.place.root)
   judged_broken broken = record {
-    breaks = (refl, λ other has sound. broken (subst (IsSoundTree kind ext pages def map_tree index) (one_tree_at pages index.place other tree has here) sound));
+    breaks = (refl, λ other has sound. broken (subst (IsSoundTree kind shape pages def map_tree index) (one_tree_at pages index.place other tree has here) sound));
     lowest = λ p breaks. omega (arith, breaks.0);
   }
 
 -- what was found of the index in hand is said of the one in its place
-found_in_place : (kind : IndexKind) (ext : Extents) (pages work : PageList) (def : TableDef) (map_tree : Forest) (index : TableIndex) (used spare : List ℕ) (sound : Bool)
+found_in_place : (kind : IndexKind) (shape : Shape) (pages work : PageList) (def : TableDef) (map_tree : Forest) (index : TableIndex) (used spare : List ℕ) (sound : Bool)
     → index.kind ≡ kind → work ≡ pages → used ≡ used_blocks map_tree → spare ≡ spare_blocks kind map_tree
-    → (AreReadable ext work def used → (tree : Forest) → HasTree work (place_of_tree index.tree) tree
-    → IsTrue sound ↔ AreSoundEntries (entries_of_blocks index.kind ext work def index.parts used) spare (width_of_parts def.columns index.parts) (leaf_entries tree))
-    → AreReadable ext pages def (used_blocks map_tree) → (tree : Forest) → HasTree pages (place_of_tree index.tree) tree → IsTrue sound ↔ IsSoundTree kind ext pages def map_tree (place_of_index index) tree
-found_in_place kind ext pages work def map_tree index used spare sound kind_is same used_is spare_is found readable tree has =
+    → (AreReadable shape work def used → (tree : Forest) → HasTree work (place_of_tree index.tree) tree
+    → IsTrue sound ↔ AreSoundEntries (entries_of_blocks index.kind shape work def index.parts used) spare (width_of_parts def.columns index.parts) (leaf_entries tree))
+    → AreReadable shape pages def (used_blocks map_tree) → (tree : Forest) → HasTree pages (place_of_tree index.tree) tree → IsTrue sound ↔ IsSoundTree kind shape pages def map_tree (place_of_index index) tree
+found_in_place kind shape pages work def map_tree index used spare sound kind_is same used_is spare_is found readable tree has =
     let width = width_of_parts def.columns index.parts in
-    let first = found (subst (λ (blocks : List ℕ). AreReadable ext work def blocks) (sym used_is) (subst (λ (told : PageList). AreReadable ext told def (used_blocks map_tree)) (sym same) readable)) tree
+    let first = found (subst (λ (blocks : List ℕ). AreReadable shape work def blocks) (sym used_is) (subst (λ (told : PageList). AreReadable shape told def (used_blocks map_tree)) (sym same) readable)) tree
     (subst (λ (told : PageList). HasTree told (place_of_tree index.tree) tree) (sym same) has) in
-    subst (λ (k : IndexKind). IsTrue sound ↔ AreSoundEntries (entries_of_blocks k ext pages def index.parts (used_blocks map_tree)) (spare_blocks kind map_tree) width (leaf_entries tree)) kind_is
-    (subst (λ (told : PageList). IsTrue sound ↔ AreSoundEntries (entries_of_blocks index.kind ext told def index.parts (used_blocks map_tree)) (spare_blocks kind map_tree) width (leaf_entries tree)) same
-    (subst (λ (blocks : List ℕ). IsTrue sound ↔ AreSoundEntries (entries_of_blocks index.kind ext work def index.parts blocks) (spare_blocks kind map_tree) width (leaf_entries tree)) used_is
-    (subst (λ (blocks : List ℕ). IsTrue sound ↔ AreSoundEntries (entries_of_blocks index.kind ext work def index.parts used) blocks width (leaf_entries tree)) spare_is first)))
+    subst (λ (k : IndexKind). IsTrue sound ↔ AreSoundEntries (entries_of_blocks k shape pages def index.parts (used_blocks map_tree)) (spare_blocks kind map_tree) width (leaf_entries tree)) kind_is
+    (subst (λ (told : PageList). IsTrue sound ↔ AreSoundEntries (entries_of_blocks index.kind shape told def index.parts (used_blocks map_tree)) (spare_blocks kind map_tree) width (leaf_entries tree)) same
+    (subst (λ (blocks : List ℕ). IsTrue sound ↔ AreSoundEntries (entries_of_blocks index.kind shape work def index.parts blocks) (spare_blocks kind map_tree) width (leaf_entries tree)) used_is
+    (subst (λ (blocks : List ℕ). IsTrue sound ↔ AreSoundEntries (entries_of_blocks index.kind shape work def index.parts used) blocks width (leaf_entries tree)) spare_is first)))
 
 -- ---- one of a list after the other
 
@@ -89,59 +89,59 @@ member_at xs i x at = (i, slice_get_within xs i x at, get_or_from_slice_get xs i
 -- ---- the next one is judged
 
 -- The index in a place is in hand, and so are the Used blocks and the spare ones.
-pub record IndexInHand {S : Type 0} (g : Ghosts S) (kind : IndexKind) (ext : Extents) (def : TableDef) (old now : S) (i : ℕ) (index : TableIndex) (used spare : List ℕ) : Type 0 where
+pub record IndexInHand {S : Type 0} (g : Ghosts S) (kind : IndexKind) (shape : Shape) (def : TableDef) (old now : S) (i : ℕ) (index : TableIndex) (used spare : List ℕ) : Type 0 where
   pub kind_is : index.kind ≡ kind
   pub place_is : slice_get (indexes_of_kind kind def) i ≡ Some (place_of_index index)
   pub used_are : IsTrue (g.state old).is_told → (map_tree : Forest) → HasTree (g.state old).work (map_place def) map_tree → used ≡ used_blocks map_tree
   pub spare_are : IsTrue (g.state old).is_told → (map_tree : Forest) → HasTree (g.state old).work (map_place def) map_tree → spare ≡ spare_blocks kind map_tree
   pub same : (g.state now).work ≡ (g.state old).work
-  pub runs : RunsOverPages g NoPage AnyPage (Unless g old (TellsIndexes kind ext def)) old now None
+  pub runs : RunsOverPages g NoPage AnyPage (Unless g old (TellsIndexes kind shape def)) old now None
 
-module _ {S : Type 0} {g : Ghosts S} {kind : IndexKind} {ext : Extents} {def : TableDef} {old now : S} {i : ℕ} {index : TableIndex} {used spare : List ℕ} (is : IndexInHand g kind ext def old now i index used spare) where
-  tree_there : (map_tree : Forest) → HasIndexes kind ext (g.state old).work def map_tree → (tree : Forest) × HasTree (g.state old).work (place_of_tree index.tree) tree
+module _ {S : Type 0} {g : Ghosts S} {kind : IndexKind} {shape : Shape} {def : TableDef} {old now : S} {i : ℕ} {index : TableIndex} {used spare : List ℕ} (is : IndexInHand g kind shape def old now i index used spare) where
+  tree_there : (map_tree : Forest) → HasIndexes kind shape (g.state old).work def map_tree → (tree : Forest) × HasTree (g.state old).work (place_of_tree index.tree) tree
   tree_there map_tree has = has.trees (place_of_index index) (member_at (indexes_of_kind kind def) i (place_of_index index) is.place_is)
 
   -- it is read
-  pub runs_index : {new : S} {fault : Option StoreFault} → RunsOverPages g NoPage AnyPage (UnlessReadable g ext now def used (place_of_tree index.tree)) now new fault
-      → RunsOverPages g NoPage AnyPage (Unless g old (TellsIndexes kind ext def)) old new fault
+  pub runs_index : {new : S} {fault : Option StoreFault} → RunsOverPages g NoPage AnyPage (UnlessReadable g shape now def used (place_of_tree index.tree)) now new fault
+      → RunsOverPages g NoPage AnyPage (Unless g old (TellsIndexes kind shape def)) old new fault
   runs_index run = runs_then is.runs run (λ p there mine. mine) (λ p any. any) (λ damage unless told tells. damaged damage unless told tells.0 tells.1)
     where
-      damaged : (damage : Damage) → UnlessReadable g ext now def used (place_of_tree index.tree) damage → IsTrue (g.state old).is_told → (map_tree : Forest) → HasIndexes kind ext (g.state old).work def map_tree → ⊥
+      damaged : (damage : Damage) → UnlessReadable g shape now def used (place_of_tree index.tree) damage → IsTrue (g.state old).is_told → (map_tree : Forest) → HasIndexes kind shape (g.state old).work def map_tree → ⊥
       damaged damage unless told map_tree has =
           let tree = tree_there map_tree has in
           unless (is.runs.works.steady.is_told ∙ told)
-          (subst (λ (blocks : List ℕ). AreReadable ext (g.state now).work def blocks) (sym (is.used_are told map_tree has.map)) (subst (λ (pages : PageList). AreReadable ext pages def (used_blocks map_tree)) (sym is.same) has.used))
+          (subst (λ (blocks : List ℕ). AreReadable shape (g.state now).work def blocks) (sym (is.used_are told map_tree has.map)) (subst (λ (pages : PageList). AreReadable shape pages def (used_blocks map_tree)) (sym is.same) has.used))
           tree.0 (subst (λ (pages : PageList). HasTree pages (place_of_tree index.tree) tree.0) (sym is.same) tree.1)
 
   -- and found to be sound, or not to be
   module _ (sound : Bool)
-      (found : IsTrue (g.state now).is_told → AreReadable ext (g.state now).work def used → (tree : Forest) → HasTree (g.state now).work (place_of_tree index.tree) tree
-      → IsTrue sound ↔ AreSoundEntries (entries_of_blocks index.kind ext (g.state now).work def index.parts used) spare (width_of_parts def.columns index.parts) (leaf_entries tree))
-      (told : IsTrue (g.state old).is_told) (map_tree : Forest) (has : HasIndexes kind ext (g.state old).work def map_tree) (lowest : Option ℕ)
-      (before : JudgesEach (IsPlaceSound kind ext (g.state old).work def map_tree) (BreaksPlace kind ext (g.state old).work def map_tree) (take i (indexes_of_kind kind def)) lowest) where
-    of_tree : IsTrue sound ↔ IsSoundTree kind ext (g.state old).work def map_tree (place_of_index index) (tree_there map_tree has).0
+      (found : IsTrue (g.state now).is_told → AreReadable shape (g.state now).work def used → (tree : Forest) → HasTree (g.state now).work (place_of_tree index.tree) tree
+      → IsTrue sound ↔ AreSoundEntries (entries_of_blocks index.kind shape (g.state now).work def index.parts used) spare (width_of_parts def.columns index.parts) (leaf_entries tree))
+      (told : IsTrue (g.state old).is_told) (map_tree : Forest) (has : HasIndexes kind shape (g.state old).work def map_tree) (lowest : Option ℕ)
+      (before : JudgesEach (IsPlaceSound kind shape (g.state old).work def map_tree) (BreaksPlace kind shape (g.state old).work def map_tree) (take i (indexes_of_kind kind def)) lowest) where
+    of_tree : IsTrue sound ↔ IsSoundTree kind shape (g.state old).work def map_tree (place_of_index index) (tree_there map_tree has).0
     of_tree =
-        found_in_place kind ext (g.state old).work (g.state now).work def map_tree index used spare sound is.kind_is is.same (is.used_are told map_tree has.map) (is.spare_are told map_tree has.map)
+        found_in_place kind shape (g.state old).work (g.state now).work def map_tree index used spare sound is.kind_is is.same (is.used_are told map_tree has.map) (is.spare_are told map_tree has.map)
         (found (is.runs.works.steady.is_told ∙ told)) has.used (tree_there map_tree has).0 (tree_there map_tree has).1
 
-    next : (here lower_now : Option ℕ) → lower_now ≡ lower lowest here → Judges (IsPlaceSound kind ext (g.state old).work def map_tree (place_of_index index)) (BreaksPlace kind ext (g.state old).work def map_tree (place_of_index index)) here
-        → JudgesEach (IsPlaceSound kind ext (g.state old).work def map_tree) (BreaksPlace kind ext (g.state old).work def map_tree) (take (i + 1) (indexes_of_kind kind def)) lower_now
+    next : (here lower_now : Option ℕ) → lower_now ≡ lower lowest here → Judges (IsPlaceSound kind shape (g.state old).work def map_tree (place_of_index index)) (BreaksPlace kind shape (g.state old).work def map_tree (place_of_index index)) here
+        → JudgesEach (IsPlaceSound kind shape (g.state old).work def map_tree) (BreaksPlace kind shape (g.state old).work def map_tree) (take (i + 1) (indexes_of_kind kind def)) lower_now
     next here lower_now lowered judged =
-        let P = IsPlaceSound kind ext (g.state old).work def map_tree in
-        let B = BreaksPlace kind ext (g.state old).work def map_tree in
+        let P = IsPlaceSound kind shape (g.state old).work def map_tree in
+        let B = BreaksPlace kind shape (g.state old).work def map_tree in
         subst (λ (page : Option ℕ). JudgesEach P B (take (i + 1) (indexes_of_kind kind def)) page) (sym lowered) (place_next P B (indexes_of_kind kind def) i (place_of_index index) lowest here is.place_is before judged)
 
-    pub sound_next : sound ≡ true → JudgesEach (IsPlaceSound kind ext (g.state old).work def map_tree) (BreaksPlace kind ext (g.state old).work def map_tree) (take (i + 1) (indexes_of_kind kind def)) lowest
+    pub sound_next : sound ≡ true → JudgesEach (IsPlaceSound kind shape (g.state old).work def map_tree) (BreaksPlace kind shape (g.state old).work def map_tree) (take (i + 1) (indexes_of_kind kind def)) lowest
     sound_next is_sound =
         let tree = tree_there map_tree has in
-        next None lowest (sym (lower-none lowest)) (judged_sound kind ext (g.state old).work def map_tree (place_of_index index) tree.0 tree.1 (of_tree.0 is_sound))
+        next None lowest (sym (lower-none lowest)) (judged_sound kind shape (g.state old).work def map_tree (place_of_index index) tree.0 tree.1 (of_tree.0 is_sound))
 
     pub broken_next : sound ≡ false → (lower_now : Option ℕ) → lower_now ≡ lower lowest (Some index.tree.root)
-        → JudgesEach (IsPlaceSound kind ext (g.state old).work def map_tree) (BreaksPlace kind ext (g.state old).work def map_tree) (take (i + 1) (indexes_of_kind kind def)) lower_now
+        → JudgesEach (IsPlaceSound kind shape (g.state old).work def map_tree) (BreaksPlace kind shape (g.state old).work def map_tree) (take (i + 1) (indexes_of_kind kind def)) lower_now
     broken_next is_none lower_now lowered =
         let tree = tree_there map_tree has in
         next (Some index.tree.root) lower_now lowered
-        (judged_broken kind ext (g.state old).work def map_tree (place_of_index index) tree.0 tree.1 (λ holds. (let is_sound = of_tree.1 holds in absurd (cc (is_sound, is_none)))))
+        (judged_broken kind shape (g.state old).work def map_tree (place_of_index index) tree.0 tree.1 (λ holds. (let is_sound = of_tree.1 holds in absurd (cc (is_sound, is_none)))))
 
 -- ---- what is known of a table
 
@@ -182,40 +182,40 @@ each_of {X} P (y ∷ ys) x all there = go (contains_cases x y ys there) (each_of
     go (inr c) more = more c
 
 -- the trees of a table of the view stand
-module _ (ext : Extents) (pages : PageList) (defs : Definitions) (view : DatabaseView) (t : ℕ) (table : TableView) (at : slice_get view.places t ≡ Some (Some table)) where
+module _ (shape : Shape) (pages : PageList) (defs : Definitions) (view : DatabaseView) (t : ℕ) (table : TableView) (at : slice_get view.places t ≡ Some (Some table)) where
   abbrev tables : List TableView
   tables = tables_there view.places
 
   there : Contains tables table
   there = placed_is_there view.places t table at
 
-  pub table_trees : ViewHasBlocks ext pages defs view → TableHasTrees ext pages table.def table.map
+  pub table_trees : ViewHasBlocks shape pages defs view → TableHasTrees shape pages table.def table.map
   table_trees known =
       let trees = there_at (λ table. AllZip (HasTree pages) (tree_places table.def) (trees_of_table table)) view.places t table at known.trees.rule4 in
       record {
-        map = member_map ext pages defs view known.trees known.rule6 table there;
+        map = member_map shape pages defs view known.trees known.rule6 table there;
         indexes = λ kind index is. tree_in pages (tree_places table.def) (trees_of_table table) index.place trees (is_tree_place kind table.def index is);
       }
 
   -- and its rows
-  pub table_rows : ViewHasRows ext pages defs view → TableHasRows ext pages table.def table.map
+  pub table_rows : ViewHasRows shape pages defs view → TableHasRows shape pages table.def table.map
   table_rows known = record {
     trees = table_trees known.blocks;
     rows = λ block used.
-        each_of (AreBlockRowsSound ext pages table.def) (used_blocks table.map) block
-        (each_of (λ (x : TableView). AllByRecursion (AreBlockRowsSound ext pages x.def) (used_blocks x.map)) tables table known.rule7 there) used;
+        each_of (AreBlockRowsSound shape pages table.def) (used_blocks table.map) block
+        (each_of (λ (x : TableView). AllByRecursion (AreBlockRowsSound shape pages x.def) (used_blocks x.map)) tables table known.rule7 there) used;
   }
 
   -- which are counted right, those of a block of one cell
-  pub table_cells : ViewHasCells ext pages defs view → TableHasCells ext pages table.def table.map
+  pub table_cells : ViewHasCells shape pages defs view → TableHasCells shape pages table.def table.map
   table_cells known =
-      let used = each_of (λ (x : TableView). AllByRecursion (IsUsedCountSound ext pages x.def) (map_lines x.map)) tables table known.rule8.used there in
+      let used = each_of (λ (x : TableView). AllByRecursion (IsUsedCountSound shape pages x.def) (map_lines x.map)) tables table known.rule8.used there in
       let idle = each_of (λ (x : TableView). AllByRecursion IsIdleCountSound (map_lines x.map)) tables table known.rule8.idle there in
       record {
         rows = table_rows known.rows;
-        counts = each_in (IsLineCounted ext pages table.def) (map_lines table.map) (λ line is. record {
-          used = each_of (IsUsedCountSound ext pages table.def) (map_lines table.map) line used is;
+        counts = each_in (IsLineCounted shape pages table.def) (map_lines table.map) (λ line is. record {
+          used = each_of (IsUsedCountSound shape pages table.def) (map_lines table.map) line used is;
           idle = each_of IsIdleCountSound (map_lines table.map) line idle is;
         });
-        cells = each_of (λ (x : TableView). AllByRecursion (IsOfOneCell ext pages x.def) (used_blocks x.map)) tables table known.rule9 there;
+        cells = each_of (λ (x : TableView). AllByRecursion (IsOfOneCell shape pages x.def) (used_blocks x.map)) tables table known.rule9 there;
       }

@@ -7,7 +7,7 @@ use Rattle.std.proofs.lemmas.List.Elements.{All-contains, All-from_recursion}
 use Rattle.mdc_ast.specs.declared.definition.IndexDef.{IndexDef}
 use Rattle.mdc_ast.specs.declared.definition.TableDef.{TableDef}
 use Rattle.store_api.specs.StoreState.{zero_page}
-use Rattle.extent_map.specs.declared.extents.Extents.{Extents}
+use Rattle.store_api.specs.declared.shape.Shape.{Shape}
 use Rattle.extent_map.specs.declared.kind.Kind.{Kind}
 use Rattle.table_page.specs.PageAnswers.{IsNoTablePage}
 use Rattle.table_page.specs.TablePage.{IsTablePageOf, table_page}
@@ -72,8 +72,8 @@ no_table_of_zeros pages t def blank defines = no_blank_table t def (subst (IsTab
 
 -- ---- judged
 
-pub blank_judged : (ext : Extents) (pages : PageList) (owners : List Kind) (t : ℕ) → table_page_at pages t ≡ zero_page → JudgesTablePage ext pages owners t (record { def = None; broken = None })
-blank_judged ext pages owners t blank = record {
+pub blank_judged : (shape : Shape) (pages : PageList) (owners : List Kind) (t : ℕ) → table_page_at pages t ≡ zero_page → JudgesTablePage shape pages owners t (record { def = None; broken = None })
+blank_judged shape pages owners t blank = record {
   defines = λ def defines. no_table_of_zeros pages t def blank defines;
   judged = record {
     holds = blank;
@@ -84,44 +84,44 @@ blank_judged ext pages owners t blank = record {
   };
 }
 
-pub formless_judged : (ext : Extents) (pages : PageList) (owners : List Kind) (t n : ℕ) → n ≡ t → IsFormless pages t → JudgesTablePage ext pages owners t (record { def = None; broken = Some (1 + n) })
-formless_judged ext pages owners t n is formless = record {
+pub formless_judged : (shape : Shape) (pages : PageList) (owners : List Kind) (t n : ℕ) → n ≡ t → IsFormless pages t → JudgesTablePage shape pages owners t (record { def = None; broken = Some (1 + n) })
+formless_judged shape pages owners t n is formless = record {
   defines = formless.1;
   judged = record { breaks = (ap (λ x. 1 + x) is, inl formless); lowest = λ p broken. omega (arith, broken.0, is) };
 }
 
-pub defined_judged : (ext : Extents) (pages : PageList) (owners : List Kind) (t : ℕ) (def : TableDef) (good : Bool) → DefinesTable pages t def → JudgesRoots ext pages owners (tree_roots def) good → good ≡ true
-    → JudgesTablePage ext pages owners t (record { def = Some def; broken = None })
-defined_judged ext pages owners t def good defines judged is = record {
+pub defined_judged : (shape : Shape) (pages : PageList) (owners : List Kind) (t : ℕ) (def : TableDef) (good : Bool) → DefinesTable pages t def → JudgesRoots shape pages owners (tree_roots def) good → good ≡ true
+    → JudgesTablePage shape pages owners t (record { def = Some def; broken = None })
+defined_judged shape pages owners t def good defines judged is = record {
   defines = defines;
   judged = record {
-    holds = (defines, each_place (IsRootPage ext pages owners) (IsIndexPage ext owners) (tree_places def) (λ p root. root.page) all);
+    holds = (defines, each_place (IsRootPage shape pages owners) (IsIndexPage shape owners) (tree_places def) (λ p root. root.page) all);
     unbroken = λ p broken. elim broken.1 [
       | inl formless ↦ formless.1 def defines
       | inr wrong ↦
           let same : wrong.def ≡ def = one_definition t wrong.def def (table_page_at pages t) wrong.defines defines in
           let there : Contains (tree_places def) wrong.place = subst (λ (d : TableDef). Contains (tree_places d) wrong.place) same wrong.is_its in
-          (All-contains (IsRootPage ext pages owners) (map (λ (place : TreePlace). place.root) (tree_places def)) wrong.place.root
-          (All-from_recursion (IsRootPage ext pages owners) (map (λ (place : TreePlace). place.root) (tree_places def)) all) (in_map (λ (place : TreePlace). place.root) (tree_places def) wrong.place there)).shown wrong.wrong
+          (All-contains (IsRootPage shape pages owners) (map (λ (place : TreePlace). place.root) (tree_places def)) wrong.place.root
+          (All-from_recursion (IsRootPage shape pages owners) (map (λ (place : TreePlace). place.root) (tree_places def)) all) (in_map (λ (place : TreePlace). place.root) (tree_places def) wrong.place there)).shown wrong.wrong
     ];
   };
 }
   where
-    all : AllByRecursion (IsRootPage ext pages owners) (map (λ (place : TreePlace). place.root) (tree_places def))
-    all = subst (AllByRecursion (IsRootPage ext pages owners)) (sym (roots_of_places def defines.limits.roots.one_each)) (subst (λ b. JudgesRoots ext pages owners (tree_roots def) b) is judged)
+    all : AllByRecursion (IsRootPage shape pages owners) (map (λ (place : TreePlace). place.root) (tree_places def))
+    all = subst (AllByRecursion (IsRootPage shape pages owners)) (sym (roots_of_places def defines.limits.roots.one_each)) (subst (λ b. JudgesRoots shape pages owners (tree_roots def) b) is judged)
 
-pub misrooted_judged : (ext : Extents) (pages : PageList) (owners : List Kind) (t n : ℕ) (def : TableDef) (good : Bool) → n ≡ t → DefinesTable pages t def → JudgesRoots ext pages owners (tree_roots def) good → good ≡ false
-    → JudgesTablePage ext pages owners t (record { def = Some def; broken = Some (1 + n) })
-misrooted_judged ext pages owners t n def good same defines judged is = record {
+pub misrooted_judged : (shape : Shape) (pages : PageList) (owners : List Kind) (t n : ℕ) (def : TableDef) (good : Bool) → n ≡ t → DefinesTable pages t def → JudgesRoots shape pages owners (tree_roots def) good → good ≡ false
+    → JudgesTablePage shape pages owners t (record { def = Some def; broken = Some (1 + n) })
+misrooted_judged shape pages owners t n def good same defines judged is = record {
   defines = defines;
   judged = record { breaks = (ap (λ x. 1 + x) same, inr wrong); lowest = λ p broken. omega (arith, broken.0, same) };
 }
   where
-    found : (p : ℕ) × Contains (tree_roots def) p × IsNoRootPage ext pages p
-    found = subst (λ b. JudgesRoots ext pages owners (tree_roots def) b) is judged
+    found : (p : ℕ) × Contains (tree_roots def) p × IsNoRootPage shape pages p
+    found = subst (λ b. JudgesRoots shape pages owners (tree_roots def) b) is judged
 
     at : (place : TreePlace) × Contains (tree_places def) place × (place.root ≡ found.0)
     at = from_map (λ (place : TreePlace). place.root) (tree_places def) found.0 (subst (λ (roots : List ℕ). Contains roots found.0) (sym (roots_of_places def defines.limits.roots.one_each)) found.1)
 
-    wrong : HasWrongRoot ext pages t
-    wrong = record { def = def; defines = defines; place = at.0; is_its = at.1; wrong = subst (IsNoRootPage ext pages) (sym at.2) found.2 }
+    wrong : HasWrongRoot shape pages t
+    wrong = record { def = def; defines = defines; place = at.0; is_its = at.1; wrong = subst (IsNoRootPage shape pages) (sym at.2) found.2 }

@@ -9,7 +9,7 @@ use Rattle.mdc_ast.specs.declared.definition.IndexDef.{IndexDef}
 use Rattle.mdc_ast.specs.declared.definition.KeyPart.{KeyPart}
 use Rattle.mdc_ast.specs.declared.definition.TableDef.{TableDef}
 use Rattle.mdc_ast.specs.Database.{fits_all}
-use Rattle.extent_map.specs.declared.extents.Extents.{Extents}
+use Rattle.store_api.specs.declared.shape.Shape.{Shape}
 use Rattle.key_codec.specs.Keys.{ArePartsOf, key_bytes}
 use Rattle.mdc_ast.specs.ValidDatabase.{AreSameAtParts}
 use Rattle.key_codec.proofs.KeyLemmas.{same-key_bytes}
@@ -30,8 +30,8 @@ each_row P rows_at blocks each =
     let (block, listed, inside) = flat_contains rows_at blocks placed there in
     each_of P (rows_at block) placed (each block listed) inside)
 
-rows_fit : (ext : Extents) (pages : PageList) (def : TableDef) (map_tree : Forest) → HasTableRows ext pages def map_tree → AllByRecursion (λ placed. RowFits def placed.row) (rows_in_table ext pages def map_tree)
-rows_fit ext pages def map_tree has = each_row (λ placed. RowFits def placed.row) (rows_in_block ext pages def) (used_blocks map_tree) (λ block there. (has.rows block there).rows)
+rows_fit : (shape : Shape) (pages : PageList) (def : TableDef) (map_tree : Forest) → HasTableRows shape pages def map_tree → AllByRecursion (λ placed. RowFits def placed.row) (rows_in_table shape pages def map_tree)
+rows_fit shape pages def map_tree has = each_row (λ placed. RowFits def placed.row) (rows_in_block shape pages def) (used_blocks map_tree) (λ block there. (has.rows block there).rows)
 
 module _ (columns : List ColumnDef) (parts : List KeyPart) (are : ArePartsOf columns parts) where
   -- two rows have one key exactly where they are the same at its parts
@@ -63,13 +63,13 @@ module _ (columns : List ColumnDef) (parts : List KeyPart) (are : ArePartsOf col
       )
 
 -- whether the keys of a table's rows differ is whether its UNIQUE index is sound
-pub unique_if_differ : (ext : Extents) (pages : PageList) (def : TableDef) (map_tree : Forest) (index : IndexDef) (keys : List (List ℕ)) → ArePartsOf def.columns index.parts → index.unique ≡ true
-    → HasTableRows ext pages def map_tree → AreKeysOf def.columns index.parts keys (rows_in_table ext pages def map_tree)
-    → AllPairs (λ a b. a ≢ b) keys ↔ IsUniqueSound (rows_in_table ext pages def map_tree) index
-unique_if_differ ext pages def map_tree index keys parts unique has are =
-    let rows = rows_in_table ext pages def map_tree in
+pub unique_if_differ : (shape : Shape) (pages : PageList) (def : TableDef) (map_tree : Forest) (index : IndexDef) (keys : List (List ℕ)) → ArePartsOf def.columns index.parts → index.unique ≡ true
+    → HasTableRows shape pages def map_tree → AreKeysOf def.columns index.parts keys (rows_in_table shape pages def map_tree)
+    → AllPairs (λ a b. a ≢ b) keys ↔ IsUniqueSound (rows_in_table shape pages def map_tree) index
+unique_if_differ shape pages def map_tree index keys parts unique has are =
+    let rows = rows_in_table shape pages def map_tree in
     let fit : AllByRecursion (λ placed. IsTrue (fits_all def.columns placed.row.values)) rows =
-    each_as (λ placed. RowFits def placed.row) (λ placed. IsTrue (fits_all def.columns placed.row.values)) rows (λ placed there fits. fits.values) (rows_fit ext pages def map_tree has) in
+    each_as (λ placed. RowFits def placed.row) (λ placed. IsTrue (fits_all def.columns placed.row.values)) rows (λ placed there fits. fits.values) (rows_fit shape pages def map_tree has) in
     let both = keys_differ def.columns index.parts parts rows fit in (
       λ differ is. both.0 (subst (λ (ks : List (List ℕ)). AllPairs (λ a b. a ≢ b) ks) are differ),
       λ sound. subst (λ (ks : List (List ℕ)). AllPairs (λ a b. a ≢ b) ks) (sym are) (both.1 (sound unique)),

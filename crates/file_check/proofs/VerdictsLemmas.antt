@@ -5,7 +5,6 @@ use Rattle.std.proofs.lemmas.Bool.{cases_lt}
 use Rattle.std.proofs.lemmas.Option.{same_Some}
 use Rattle.std.proofs.lemmas.Result.{IfOk-weaker}
 use Rattle.mdc_words.proofs.FaultsLemmas.{counts_fault_as}
-use Rattle.extent_map.specs.declared.extents.Extents.{Extents}
 use Rattle.store_api.specs.Causes.{NoDamage}
 use Rattle.store_api.specs.Frame.{NoPage}
 use Rattle.store_api.specs.RunsOverPages.{RunsOverPages}
@@ -13,6 +12,7 @@ use Rattle.store_api.specs.declared.fault.Damage.{Damage}
 use Rattle.store_api.specs.declared.fault.StoreFault.{StoreFault}
 use Rattle.store_api.specs.declared.fault.StoreFault.TheVariants.{Damaged, Device}
 use Rattle.store_api.specs.declared.pages.Pages.{Ghosts}
+use Rattle.store_api.specs.declared.shape.Shape.{Shape}
 use Rattle.store_api.proofs.RunsOverPagesLemmas.{runs_none, runs_on, runs_then, runs_wider}
 use Rattle.table_trees.specs.ToldPages.{PageList}
 use Rattle.mdc_sound.specs.Breaks.{BreaksRule, IsFirstBreak}
@@ -26,62 +26,62 @@ use Rattle.file_check.proofs.UnlessLemmas.{runs_known}
 -- ---- the numbers of rules
 
 -- there are twelve
-pub rule_within : (ext : Extents) (pages : PageList) (rule p : ℕ) → BreaksRule ext pages rule p → (1 ≤ rule) × (rule ≤ 12)
-rule_within ext pages _ _ (BreaksRule.root none) = (omega arith, omega arith)
-rule_within ext pages _ _ (BreaksRule.missing n p whole is behind before) = (omega arith, omega arith)
-rule_within ext pages _ _ (BreaksRule.map_page i low none) = (omega arith, omega arith)
-rule_within ext pages _ _ (BreaksRule.table t low some none) = (omega arith, omega arith)
-rule_within ext pages _ _ (BreaksRule.root_outside t def place low defines is outside) = (omega arith, omega arith)
-rule_within ext pages _ _ (BreaksRule.root_no_index t def place owners low defines is shows other) = (omega arith, omega arith)
-rule_within ext pages _ _ (BreaksRule.table_name t u a b before low first second same) = (omega arith, omega arith)
-rule_within ext pages _ _ (BreaksRule.index_name t u i j before first second same) = (omega arith, omega arith)
-rule_within ext pages _ _ (BreaksRule.tree t def place low defines is none) = (omega arith, omega arith)
-rule_within ext pages _ _ (BreaksRule.shared t u i j p first second apart) = (omega arith, omega arith)
-rule_within ext pages _ _ (BreaksRule.in_none p owners shows used none) = (omega arith, omega arith)
-rule_within ext pages _ _ (BreaksRule.outside t i p shows out) = (omega arith, omega arith)
-rule_within ext pages _ _ (BreaksRule.not_used t i p owners tree shows not) = (omega arith, omega arith)
-rule_within ext pages _ _ (BreaksRule.map_form t def low defines none) = (omega arith, omega arith)
-rule_within ext pages _ _ (BreaksRule.map_past t def line shows past) = (omega arith, omega arith)
-rule_within ext pages _ _ (BreaksRule.map_other t def line owners shows low holds other) = (omega arith, omega arith)
-rule_within ext pages _ _ (BreaksRule.map_lacks t e def owners shows low holds is) = (omega arith, omega arith)
-rule_within ext pages _ _ (BreaksRule.row_page t def block j shows low not) = (omega arith, omega arith)
-rule_within ext pages _ _ (BreaksRule.row t def block placed shows there not) = (omega arith, omega arith)
-rule_within ext pages _ _ (BreaksRule.used_count t def line shows not) = (omega arith, omega arith)
-rule_within ext pages _ _ (BreaksRule.idle_count t def line shows not) = (omega arith, omega arith)
-rule_within ext pages _ _ (BreaksRule.cell t def block shows not) = (omega arith, omega arith)
-rule_within ext pages _ _ (BreaksRule.composite t def low defines none) = (omega arith, omega arith)
-rule_within ext pages _ _ (BreaksRule.dimension t i root def dim low defines is at none) = (omega arith, omega arith)
-rule_within ext pages _ _ (BreaksRule.record_index t def index low defines is none) = (omega arith, omega arith)
-rule_within ext pages _ _ (BreaksRule.numbers t def shows) = (omega arith, omega arith)
-rule_within ext pages _ _ (BreaksRule.unique t def index is shows) = (omega arith, omega arith)
+pub rule_within : (shape : Shape) (pages : PageList) (rule p : ℕ) → BreaksRule shape pages rule p → (1 ≤ rule) × (rule ≤ 12)
+rule_within shape pages _ _ (BreaksRule.root none) = (omega arith, omega arith)
+rule_within shape pages _ _ (BreaksRule.missing n p whole is behind before) = (omega arith, omega arith)
+rule_within shape pages _ _ (BreaksRule.map_page i low none) = (omega arith, omega arith)
+rule_within shape pages _ _ (BreaksRule.table t low some none) = (omega arith, omega arith)
+rule_within shape pages _ _ (BreaksRule.root_outside t def place low defines is outside) = (omega arith, omega arith)
+rule_within shape pages _ _ (BreaksRule.root_no_index t def place owners low defines is shows other) = (omega arith, omega arith)
+rule_within shape pages _ _ (BreaksRule.table_name t u a b before low first second same) = (omega arith, omega arith)
+rule_within shape pages _ _ (BreaksRule.index_name t u i j before first second same) = (omega arith, omega arith)
+rule_within shape pages _ _ (BreaksRule.tree t def place low defines is none) = (omega arith, omega arith)
+rule_within shape pages _ _ (BreaksRule.shared t u i j p first second apart) = (omega arith, omega arith)
+rule_within shape pages _ _ (BreaksRule.in_none p owners shows used none) = (omega arith, omega arith)
+rule_within shape pages _ _ (BreaksRule.outside t i p shows out) = (omega arith, omega arith)
+rule_within shape pages _ _ (BreaksRule.not_used t i p owners tree shows not) = (omega arith, omega arith)
+rule_within shape pages _ _ (BreaksRule.map_form t def low defines none) = (omega arith, omega arith)
+rule_within shape pages _ _ (BreaksRule.map_past t def line shows past) = (omega arith, omega arith)
+rule_within shape pages _ _ (BreaksRule.map_other t def line owners shows low holds other) = (omega arith, omega arith)
+rule_within shape pages _ _ (BreaksRule.map_lacks t e def owners shows low holds is) = (omega arith, omega arith)
+rule_within shape pages _ _ (BreaksRule.row_page t def block j shows low not) = (omega arith, omega arith)
+rule_within shape pages _ _ (BreaksRule.row t def block placed shows there not) = (omega arith, omega arith)
+rule_within shape pages _ _ (BreaksRule.used_count t def line shows not) = (omega arith, omega arith)
+rule_within shape pages _ _ (BreaksRule.idle_count t def line shows not) = (omega arith, omega arith)
+rule_within shape pages _ _ (BreaksRule.cell t def block shows not) = (omega arith, omega arith)
+rule_within shape pages _ _ (BreaksRule.composite t def low defines none) = (omega arith, omega arith)
+rule_within shape pages _ _ (BreaksRule.dimension t i root def dim low defines is at none) = (omega arith, omega arith)
+rule_within shape pages _ _ (BreaksRule.record_index t def index low defines is none) = (omega arith, omega arith)
+rule_within shape pages _ _ (BreaksRule.numbers t def shows) = (omega arith, omega arith)
+rule_within shape pages _ _ (BreaksRule.unique t def index is shows) = (omega arith, omega arith)
 
-module _ (ext : Extents) (pages : PageList) where
+module _ (shape : Shape) (pages : PageList) where
   -- none breaks a rule before the first, and where none breaks one of twelve, none is broken
-  pub none_yet : NoneBreaksBefore ext pages 1
-  none_yet = record { none = λ other p low broken. omega (arith, low, (rule_within ext pages other p broken).0) }
+  pub none_yet : NoneBreaksBefore shape pages 1
+  none_yet = record { none = λ other p low broken. omega (arith, low, (rule_within shape pages other p broken).0) }
 
-  pub none_at_all : NoneBreaksBefore ext pages 13 → (rule page : ℕ) → BreaksRule ext pages rule page → ⊥
-  none_at_all before rule page broken = before.none rule page (omega (arith, (rule_within ext pages rule page broken).1)) broken
+  pub none_at_all : NoneBreaksBefore shape pages 13 → (rule page : ℕ) → BreaksRule shape pages rule page → ⊥
+  none_at_all before rule page broken = before.none rule page (omega (arith, (rule_within shape pages rule page broken).1)) broken
 
   -- one rule more
-  pub none_next : (rule : ℕ) → NoneBreaksBefore ext pages rule → ((p : ℕ) → BreaksRule ext pages rule p → ⊥) → NoneBreaksBefore ext pages (rule + 1)
+  pub none_next : (rule : ℕ) → NoneBreaksBefore shape pages rule → ((p : ℕ) → BreaksRule shape pages rule p → ⊥) → NoneBreaksBefore shape pages (rule + 1)
   none_next rule before here = record {
     none = λ other p low broken. elim (cases_lt other rule) [
       | inl early ↦ before.none other p early broken
-      | inr late ↦ let same : other ≡ rule = omega (arith, low, late) in here p (subst (λ n. BreaksRule ext pages n p) same broken)
+      | inr late ↦ let same : other ≡ rule = omega (arith, low, late) in here p (subst (λ n. BreaksRule shape pages n p) same broken)
     ];
   }
 
   -- the first that is broken
-  pub first_lowest : (rule page : ℕ) → NoneBreaksBefore ext pages rule → IsLowestBreak (BreaksRule ext pages rule) page → IsFirstBreak ext pages rule page
+  pub first_lowest : (rule page : ℕ) → NoneBreaksBefore shape pages rule → IsLowestBreak (BreaksRule shape pages rule) page → IsFirstBreak shape pages rule page
   first_lowest rule page before broken = record {
     breaks = broken.breaks;
     first = λ other p breaks. elim (cases_lt other rule) [ inl early ↦ absurd (before.none other p early breaks) | inr late ↦ late ];
     lowest = broken.lowest;
   }
 
-  pub first_break : (rule : ℕ) (Holds : Type 0) (found : Option ℕ) (page : ℕ) → found ≡ Some page → NoneBreaksBefore ext pages rule → JudgesRule ext pages rule Holds found → IsFirstBreak ext pages rule page
-  first_break rule Holds found page is before judged = first_lowest rule page before (subst (Judges Holds (BreaksRule ext pages rule)) is judged)
+  pub first_break : (rule : ℕ) (Holds : Type 0) (found : Option ℕ) (page : ℕ) → found ≡ Some page → NoneBreaksBefore shape pages rule → JudgesRule shape pages rule Holds found → IsFirstBreak shape pages rule page
+  first_break rule Holds found page is before judged = first_lowest rule page before (subst (Judges Holds (BreaksRule shape pages rule)) is judged)
 
 -- no page was found
 pub holds_unbroken : (Holds : Type 0) (Breaks : ℕ → Type 0) (found : Option ℕ) → ((page : ℕ) → found ≡ Some page → ⊥) → Judges Holds Breaks found → HoldsUnbroken Holds Breaks
@@ -135,11 +135,11 @@ module _ {S : Type 0} {g : Ghosts S} where
     runs_next Needs enough run = runs_known Known Needs so_far.runs so_far.same (λ told known. enough (so_far.next told known)) run
 
     -- the verdict of the rules that are judged later
-    pub verdict_behind : (ext : Extents) (result : Result Verdict StoreFault)
-        → IfOk result (λ verdict. IsTrue (g.state mid).is_told → Next (g.state mid).work → IsVerdictOf ext (g.state mid).work verdict)
-        → IfOk result (λ verdict. IsTrue (g.state old).is_told → Known (g.state old).work → IsVerdictOf ext (g.state old).work verdict)
-    verdict_behind ext result later =
-        IfOk-weaker result _ _ (λ verdict says told known. (let both = says_next (λ pages. Next pages → IsVerdictOf ext pages verdict) says told known in both.1 both.0)) later
+    pub verdict_behind : (shape : Shape) (result : Result Verdict StoreFault)
+        → IfOk result (λ verdict. IsTrue (g.state mid).is_told → Next (g.state mid).work → IsVerdictOf shape (g.state mid).work verdict)
+        → IfOk result (λ verdict. IsTrue (g.state old).is_told → Known (g.state old).work → IsVerdictOf shape (g.state old).work verdict)
+    verdict_behind shape result later =
+        IfOk-weaker result _ _ (λ verdict says told known. (let both = says_next (λ pages. Next pages → IsVerdictOf shape pages verdict) says told known in both.1 both.0)) later
 
   -- where nothing has to be known, damage is named of pages that aren't told alone
   pub runs_untold : {old new : S} {fault : Option StoreFault} → RunsOverPages g NoPage AnyPage (Unless g old AnyPages) old new fault → RunsOverPages g NoPage AnyPage (UnlessTold g old) old new fault

@@ -9,7 +9,7 @@ use Rattle.std.proofs.lemmas.Option.{slice_get-get_or, unwrap_or-slice_get}
 use Rattle.std.proofs.lemmas.Slice.Zip.{AllZip-long}
 use Rattle.mdc_ast.specs.declared.definition.TableDef.{TableDef}
 use Rattle.mdc_ast.specs.Definitions.{Definitions}
-use Rattle.extent_map.specs.declared.extents.Extents.{Extents}
+use Rattle.store_api.specs.declared.shape.Shape.{Shape}
 use Rattle.extent_map.specs.declared.kind.Kind.{Kind}
 use Rattle.entry_tree.specs.Forest.{Forest, times}
 use Rattle.stored_catalog.specs.StoredDefinitions.{AreWithinLimits, IsWithinLimits}
@@ -108,14 +108,14 @@ view_of pages a (suc n) (Some def ∷ defs) trees limits h =
 
 -- ---- the rule
 
-module _ (ext : Extents) (pages : PageList) (owners : List Kind) (defs : Definitions) (known : HasDefinitions ext pages owners defs) where
+module _ (shape : Shape) (pages : PageList) (owners : List Kind) (defs : Definitions) (known : HasDefinitions shape pages owners defs) where
   there_are : length defs ≡ 16
-  there_are = range_length (IsDefinitionSound ext pages owners) 0 16 defs known.rule3.each
+  there_are = range_length (IsDefinitionSound shape pages owners) 0 16 defs known.rule3.each
 
-  place_is : (t : ℕ) (place : Option TableDef) → slice_get defs t ≡ Some place → IsDefinitionSound ext pages owners t place
+  place_is : (t : ℕ) (place : Option TableDef) → slice_get defs t ≡ Some place → IsDefinitionSound shape pages owners t place
   place_is t place at =
       let same : 0 + t ≡ t = omega arith in
-      subst (λ v. IsDefinitionSound ext pages owners v place) same (range_at (IsDefinitionSound ext pages owners) 0 16 defs t place known.rule3.each at).1
+      subst (λ v. IsDefinitionSound shape pages owners v place) same (range_at (IsDefinitionSound shape pages owners) 0 16 defs t place known.rule3.each at).1
 
   -- a table that a page defines stands in its place
   listed_def : (t : ℕ) (def : TableDef) → t < 16 → DefinesTable pages t def → Contains defs (Some def)
@@ -130,27 +130,27 @@ module _ (ext : Extents) (pages : PageList) (owners : List Kind) (defs : Definit
       go None at = absurd (no_blank_table t def (subst (λ page. IsTablePageOf t def page) (place_is t None at) defines))
       go (Some other) at = at_place other at (one_definition t def other (table_page_at pages t) defines (place_is t (Some other) at).0)
 
-  breaks_of : (p : ℕ) → BreaksAny (LacksTree pages) (all_places defs) p → BreaksRule ext pages 4 p
+  breaks_of : (p : ℕ) → BreaksAny (LacksTree pages) (all_places defs) p → BreaksRule shape pages 4 p
   breaks_of p b =
       let m = member-breaks_any (LacksTree pages) (all_places defs) p b in
       let f = flat_contains places_of_def defs m.0 m.1 in
       go m.0 f.0 f.1 f.2 m.2
     where
-      go : (place : TreePlace) (def : Option TableDef) → Contains defs def → Contains (places_of_def def) place → LacksTree pages place p → BreaksRule ext pages 4 p
+      go : (place : TreePlace) (def : Option TableDef) → Contains defs def → Contains (places_of_def def) place → LacksTree pages place p → BreaksRule shape pages 4 p
       go place None (k, low, at) (j, less, is) lacks = absurd (omega (arith, less))
       go place (Some def) (k, low, at) among lacks =
           let here : slice_get defs k ≡ Some (Some def) = slice_get-get_or defs k (Some def) low ∙ ap Some at in
-          subst (BreaksRule ext pages 4) lacks.0 (BreaksRule.tree k def place (omega (arith, low, there_are)) (place_is k (Some def) here).0 among lacks.1)
+          subst (BreaksRule shape pages 4) lacks.0 (BreaksRule.tree k def place (omega (arith, low, there_are)) (place_is k (Some def) here).0 among lacks.1)
 
-  of_rule : (rule p : ℕ) → BreaksRule ext pages rule p → rule ≡ 4 → BreaksAny (LacksTree pages) (all_places defs) p
+  of_rule : (rule p : ℕ) → BreaksRule shape pages rule p → rule ≡ 4 → BreaksAny (LacksTree pages) (all_places defs) p
   of_rule rule p (BreaksRule.tree t def place within defines among lacks) is =
       breaks_any-member (LacksTree pages) (all_places defs) place place.root (contains_flat places_of_def defs (Some def) place (listed_def t def within defines) among) (refl, lacks)
   of_rule rule p other is = absurd (omega arith)
 
   pub trees_judged : (start now : TreeMarks) (found : Option ℕ) → AreWithinLimits defs → AreMarks (length pages) now → ((p : ℕ) → times_met start p ≡ 0) → JudgesPlaces pages (all_places defs) start now found
-      → JudgesRule ext pages 4 (StandAsCounted pages owners defs now.times.items) found
+      → JudgesRule shape pages 4 (StandAsCounted pages owners defs now.times.items) found
   trees_judged start now found limits marks none judged =
-      judges_as {P = StandAllCounted pages (all_places defs) start now} {Q = StandAsCounted pages owners defs now.times.items} {A = BreaksAny (LacksTree pages) (all_places defs)} {B = BreaksRule ext pages 4} found
+      judges_as {P = StandAllCounted pages (all_places defs) start now} {Q = StandAsCounted pages owners defs now.times.items} {A = BreaksAny (LacksTree pages) (all_places defs)} {B = BreaksRule shape pages 4} found
       (λ all.
       let v = view_of pages 0 16 defs all.trees limits all.stand in record {
         view = record { owners = owners; places = v.places };

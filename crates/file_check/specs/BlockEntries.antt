@@ -2,7 +2,7 @@
 use Rattle.std.specs.Prelude.{Contains, List, Some, length, slice_get, ℕ, ◌≡◌}
 use Rattle.std.specs.List.{AllByRecursion}
 use Rattle.mdc_ast.specs.declared.definition.TableDef.{TableDef}
-use Rattle.extent_map.specs.declared.extents.Extents.{Extents}
+use Rattle.store_api.specs.declared.shape.Shape.{Shape}
 use Rattle.entry_tree.specs.Forest.{Forest, leaf_entries}
 use Rattle.table_trees.specs.ToldPages.{HasTree, PageList}
 use Rattle.mdc_sound.specs.TableRows.{PlacedRow, rows_in_block}
@@ -30,11 +30,11 @@ abbrev pub LacksFirst : PageList → TableDef → List PlacedRow → ℕ → Typ
 LacksFirst pages def rows p = (placed : PlacedRow) × (slice_get rows 0 ≡ Some placed) × BreaksAny (LacksEntry pages def placed) (indexes_of_kind Blocks def) p
 
 -- the same of the rows of a block
-abbrev pub IsBlockEntered : Extents → PageList → TableDef → ℕ → Type 0
-IsBlockEntered ext pages def block = IsFirstEntered pages def (rows_in_block ext pages def block)
+abbrev pub IsBlockEntered : Shape → PageList → TableDef → ℕ → Type 0
+IsBlockEntered shape pages def block = IsFirstEntered pages def (rows_in_block shape pages def block)
 
-abbrev pub LacksBlock : Extents → PageList → TableDef → ℕ → ℕ → Type 0
-LacksBlock ext pages def block = LacksFirst pages def (rows_in_block ext pages def block)
+abbrev pub LacksBlock : Shape → PageList → TableDef → ℕ → ℕ → Type 0
+LacksBlock shape pages def block = LacksFirst pages def (rows_in_block shape pages def block)
 
 -- ---- how many entries there are
 

@@ -3,8 +3,8 @@ use Rattle.std.specs.Prelude.{◌≡◌, ◌≢◌, ◌≤◌, ◌<◌, ◌+◌,
 use Rattle.std.specs.List.{AllByRecursion}
 use Rattle.mdc_words.specs.ByteOrder.{Entry}
 use Rattle.mdc_ast.specs.declared.definition.TableDef.{TableDef}
+use Rattle.store_api.specs.declared.shape.Shape.{Shape}
 use Rattle.extent_map.specs.Owners.{owner_of}
-use Rattle.extent_map.specs.declared.extents.Extents.{Extents}
 use Rattle.extent_map.specs.declared.kind.Kind.{Kind}
 use Rattle.extent_map.specs.declared.kind.Kind.TheVariants.{Block}
 use Rattle.entry_tree.specs.EntryBounds.{IsEntryOf}
@@ -76,5 +76,5 @@ abbrev pub BreaksMapAt : List Kind → TableDef → Forest → ℕ → Type 0
 BreaksMapAt kinds def map_tree p = (p ≡ def.roots.map) × BreaksMap kinds def map_tree
 
 -- what judging a block map answers, where these are the kinds of all extents
-abbrev pub JudgesMap : Extents → List Kind → TableDef → Forest → Option ℕ → Type 0
-JudgesMap ext kinds def map_tree = Judges (IsBlockMapSound ext kinds def map_tree) (BreaksMapAt kinds def map_tree)
+abbrev pub JudgesMap : Shape → List Kind → TableDef → Forest → Option ℕ → Type 0
+JudgesMap shape kinds def map_tree = Judges (IsBlockMapSound shape kinds def map_tree) (BreaksMapAt kinds def map_tree)

@@ -3,7 +3,7 @@ use Rattle.std.specs.Prelude.{AllPairs, Bool, Contains, List, Some, false, true,
 use Rattle.mdc_ast.specs.declared.definition.TableDef.{TableDef}
 use Rattle.mdc_ast.specs.declared.row.Row.{Row}
 use Rattle.store_api.specs.Extents.{first_page_of}
-use Rattle.extent_map.specs.declared.extents.Extents.{Extents}
+use Rattle.store_api.specs.declared.shape.Shape.{Shape}
 use Rattle.row_page.specs.RowPage.{IsRowPage, rows_of, slot_count, slot_row}
 use Rattle.table_trees.specs.ToldPages.{PageList}
 use Rattle.mdc_ast.specs.FittingRows.{RowFits}
@@ -51,50 +51,50 @@ JudgesPage def bytes true = IsFittingPage def bytes
 JudgesPage def bytes false = IsUnfitPage def bytes
 
 -- page p is one of a block, and isn't a row page whose rows fit
-pub record BreaksBlockRows (ext : Extents) (pages : PageList) (def : TableDef) (block p : ℕ) : Type 0 where
+pub record BreaksBlockRows (shape : Shape) (pages : PageList) (def : TableDef) (block p : ℕ) : Type 0 where
   pub place : ℕ
-  pub within : place < ext.extent_pages
-  pub page : p ≡ first_page_of ext.cap ext.extent_pages block + place
-  pub unfit : IsUnfitPage def (block_page ext pages block place)
+  pub within : place < shape.extent_pages
+  pub page : p ≡ first_page_of shape.extents shape.extent_pages block + place
+  pub unfit : IsUnfitPage def (block_page shape pages block place)
 
 -- ---- counts of rows
 
 -- a line counts the rows of its block
-pub record IsLineCounted (ext : Extents) (pages : PageList) (def : TableDef) (line : MapLine) : Type 0 where
-  pub used : IsUsedCountSound ext pages def line
+pub record IsLineCounted (shape : Shape) (pages : PageList) (def : TableDef) (line : MapLine) : Type 0 where
+  pub used : IsUsedCountSound shape pages def line
   pub idle : IsIdleCountSound line
 
 -- or it doesn't
-abbrev pub IsLineMiscounted : Extents → PageList → TableDef → MapLine → Type 0
-IsLineMiscounted ext pages def line = (IsUsedCountSound ext pages def line → ⊥) ⊎ (IsIdleCountSound line → ⊥)
+abbrev pub IsLineMiscounted : Shape → PageList → TableDef → MapLine → Type 0
+IsLineMiscounted shape pages def line = (IsUsedCountSound shape pages def line → ⊥) ⊎ (IsIdleCountSound line → ⊥)
 
 -- p is the first page of a block whose line doesn't
-pub record BreaksLineCount (ext : Extents) (pages : PageList) (def : TableDef) (line : MapLine) (p : ℕ) : Type 0 where
-  pub page : p ≡ first_page_of ext.cap ext.extent_pages line.block
-  pub miscounted : IsLineMiscounted ext pages def line
+pub record BreaksLineCount (shape : Shape) (pages : PageList) (def : TableDef) (line : MapLine) (p : ℕ) : Type 0 where
+  pub page : p ≡ first_page_of shape.extents shape.extent_pages line.block
+  pub miscounted : IsLineMiscounted shape pages def line
 
 -- ---- by the block
 
 -- each line of a block counts its rows
-abbrev pub IsBlockCounted : Extents → PageList → TableDef → Forest → ℕ → Type 0
-IsBlockCounted ext pages def map_tree block = (line : MapLine) → Contains (map_lines map_tree) line → line.block ≡ block → IsLineCounted ext pages def line
+abbrev pub IsBlockCounted : Shape → PageList → TableDef → Forest → ℕ → Type 0
+IsBlockCounted shape pages def map_tree block = (line : MapLine) → Contains (map_lines map_tree) line → line.block ≡ block → IsLineCounted shape pages def line
 
 -- a line of it doesn't
-pub record IsBlockMiscounted (ext : Extents) (pages : PageList) (def : TableDef) (map_tree : Forest) (block : ℕ) : Type 0 where
+pub record IsBlockMiscounted (shape : Shape) (pages : PageList) (def : TableDef) (map_tree : Forest) (block : ℕ) : Type 0 where
   pub line : MapLine
   pub there : Contains (map_lines map_tree) line
   pub names : line.block ≡ block
-  pub miscounted : IsLineMiscounted ext pages def line
+  pub miscounted : IsLineMiscounted shape pages def line
 
 -- a block was judged so
-abbrev pub JudgesCount : Extents → PageList → TableDef → Forest → ℕ → Bool → Type 0
-JudgesCount ext pages def map_tree block true = IsBlockCounted ext pages def map_tree block
-JudgesCount ext pages def map_tree block false = IsBlockMiscounted ext pages def map_tree block
+abbrev pub JudgesCount : Shape → PageList → TableDef → Forest → ℕ → Bool → Type 0
+JudgesCount shape pages def map_tree block true = IsBlockCounted shape pages def map_tree block
+JudgesCount shape pages def map_tree block false = IsBlockMiscounted shape pages def map_tree block
 
 -- p is the first page of a block that is counted wrong
-pub record BreaksBlockCount (ext : Extents) (pages : PageList) (def : TableDef) (map_tree : Forest) (block p : ℕ) : Type 0 where
-  pub page : p ≡ first_page_of ext.cap ext.extent_pages block
-  pub miscounted : IsBlockMiscounted ext pages def map_tree block
+pub record BreaksBlockCount (shape : Shape) (pages : PageList) (def : TableDef) (map_tree : Forest) (block p : ℕ) : Type 0 where
+  pub page : p ≡ first_page_of shape.extents shape.extent_pages block
+  pub miscounted : IsBlockMiscounted shape pages def map_tree block
 
 -- ---- cells
 
@@ -108,6 +108,6 @@ JudgesCell def rows true = ShareCell def rows
 JudgesCell def rows false = ShareCell def rows → ⊥
 
 -- p is the first page of a block with rows of two cells
-pub record BreaksBlockCell (ext : Extents) (pages : PageList) (def : TableDef) (block p : ℕ) : Type 0 where
-  pub page : p ≡ first_page_of ext.cap ext.extent_pages block
-  pub two : IsOfOneCell ext pages def block → ⊥
+pub record BreaksBlockCell (shape : Shape) (pages : PageList) (def : TableDef) (block p : ℕ) : Type 0 where
+  pub page : p ≡ first_page_of shape.extents shape.extent_pages block
+  pub two : IsOfOneCell shape pages def block → ⊥

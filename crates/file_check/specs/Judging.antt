@@ -1,7 +1,7 @@
 -- What judging a rule says of pages: that it holds, or the lowest page that breaks it (docs/FORMAT.md, "Rules").
 use Rattle.std.specs.Prelude.{◌≤◌, ◌⊎◌, ℕ, List, [], ◌∷◌, Option, Some, None, min}
 use Rattle.std.specs.List.{AllByRecursion}
-use Rattle.extent_map.specs.declared.extents.Extents.{Extents}
+use Rattle.store_api.specs.declared.shape.Shape.{Shape}
 use Rattle.table_trees.specs.ToldPages.{PageList}
 use Rattle.mdc_sound.specs.Breaks.{BreaksRule}
 
@@ -21,8 +21,8 @@ Judges Holds Breaks None = HoldsUnbroken Holds Breaks
 Judges Holds Breaks (Some page) = IsLowestBreak Breaks page
 
 -- the same of a whole rule, by its number
-abbrev pub JudgesRule : Extents → PageList → ℕ → Type 0 → Option ℕ → Type 0
-JudgesRule ext pages rule Holds = Judges Holds (BreaksRule ext pages rule)
+abbrev pub JudgesRule : Shape → PageList → ℕ → Type 0 → Option ℕ → Type 0
+JudgesRule shape pages rule Holds = Judges Holds (BreaksRule shape pages rule)
 
 -- ---- several parts
 

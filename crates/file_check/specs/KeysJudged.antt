@@ -6,7 +6,7 @@ use Rattle.mdc_ast.specs.declared.definition.IndexDef.{IndexDef}
 use Rattle.mdc_ast.specs.declared.definition.KeyPart.{KeyPart}
 use Rattle.mdc_ast.specs.declared.definition.TableDef.{TableDef}
 use Rattle.store_api.specs.StoreState.{StoreState}
-use Rattle.extent_map.specs.declared.extents.Extents.{Extents}
+use Rattle.store_api.specs.declared.shape.Shape.{Shape}
 use Rattle.key_codec.specs.Keys.{key_bytes}
 use Rattle.entry_tree.specs.Forest.{Forest}
 use Rattle.block_map.specs.MapLines.{used_blocks}
@@ -16,17 +16,17 @@ use Rattle.mdc_sound.specs.TableRows.{PlacedRow, rows_in_table}
 use Rattle.file_check.specs.Known.{HasBlockMap}
 
 -- the block map of a table stands, the pages of its Used blocks are row pages, and their rows fit
-pub record HasTableRows (ext : Extents) (pages : PageList) (def : TableDef) (map_tree : Forest) : Type 0 where
-  pub map : HasBlockMap ext pages def map_tree
-  pub rows : (block : ℕ) → Contains (used_blocks map_tree) block → AreBlockRowsSound ext pages def block
+pub record HasTableRows (shape : Shape) (pages : PageList) (def : TableDef) (map_tree : Forest) : Type 0 where
+  pub map : HasBlockMap shape pages def map_tree
+  pub rows : (block : ℕ) → Contains (used_blocks map_tree) block → AreBlockRowsSound shape pages def block
 
 -- P holds of the rows of a table, where they are told to be there
-abbrev pub WhereRows : StoreState → Extents → TableDef → (List PlacedRow → Type 0) → Type 0
-WhereRows s ext def P = IsTrue s.is_told → (map_tree : Forest) → HasTableRows ext s.work def map_tree → P (rows_in_table ext s.work def map_tree)
+abbrev pub WhereRows : StoreState → Shape → TableDef → (List PlacedRow → Type 0) → Type 0
+WhereRows s shape def P = IsTrue s.is_told → (map_tree : Forest) → HasTableRows shape s.work def map_tree → P (rows_in_table shape s.work def map_tree)
 
 -- the pages tell a table's rows
-abbrev pub TellsRows : Extents → TableDef → PageList → Type 0
-TellsRows ext def pages = (map_tree : Forest) × HasTableRows ext pages def map_tree
+abbrev pub TellsRows : Shape → TableDef → PageList → Type 0
+TellsRows shape def pages = (map_tree : Forest) × HasTableRows shape pages def map_tree
 
 -- these are the numbers of the rows
 abbrev pub AreNumbersOf : List ℕ → List PlacedRow → Type 0

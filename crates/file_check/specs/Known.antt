@@ -4,7 +4,7 @@ use Rattle.std.specs.List.{AllByRecursion, AllZip, range_with_len}
 use Rattle.mdc_ast.specs.declared.definition.TableDef.{TableDef}
 use Rattle.mdc_ast.specs.Definitions.{Definitions}
 use Rattle.store_api.specs.StoreState.{zero_page}
-use Rattle.extent_map.specs.declared.extents.Extents.{Extents}
+use Rattle.store_api.specs.declared.shape.Shape.{Shape}
 use Rattle.extent_map.specs.declared.kind.Kind.{Kind}
 use Rattle.table_trees.specs.ToldPages.{HasTree, PageList}
 use Rattle.mdc_sound.specs.BlockRules.{AreCellsSound, AreRowPagesSound, IsBlockPageSound}
@@ -28,21 +28,21 @@ abbrev pub defs_there : Definitions → List TableDef
 defs_there defs = flat_map list_of defs
 
 -- table page t has zeros alone, or is that of a definition whose roots are pages of index extents
-abbrev pub IsDefinitionSound : Extents → PageList → List Kind → ℕ → Option TableDef → Type 0
-IsDefinitionSound ext pages owners t None = table_page_at pages t ≡ zero_page
-IsDefinitionSound ext pages owners t (Some def) = DefinesTable pages t def × AreRootsInIndexes ext owners def
+abbrev pub IsDefinitionSound : Shape → PageList → List Kind → ℕ → Option TableDef → Type 0
+IsDefinitionSound shape pages owners t None = table_page_at pages t ≡ zero_page
+IsDefinitionSound shape pages owners t (Some def) = DefinesTable pages t def × AreRootsInIndexes shape owners def
 
 -- so it is of each of the 16, and no two tables and no two record indexes have one name
-pub record AreDefinitionsSound (ext : Extents) (pages : PageList) (owners : List Kind) (defs : Definitions) : Type 0 where
-  pub each : AllZip (IsDefinitionSound ext pages owners) (range_with_len 0 16) defs
+pub record AreDefinitionsSound (shape : Shape) (pages : PageList) (owners : List Kind) (defs : Definitions) : Type 0 where
+  pub each : AllZip (IsDefinitionSound shape pages owners) (range_with_len 0 16) defs
   pub tables_differ : AllPairs (λ a b. a.name ≢ b.name) (defs_there defs)
   pub indexes_differ : AllPairs (λ a b. a.name ≢ b.name) (flat_map (λ def. def.indexes) (defs_there defs))
 
 -- the first three rules hold, with these owners and definitions
-pub record HasDefinitions (ext : Extents) (pages : PageList) (owners : List Kind) (defs : Definitions) : Type 0 where
-  pub rule1 : IsRootSound ext pages
-  pub rule2 : IsMapSound ext pages owners
-  pub rule3 : AreDefinitionsSound ext pages owners defs
+pub record HasDefinitions (shape : Shape) (pages : PageList) (owners : List Kind) (defs : Definitions) : Type 0 where
+  pub rule1 : IsRootSound shape pages
+  pub rule2 : IsMapSound shape pages owners
+  pub rule3 : AreDefinitionsSound shape pages owners defs
 
 -- ---- 4: trees
 
@@ -67,42 +67,42 @@ pub record AreTimesInTrees (pages : PageList) (view : DatabaseView) (times : Lis
   pub each : (p : ℕ) → p < length pages → slice_index_or times p 0 ≡ times_in_trees p view
 
 -- the first four rules hold of a view with these definitions
-pub record ViewHasTrees (ext : Extents) (pages : PageList) (defs : Definitions) (view : DatabaseView) : Type 0 where
+pub record ViewHasTrees (shape : Shape) (pages : PageList) (defs : Definitions) (view : DatabaseView) : Type 0 where
   pub defined : defs_of view ≡ defs
-  pub rule1 : IsRootSound ext pages
-  pub rule2 : IsMapSound ext pages view.owners
-  pub rule3 : AreTablePagesSound ext pages view
+  pub rule1 : IsRootSound shape pages
+  pub rule2 : IsMapSound shape pages view.owners
+  pub rule3 : AreTablePagesSound shape pages view
   pub rule4 : AreTreesSound pages view
   pub split : HasDimensionTrees view
 
 -- ---- 5 to 9: blocks
 
 -- the first six
-pub record ViewHasBlocks (ext : Extents) (pages : PageList) (defs : Definitions) (view : DatabaseView) : Type 0 where
-  pub trees : ViewHasTrees ext pages defs view
-  pub rule5 : AreTreePagesSound ext view
-  pub rule6 : AreBlockMapsSound ext view
+pub record ViewHasBlocks (shape : Shape) (pages : PageList) (defs : Definitions) (view : DatabaseView) : Type 0 where
+  pub trees : ViewHasTrees shape pages defs view
+  pub rule5 : AreTreePagesSound shape view
+  pub rule6 : AreBlockMapsSound shape view
 
 -- each page of a block is a row page of these columns
-abbrev pub BlockHasRowPages : Extents → PageList → TableDef → ℕ → Type 0
-BlockHasRowPages ext pages def block = (j : ℕ) → j < ext.extent_pages → IsBlockPageSound ext pages def block j
+abbrev pub BlockHasRowPages : Shape → PageList → TableDef → ℕ → Type 0
+BlockHasRowPages shape pages def block = (j : ℕ) → j < shape.extent_pages → IsBlockPageSound shape pages def block j
 
 -- the first seven
-pub record ViewHasRows (ext : Extents) (pages : PageList) (defs : Definitions) (view : DatabaseView) : Type 0 where
-  pub blocks : ViewHasBlocks ext pages defs view
-  pub rule7 : AreRowPagesSound ext pages view
+pub record ViewHasRows (shape : Shape) (pages : PageList) (defs : Definitions) (view : DatabaseView) : Type 0 where
+  pub blocks : ViewHasBlocks shape pages defs view
+  pub rule7 : AreRowPagesSound shape pages view
 
 -- the first nine
-pub record ViewHasCells (ext : Extents) (pages : PageList) (defs : Definitions) (view : DatabaseView) : Type 0 where
-  pub rows : ViewHasRows ext pages defs view
-  pub rule8 : AreCountsSound ext pages view
-  pub rule9 : AreCellsSound ext pages view
+pub record ViewHasCells (shape : Shape) (pages : PageList) (defs : Definitions) (view : DatabaseView) : Type 0 where
+  pub rows : ViewHasRows shape pages defs view
+  pub rule8 : AreCountsSound shape pages view
+  pub rule9 : AreCellsSound shape pages view
 
 -- ---- the block map of a table
 
 -- the block map of a table stands, and names extents alone
-pub record HasBlockMap (ext : Extents) (pages : PageList) (def : TableDef) (map_tree : Forest) : Type 0 where
+pub record HasBlockMap (shape : Shape) (pages : PageList) (def : TableDef) (map_tree : Forest) : Type 0 where
   pub tree : HasTree pages (map_place def) map_tree
   pub form : IsMapForm map_tree
   pub entries : AreMapEntries map_tree
-  pub within : AllByRecursion (λ line. line.block < ext.cap) (map_lines map_tree)
+  pub within : AllByRecursion (λ line. line.block < shape.extents) (map_lines map_tree)

@@ -3,7 +3,7 @@ use Rattle.std.specs.Prelude.{List, Option, [], ◌∷◌, ℕ}
 use Rattle.std.specs.List.{AllByRecursion}
 use Rattle.mdc_ast.specs.declared.definition.TableDef.{TableDef}
 use Rattle.mdc_ast.specs.Definitions.{Definitions}
-use Rattle.extent_map.specs.declared.extents.Extents.{Extents}
+use Rattle.store_api.specs.declared.shape.Shape.{Shape}
 use Rattle.entry_tree.specs.Forest.{Forest}
 use Rattle.table_trees.specs.ToldPages.{PageList}
 use Rattle.block_map.specs.MapLines.{map_lines, used_blocks}
@@ -40,55 +40,55 @@ abbrev pub table_rules : List TableRule
 table_rules = Block RowPages ∷ Block Counts ∷ Block Cells ∷ Index Blocks ∷ Index Rows ∷ Keys ∷ []
 
 -- what is known of a view when a rule is judged
-abbrev pub ViewKnownFor : TableRule → Extents → PageList → Definitions → DatabaseView → Type 0
-ViewKnownFor (Block RowPages) ext pages defs view = ViewHasBlocks ext pages defs view
-ViewKnownFor (Block Counts) ext pages defs view = ViewHasRows ext pages defs view
-ViewKnownFor (Block Cells) ext pages defs view = ViewHasRows ext pages defs view
-ViewKnownFor (Index kind) ext pages defs view = ViewHasCells ext pages defs view
-ViewKnownFor Keys ext pages defs view = ViewHasCells ext pages defs view
+abbrev pub ViewKnownFor : TableRule → Shape → PageList → Definitions → DatabaseView → Type 0
+ViewKnownFor (Block RowPages) shape pages defs view = ViewHasBlocks shape pages defs view
+ViewKnownFor (Block Counts) shape pages defs view = ViewHasRows shape pages defs view
+ViewKnownFor (Block Cells) shape pages defs view = ViewHasRows shape pages defs view
+ViewKnownFor (Index kind) shape pages defs view = ViewHasCells shape pages defs view
+ViewKnownFor Keys shape pages defs view = ViewHasCells shape pages defs view
 
 -- a view keeps it
-abbrev pub ViewKeeps : TableRule → Extents → PageList → DatabaseView → Type 0
-ViewKeeps (Block RowPages) ext pages view = AreRowPagesSound ext pages view
-ViewKeeps (Block Counts) ext pages view = AreCountsSound ext pages view
-ViewKeeps (Block Cells) ext pages view = AreCellsSound ext pages view
-ViewKeeps (Index Blocks) ext pages view = AreBlockIndexesSound ext pages view
-ViewKeeps (Index Rows) ext pages view = AreSoundIndexes ext pages view
-ViewKeeps Keys ext pages view = AreKeysSound ext pages view
+abbrev pub ViewKeeps : TableRule → Shape → PageList → DatabaseView → Type 0
+ViewKeeps (Block RowPages) shape pages view = AreRowPagesSound shape pages view
+ViewKeeps (Block Counts) shape pages view = AreCountsSound shape pages view
+ViewKeeps (Block Cells) shape pages view = AreCellsSound shape pages view
+ViewKeeps (Index Blocks) shape pages view = AreBlockIndexesSound shape pages view
+ViewKeeps (Index Rows) shape pages view = AreSoundIndexes shape pages view
+ViewKeeps Keys shape pages view = AreKeysSound shape pages view
 
 -- ---- one table
 
 -- what is known of a table with this block map when a rule is judged
-abbrev pub TableKnownFor : TableRule → Extents → PageList → TableDef → Forest → Type 0
-TableKnownFor (Block RowPages) ext pages def map_tree = TableHasTrees ext pages def map_tree
-TableKnownFor (Block Counts) ext pages def map_tree = TableHasRows ext pages def map_tree
-TableKnownFor (Block Cells) ext pages def map_tree = TableHasRows ext pages def map_tree
-TableKnownFor (Index kind) ext pages def map_tree = TableHasCells ext pages def map_tree
-TableKnownFor Keys ext pages def map_tree = TableHasCells ext pages def map_tree
+abbrev pub TableKnownFor : TableRule → Shape → PageList → TableDef → Forest → Type 0
+TableKnownFor (Block RowPages) shape pages def map_tree = TableHasTrees shape pages def map_tree
+TableKnownFor (Block Counts) shape pages def map_tree = TableHasRows shape pages def map_tree
+TableKnownFor (Block Cells) shape pages def map_tree = TableHasRows shape pages def map_tree
+TableKnownFor (Index kind) shape pages def map_tree = TableHasCells shape pages def map_tree
+TableKnownFor Keys shape pages def map_tree = TableHasCells shape pages def map_tree
 
 -- it keeps the rule
-abbrev pub TableKeeps : TableRule → Extents → PageList → TableDef → Forest → Type 0
-TableKeeps (Block RowPages) ext pages def map_tree = AllByRecursion (AreBlockRowsSound ext pages def) (used_blocks map_tree)
-TableKeeps (Block Counts) ext pages def map_tree = AllByRecursion (IsLineCounted ext pages def) (map_lines map_tree)
-TableKeeps (Block Cells) ext pages def map_tree = AllByRecursion (IsOfOneCell ext pages def) (used_blocks map_tree)
-TableKeeps (Index kind) ext pages def map_tree = AllByRecursion (IsPlaceSound kind ext pages def map_tree) (indexes_of_kind kind def)
-TableKeeps Keys ext pages def map_tree = AreTableKeys def (rows_in_table ext pages def map_tree)
+abbrev pub TableKeeps : TableRule → Shape → PageList → TableDef → Forest → Type 0
+TableKeeps (Block RowPages) shape pages def map_tree = AllByRecursion (AreBlockRowsSound shape pages def) (used_blocks map_tree)
+TableKeeps (Block Counts) shape pages def map_tree = AllByRecursion (IsLineCounted shape pages def) (map_lines map_tree)
+TableKeeps (Block Cells) shape pages def map_tree = AllByRecursion (IsOfOneCell shape pages def) (used_blocks map_tree)
+TableKeeps (Index kind) shape pages def map_tree = AllByRecursion (IsPlaceSound kind shape pages def map_tree) (indexes_of_kind kind def)
+TableKeeps Keys shape pages def map_tree = AreTableKeys def (rows_in_table shape pages def map_tree)
 
 -- it breaks it at a page
-abbrev pub TableBreaks : TableRule → Extents → PageList → TableDef → Forest → ℕ → Type 0
-TableBreaks (Block RowPages) ext pages def map_tree = BreaksAny (BreaksBlockRows ext pages def) (used_blocks map_tree)
-TableBreaks (Block Counts) ext pages def map_tree = BreaksAny (BreaksLineCount ext pages def) (map_lines map_tree)
-TableBreaks (Block Cells) ext pages def map_tree = BreaksAny (BreaksBlockCell ext pages def) (used_blocks map_tree)
-TableBreaks (Index kind) ext pages def map_tree = BreaksAny (BreaksPlace kind ext pages def map_tree) (indexes_of_kind kind def)
-TableBreaks Keys ext pages def map_tree = BreaksTableKeys def (rows_in_table ext pages def map_tree)
+abbrev pub TableBreaks : TableRule → Shape → PageList → TableDef → Forest → ℕ → Type 0
+TableBreaks (Block RowPages) shape pages def map_tree = BreaksAny (BreaksBlockRows shape pages def) (used_blocks map_tree)
+TableBreaks (Block Counts) shape pages def map_tree = BreaksAny (BreaksLineCount shape pages def) (map_lines map_tree)
+TableBreaks (Block Cells) shape pages def map_tree = BreaksAny (BreaksBlockCell shape pages def) (used_blocks map_tree)
+TableBreaks (Index kind) shape pages def map_tree = BreaksAny (BreaksPlace kind shape pages def map_tree) (indexes_of_kind kind def)
+TableBreaks Keys shape pages def map_tree = BreaksTableKeys def (rows_in_table shape pages def map_tree)
 
 -- so does a table of a view
-abbrev pub KeepsTableRule : TableRule → Extents → PageList → TableView → Type 0
-KeepsTableRule rule ext pages table = TableKeeps rule ext pages table.def table.map
+abbrev pub KeepsTableRule : TableRule → Shape → PageList → TableView → Type 0
+KeepsTableRule rule shape pages table = TableKeeps rule shape pages table.def table.map
 
 -- or it breaks it at a page
-abbrev pub BreaksTableRule : TableRule → Extents → PageList → TableView → ℕ → Type 0
-BreaksTableRule rule ext pages table = TableBreaks rule ext pages table.def table.map
+abbrev pub BreaksTableRule : TableRule → Shape → PageList → TableView → ℕ → Type 0
+BreaksTableRule rule shape pages table = TableBreaks rule shape pages table.def table.map
 
 -- ---- what was found
 

@@ -5,7 +5,7 @@ use Rattle.mdc_ast.specs.declared.definition.KeyPart.{KeyPart}
 use Rattle.mdc_ast.specs.declared.definition.TableDef.{TableDef}
 use Rattle.store_api.specs.declared.fault.Damage.{Damage}
 use Rattle.store_api.specs.declared.pages.Pages.{Ghosts}
-use Rattle.extent_map.specs.declared.extents.Extents.{Extents}
+use Rattle.store_api.specs.declared.shape.Shape.{Shape}
 use Rattle.key_codec.specs.Keys.{ArePartsOf, width_of_parts}
 use Rattle.node_page.specs.Node.{number_within}
 use Rattle.entry_tree.specs.Forest.{Forest, leaf_entries}
@@ -69,25 +69,25 @@ pub record AreSoundEntries (wanted : List Entry) (spare : List ℕ) (key : ℕ) 
   pub only : (entry : Entry) → Contains entries entry → Contains wanted entry ⊎ Contains spare (number_within key 4 entry)
 
 -- the entries of the rows in some blocks
-abbrev pub entries_of_blocks : IndexKind → Extents → PageList → TableDef → List KeyPart → List ℕ → List Entry
-entries_of_blocks kind ext pages def parts blocks = map (entry_of_kind kind def parts) (flat_map (rows_in_block ext pages def) blocks)
+abbrev pub entries_of_blocks : IndexKind → Shape → PageList → TableDef → List KeyPart → List ℕ → List Entry
+entries_of_blocks kind shape pages def parts blocks = map (entry_of_kind kind def parts) (flat_map (rows_in_block shape pages def) blocks)
 
 -- an index of a table with this block map is sound
-abbrev pub IsSoundTree : IndexKind → Extents → PageList → TableDef → Forest → PlacedIndex → Forest → Type 0
-IsSoundTree kind ext pages def map_tree index tree =
-    AreSoundEntries (entries_of_blocks kind ext pages def index.parts (used_blocks map_tree)) (spare_blocks kind map_tree) (width_of_parts def.columns index.parts) (leaf_entries tree)
+abbrev pub IsSoundTree : IndexKind → Shape → PageList → TableDef → Forest → PlacedIndex → Forest → Type 0
+IsSoundTree kind shape pages def map_tree index tree =
+    AreSoundEntries (entries_of_blocks kind shape pages def index.parts (used_blocks map_tree)) (spare_blocks kind map_tree) (width_of_parts def.columns index.parts) (leaf_entries tree)
 
 -- so it is, where its tree stands
-abbrev pub IsPlaceSound : IndexKind → Extents → PageList → TableDef → Forest → PlacedIndex → Type 0
-IsPlaceSound kind ext pages def map_tree index = (tree : Forest) → HasTree pages index.place tree → IsSoundTree kind ext pages def map_tree index tree
+abbrev pub IsPlaceSound : IndexKind → Shape → PageList → TableDef → Forest → PlacedIndex → Type 0
+IsPlaceSound kind shape pages def map_tree index = (tree : Forest) → HasTree pages index.place tree → IsSoundTree kind shape pages def map_tree index tree
 
 -- its root is this page, and it isn't sound
-abbrev pub BreaksPlace : IndexKind → Extents → PageList → TableDef → Forest → PlacedIndex → ℕ → Type 0
-BreaksPlace kind ext pages def map_tree index p = (p ≡ index.place.root) × ((tree : Forest) → HasTree pages index.place tree → IsSoundTree kind ext pages def map_tree index tree → ⊥)
+abbrev pub BreaksPlace : IndexKind → Shape → PageList → TableDef → Forest → PlacedIndex → ℕ → Type 0
+BreaksPlace kind shape pages def map_tree index p = (p ≡ index.place.root) × ((tree : Forest) → HasTree pages index.place tree → IsSoundTree kind shape pages def map_tree index tree → ⊥)
 
 -- the indexes of a kind of a table with this block map are judged
-abbrev pub JudgesIndexes : IndexKind → Extents → PageList → TableDef → Forest → Option ℕ → Type 0
-JudgesIndexes kind ext pages def map_tree = JudgesEach (IsPlaceSound kind ext pages def map_tree) (BreaksPlace kind ext pages def map_tree) (indexes_of_kind kind def)
+abbrev pub JudgesIndexes : IndexKind → Shape → PageList → TableDef → Forest → Option ℕ → Type 0
+JudgesIndexes kind shape pages def map_tree = JudgesEach (IsPlaceSound kind shape pages def map_tree) (BreaksPlace kind shape pages def map_tree) (indexes_of_kind kind def)
 
 -- ---- entries that were noted
 
@@ -108,14 +108,14 @@ LacksOne wanted entries = (entry : Entry) × Contains wanted entry × (Contains 
 -- ---- what is known of a table
 
 -- each of these blocks is an extent of row pages
-abbrev pub AreReadable : Extents → PageList → TableDef → List ℕ → Type 0
-AreReadable ext pages def blocks = (block : ℕ) → Contains blocks block → (block < ext.cap) × BlockHasRowPages ext pages def block
+abbrev pub AreReadable : Shape → PageList → TableDef → List ℕ → Type 0
+AreReadable shape pages def blocks = (block : ℕ) → Contains blocks block → (block < shape.extents) × BlockHasRowPages shape pages def block
 
 -- a table's block map and its indexes of a kind stand, and its Used blocks can be read
-pub record HasIndexes (kind : IndexKind) (ext : Extents) (pages : PageList) (def : TableDef) (map_tree : Forest) : Type 0 where
+pub record HasIndexes (kind : IndexKind) (shape : Shape) (pages : PageList) (def : TableDef) (map_tree : Forest) : Type 0 where
   pub map : HasTree pages (map_place def) map_tree
   pub form : IsMapForm map_tree
-  pub used : AreReadable ext pages def (used_blocks map_tree)
+  pub used : AreReadable shape pages def (used_blocks map_tree)
   pub trees : (index : PlacedIndex) → Contains (indexes_of_kind kind def) index → (tree : Forest) × HasTree pages index.place tree
 
 -- damage of a tree: it isn't told to stand
@@ -127,6 +127,6 @@ abbrev pub UnlessMap : {S : Type 0} → Ghosts S → S → TreePlace → Damage 
 UnlessMap g s place damage = IsTrue (g.state s).is_told → (map_tree : Forest) → HasTree (g.state s).work place map_tree → IsMapForm map_tree → ⊥
 
 -- damage where a tree stands and these blocks can be read: the pages aren't told
-abbrev pub UnlessReadable : {S : Type 0} → Ghosts S → Extents → S → TableDef → List ℕ → TreePlace → Damage → Type 0
-UnlessReadable g ext s def blocks place damage =
-    IsTrue (g.state s).is_told → AreReadable ext (g.state s).work def blocks → (tree : Forest) → HasTree (g.state s).work place tree → ⊥
+abbrev pub UnlessReadable : {S : Type 0} → Ghosts S → Shape → S → TableDef → List ℕ → TreePlace → Damage → Type 0
+UnlessReadable g shape s def blocks place damage =
+    IsTrue (g.state s).is_told → AreReadable shape (g.state s).work def blocks → (tree : Forest) → HasTree (g.state s).work place tree → ⊥

@@ -6,8 +6,8 @@ use Rattle.mdc_ast.specs.declared.definition.TableDef.{TableDef}
 use Rattle.mdc_ast.specs.declared.name.Name.{Name}
 use Rattle.mdc_ast.specs.Definitions.{Definitions, is_same}
 use Rattle.store_api.specs.StoreState.{zero_page}
+use Rattle.store_api.specs.declared.shape.Shape.{Shape}
 use Rattle.extent_map.specs.Owners.{IsExtentPage}
-use Rattle.extent_map.specs.declared.extents.Extents.{Extents}
 use Rattle.extent_map.specs.declared.kind.Kind.{Kind}
 use Rattle.stored_catalog.specs.StoredDefinitions.{AreWithinLimits, IsStoredPlace, IsWithinLimits}
 use Rattle.table_page.specs.PageAnswers.{IsNoTablePage}
@@ -27,36 +27,36 @@ use Rattle.file_check.specs.declared.definitions.TablePages.TheVariants.{Sound, 
 -- ---- pages that break it
 
 -- the first two rules hold
-abbrev pub HasOwners : Extents → PageList → Type 0
-HasOwners ext pages = IsRootSound ext pages × (owners : List Kind) × IsMapSound ext pages owners
+abbrev pub HasOwners : Shape → PageList → Type 0
+HasOwners shape pages = IsRootSound shape pages × (owners : List Kind) × IsMapSound shape pages owners
 
 -- ---- roots
 
 -- a page lies in no extent, or the extent map shows that its extent isn't one of trees
-abbrev pub IsNoRootPage : Extents → PageList → ℕ → Type 0
-IsNoRootPage ext pages p = (IsExtentPage ext p → ⊥) ⊎ ((owners : List Kind) × ShowsExtentOf ext pages owners p × (IsIndexPage ext owners p → ⊥))
+abbrev pub IsNoRootPage : Shape → PageList → ℕ → Type 0
+IsNoRootPage shape pages p = (IsExtentPage shape p → ⊥) ⊎ ((owners : List Kind) × ShowsExtentOf shape pages owners p × (IsIndexPage shape owners p → ⊥))
 
 -- a page may be a root: its extent is one of trees, and the extent map shows nothing else
-pub record IsRootPage (ext : Extents) (pages : PageList) (owners : List Kind) (p : ℕ) : Type 0 where
-  pub page : IsIndexPage ext owners p
-  pub shown : IsNoRootPage ext pages p → ⊥
+pub record IsRootPage (shape : Shape) (pages : PageList) (owners : List Kind) (p : ℕ) : Type 0 where
+  pub page : IsIndexPage shape owners p
+  pub shown : IsNoRootPage shape pages p → ⊥
 
 -- each of these pages may be a root, or one of them may not
-abbrev pub JudgesRoots : Extents → PageList → List Kind → List ℕ → Bool → Type 0
-JudgesRoots ext pages owners roots good =
-    MatchBool good (AllByRecursion (IsRootPage ext pages owners) roots) ((p : ℕ) × Contains roots p × IsNoRootPage ext pages p)
+abbrev pub JudgesRoots : Shape → PageList → List Kind → List ℕ → Bool → Type 0
+JudgesRoots shape pages owners roots good =
+    MatchBool good (AllByRecursion (IsRootPage shape pages owners) roots) ((p : ℕ) × Contains roots p × IsNoRootPage shape pages p)
 
 -- the roots of the trees of a table
 abbrev pub tree_roots : TableDef → List ℕ
 tree_roots def = def.roots.map ∷ def.roots.composite ∷ def.roots.dims ++ map (λ index. index.root) def.indexes
 
 -- table t has a root that may be none
-pub record HasWrongRoot (ext : Extents) (pages : PageList) (t : ℕ) : Type 0 where
+pub record HasWrongRoot (shape : Shape) (pages : PageList) (t : ℕ) : Type 0 where
   pub def : TableDef
   pub defines : DefinesTable pages t def
   pub place : TreePlace
   pub is_its : Contains (tree_places def) place
-  pub wrong : IsNoRootPage ext pages place.root
+  pub wrong : IsNoRootPage shape pages place.root
 
 -- ---- one table page
 
@@ -75,17 +75,17 @@ IsFormWithinLimits t (Formed def) = IsWithinLimits t def
 IsFormWithinLimits t Formless = Unit {0}
 
 -- page p is that of table t, and breaks the rule whatever the other table pages are
-abbrev pub BreaksTableAlone : Extents → PageList → ℕ → ℕ → Type 0
-BreaksTableAlone ext pages t p = (p ≡ 1 + t) × (IsFormless pages t ⊎ HasWrongRoot ext pages t)
+abbrev pub BreaksTableAlone : Shape → PageList → ℕ → ℕ → Type 0
+BreaksTableAlone shape pages t p = (p ≡ 1 + t) × (IsFormless pages t ⊎ HasWrongRoot shape pages t)
 
 -- this is the definition of table t, if it has one
 abbrev pub IsDefinitionOf : PageList → ℕ → Option TableDef → Type 0
 IsDefinitionOf pages t def = MatchOption def (IsNoTablePage t (table_page_at pages t)) (DefinesTable pages t)
 
 -- what table page t defines, and that it is sound or breaks the rule
-pub record JudgesTablePage (ext : Extents) (pages : PageList) (owners : List Kind) (t : ℕ) (page : JudgedPage) : Type 0 where
+pub record JudgesTablePage (shape : Shape) (pages : PageList) (owners : List Kind) (t : ℕ) (page : JudgedPage) : Type 0 where
   pub defines : IsDefinitionOf pages t page.def
-  pub judged : Judges (IsDefinitionSound ext pages owners t page.def) (BreaksTableAlone ext pages t) page.broken
+  pub judged : Judges (IsDefinitionSound shape pages owners t page.def) (BreaksTableAlone shape pages t) page.broken
 
 -- ---- names
 
@@ -115,9 +115,9 @@ first_shared p (def ∷ later) = if shares_later def later then Some p else firs
 -- ---- what is answered
 
 -- the definitions of all pages, and rule 3 holds of them; or the lowest page that breaks it
-abbrev pub JudgesTablePages : Extents → PageList → List Kind → TablePages → Type 0
-JudgesTablePages ext pages owners (Sound defs) = HoldsUnbroken (AreDefinitionsSound ext pages owners defs.items) (BreaksRule ext pages 3)
-JudgesTablePages ext pages owners (Broken page) = IsLowestBreak (BreaksRule ext pages 3) page
+abbrev pub JudgesTablePages : Shape → PageList → List Kind → TablePages → Type 0
+JudgesTablePages shape pages owners (Sound defs) = HoldsUnbroken (AreDefinitionsSound shape pages owners defs.items) (BreaksRule shape pages 3)
+JudgesTablePages shape pages owners (Broken page) = IsLowestBreak (BreaksRule shape pages 3) page
 
 -- the definitions may be written to their pages, told or not
 abbrev pub AreDefsWithinLimits : TablePages → Type 0

@@ -3,13 +3,13 @@ use Rattle.std.specs.Prelude.{List, None, Option, Some, [], flat_map, if◌then�
 use Rattle.std.specs.List.{AllZip}
 use Rattle.mdc_ast.specs.declared.definition.TableDef.{TableDef}
 use Rattle.mdc_ast.specs.Definitions.{Definitions}
+use Rattle.store_api.specs.declared.shape.Shape.{Shape}
 use Rattle.entry_tree.specs.Forest.{Forest, times}
 use Rattle.table_trees.specs.TableTrees.{TreePlace, tree_places}
 use Rattle.table_trees.specs.ToldPages.{HasTree, PageList}
 use Rattle.file_check.specs.Judging.{BreaksAny, Judges, JudgesRule}
 use Rattle.file_check.specs.TreeMarks.{times_met}
 use Rattle.file_check.specs.declared.tree_marks.TreeMarks.{TreeMarks}
-use Rattle.extent_map.specs.declared.extents.Extents.{Extents}
 use Rattle.extent_map.specs.declared.kind.Kind.{Kind}
 use Rattle.mdc_sound.specs.SpaceRules.{DatabaseView}
 use Rattle.file_check.specs.Known.{AreTimesInTrees, HasTheirTrees}
@@ -54,8 +54,8 @@ pub record StandAsCounted (pages : PageList) (owners : List Kind) (defs : Defini
   pub counted : AreTimesInTrees pages view times
 
 -- so it is, or this is the lowest root at which no tree stands
-abbrev pub JudgesTrees : Extents → PageList → List Kind → Definitions → TreesSeen → Type 0
-JudgesTrees ext pages owners defs seen = JudgesRule ext pages 4 (StandAsCounted pages owners defs seen.times.items) seen.broken
+abbrev pub JudgesTrees : Shape → PageList → List Kind → Definitions → TreesSeen → Type 0
+JudgesTrees shape pages owners defs seen = JudgesRule shape pages 4 (StandAsCounted pages owners defs seen.times.items) seen.broken
 
 -- ---- the pages of an extent
 

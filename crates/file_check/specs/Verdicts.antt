@@ -1,6 +1,6 @@
 -- When a verdict is that of some pages.
 use Rattle.std.specs.Prelude.{ℕ}
-use Rattle.extent_map.specs.declared.extents.Extents.{Extents}
+use Rattle.store_api.specs.declared.shape.Shape.{Shape}
 use Rattle.table_trees.specs.ToldPages.{PageList}
 use Rattle.mdc_sound.specs.Breaks.{BreaksRule, IsFirstBreak}
 use Rattle.mdc_sound.specs.SoundDatabase.{IsSoundDatabase}
@@ -8,11 +8,11 @@ use Rattle.file_check.specs.declared.verdict.Verdict.{Verdict}
 use Rattle.file_check.specs.declared.verdict.Verdict.TheVariants.{Sound, Broken}
 
 -- the pages are sound, and no page of them breaks a rule
-pub record AreSoundUnbroken (ext : Extents) (pages : PageList) : Type 0 where
-  pub sound : IsSoundDatabase ext pages
-  pub unbroken : (rule page : ℕ) → BreaksRule ext pages rule page → ⊥
+pub record AreSoundUnbroken (shape : Shape) (pages : PageList) : Type 0 where
+  pub sound : IsSoundDatabase shape pages
+  pub unbroken : (rule page : ℕ) → BreaksRule shape pages rule page → ⊥
 
 -- they are sound, or this is the first rule that is broken and the lowest page that breaks it
-abbrev pub IsVerdictOf : Extents → PageList → Verdict → Type 0
-IsVerdictOf ext pages Sound = AreSoundUnbroken ext pages
-IsVerdictOf ext pages (Broken damage) = IsFirstBreak ext pages damage.rule damage.page
+abbrev pub IsVerdictOf : Shape → PageList → Verdict → Type 0
+IsVerdictOf shape pages Sound = AreSoundUnbroken shape pages
+IsVerdictOf shape pages (Broken damage) = IsFirstBreak shape pages damage.rule damage.page

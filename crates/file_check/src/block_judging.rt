@@ -18,10 +18,9 @@ use crate::lowest::lower;
 use crate::row_keys::push_numbers;
 use crate::rows::rows_of_block;
 use block_map::BlockState;
-use extent_map::Extents;
 use mdc_ast::TableDef;
 use std::alloc::Global;
-use store_api::{Pages, StoreFault};
+use store_api::{Pages, Shape, StoreFault};
 
 /// What the rows of the Used blocks say, as far as these were read.
 #[derive(Drop)]
@@ -41,18 +40,18 @@ pub(crate) struct UsedRows {
 /// Judges counts, cells and entries of the Used blocks of a table, and gathers the numbers of their rows.
 pub(crate) fn judge_used_blocks<P: Pages>(
     alloc: Global,
-    ext: &Extents,
+    shape: Shape,
     pages: &mut P,
     def: &TableDef,
 ) -> Result<UsedRows, StoreFault>
     requires defined { IsTableDef def.now.number def.now }
     requires going { (P.state pages.old).ended ≡ false }
-    ensures judged { IfOk result (λ found. IsTrue (P.state pages.old).is_told → (map_tree : Forest) → TableHasRows ext.now (P.state pages.old).work def.now map_tree
-        → JudgesAllUsed ext.now (P.state pages.old).work def.now map_tree found) }
+    ensures judged { IfOk result (λ found. IsTrue (P.state pages.old).is_told → (map_tree : Forest) → TableHasRows shape (P.state pages.old).work def.now map_tree
+        → JudgesAllUsed shape (P.state pages.old).work def.now map_tree found) }
     ensures same { (P.state pages.new).work ≡ (P.state pages.old).work }
-    ensures runs { RunsOverPages P.Pages NoPage AnyPage (Unless P.Pages pages.old (TellsTable ext.now def.now)) pages.old pages.new (fault_of result) }
+    ensures runs { RunsOverPages P.Pages NoPage AnyPage (Unless P.Pages pages.old (TellsTable shape def.now)) pages.old pages.new (fault_of result) }
 {
-    let blocks = blocks_in_state(alloc, ext, pages, def, BlockState::Used)?;
+    let blocks = blocks_in_state(alloc, shape, pages, def, BlockState::Used)?;
     let mut found = UsedRows {
         blocks: blocks.as_slice().len(),
         counts: None,
@@ -61,7 +60,7 @@ pub(crate) fn judge_used_blocks<P: Pages>(
         numbers: Vec::new(alloc),
     };
     for block in blocks.as_slice() {
-        judge_used_block(alloc, ext, pages, def, *block, &mut found)?;
+        judge_used_block(alloc, shape, pages, def, *block, &mut found)?;
     }
     Ok(found)
 }
@@ -69,27 +68,27 @@ pub(crate) fn judge_used_blocks<P: Pages>(
 /// The same of one block more.
 fn judge_used_block<P: Pages>(
     alloc: Global,
-    ext: &Extents,
+    shape: Shape,
     pages: &mut P,
     def: &TableDef,
     block: u32,
     found: &mut UsedRows,
 ) -> Result<(), StoreFault>
     requires defined { IsTableDef def.now.number def.now }
-    requires below { block < ext.now.cap }
+    requires below { block < shape.extents }
     requires going { (P.state pages.old).ended ≡ false }
-    ensures judged { OnOk result (IsTrue (P.state pages.old).is_told → (map_tree : Forest) → TableHasRows ext.now (P.state pages.old).work def.now map_tree
-        → Contains (used_blocks map_tree) block → (done : List ℕ) → JudgesUsed ext.now (P.state pages.old).work def.now map_tree done found.old
-        → JudgesUsed ext.now (P.state pages.old).work def.now map_tree (done ++ block ∷ []) found.new) }
+    ensures judged { OnOk result (IsTrue (P.state pages.old).is_told → (map_tree : Forest) → TableHasRows shape (P.state pages.old).work def.now map_tree
+        → Contains (used_blocks map_tree) block → (done : List ℕ) → JudgesUsed shape (P.state pages.old).work def.now map_tree done found.old
+        → JudgesUsed shape (P.state pages.old).work def.now map_tree (done ++ block ∷ []) found.new) }
     ensures blocks { found.new.blocks ≡ found.old.blocks }
     ensures same { (P.state pages.new).work ≡ (P.state pages.old).work }
     ensures runs { RunsOverPages P.Pages NoPage AnyPage
-        (Unless P.Pages pages.old (λ told. (map_tree : Forest) × TableHasRows ext.now told def.now map_tree × Contains (used_blocks map_tree) block)) pages.old pages.new (fault_of result) }
+        (Unless P.Pages pages.old (λ told. (map_tree : Forest) × TableHasRows shape told def.now map_tree × Contains (used_blocks map_tree) block)) pages.old pages.new (fault_of result) }
 {
-    let rows = rows_of_block(alloc, ext, pages, def, block)?;
-    let counts = judge_count_of_block(alloc, ext, pages, def, block, rows.len())?;
+    let rows = rows_of_block(alloc, shape, pages, def, block)?;
+    let counts = judge_count_of_block(alloc, shape, pages, def, block, rows.len())?;
     let entries = judge_entries_of_block(alloc, pages, def, &rows)?;
-    let cells = judge_cell_of_block(ext, def, block, &rows);
+    let cells = judge_cell_of_block(shape, def, block, &rows);
     found.counts = lower(found.counts, counts);
     found.entries = lower(found.entries, entries);
     found.cells = lower(found.cells, cells);

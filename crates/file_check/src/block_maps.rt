@@ -21,35 +21,35 @@ use crate::lowest::lower;
 use crate::map_lines::blocks_named;
 use crate::named_blocks::are_blocks_of;
 use entry_tree::Entries;
-use extent_map::{Extents, Kind};
+use extent_map::Kind;
 use mdc_ast::TableDef;
 use std::alloc::Global;
-use store_api::{Pages, StoreFault};
+use store_api::{Pages, Shape, StoreFault};
 use table_trees::block_map_tree;
 
 /// Judges the block maps: each has lines of the three states, and names exactly the blocks of its table, each once. Else the lowest
 /// root of one that doesn't.
 pub(crate) fn judge_block_maps<P: Pages>(
     alloc: Global,
-    ext: &Extents,
+    shape: Shape,
     pages: &mut P,
     defs: &[Option<TableDef>],
 ) -> Result<Option<u32>, StoreFault>
     requires limits { AreWithinLimits defs.now }
     requires going { (P.state pages.old).ended ≡ false }
-    ensures judged { IfOk result (λ found. IsTrue (P.state pages.old).is_told → (view : DatabaseView) → ViewHasTrees ext.now (P.state pages.old).work defs.now view
-        → JudgesRule ext.now (P.state pages.old).work 6 (AreBlockMapsSound ext.now view) found) }
+    ensures judged { IfOk result (λ found. IsTrue (P.state pages.old).is_told → (view : DatabaseView) → ViewHasTrees shape (P.state pages.old).work defs.now view
+        → JudgesRule shape (P.state pages.old).work 6 (AreBlockMapsSound shape view) found) }
     ensures same { (P.state pages.new).work ≡ (P.state pages.old).work }
     ensures runs { RunsOverPages P.Pages NoPage AnyPage
-        (Unless P.Pages pages.old (λ told. (view : DatabaseView) × ViewHasTrees ext.now told defs.now view)) pages.old pages.new (fault_of result) }
+        (Unless P.Pages pages.old (λ told. (view : DatabaseView) × ViewHasTrees shape told defs.now view)) pages.old pages.new (fault_of result) }
 {
-    let kinds = kinds_of(alloc, ext, pages)?;
+    let kinds = kinds_of(alloc, shape, pages)?;
     let mut lowest = None;
     for def in defs {
         let Some(def) = def else {
             continue;
         };
-        let here = judge_block_map(alloc, ext, pages, &kinds, def)?;
+        let here = judge_block_map(alloc, shape, pages, &kinds, def)?;
         lowest = lower(lowest, here);
     }
     Ok(lowest)
@@ -58,14 +58,14 @@ pub(crate) fn judge_block_maps<P: Pages>(
 /// Judges the block map of a table, where these are the kinds of all extents: None, or its root.
 fn judge_block_map<P: Pages>(
     alloc: Global,
-    ext: &Extents,
+    shape: Shape,
     pages: &mut P,
     kinds: &[Kind],
     def: &TableDef,
 ) -> Result<Option<u32>, StoreFault>
-    requires count { length kinds.now ≡ ext.now.cap }
+    requires count { length kinds.now ≡ shape.extents }
     requires going { (P.state pages.old).ended ≡ false }
-    ensures judged { IfOk result (λ found. (map_tree : Forest) → HoldsTreeAt P.Pages pages.old (map_place def.now) map_tree → JudgesMap ext.now kinds.now def.now map_tree found) }
+    ensures judged { IfOk result (λ found. (map_tree : Forest) → HoldsTreeAt P.Pages pages.old (map_place def.now) map_tree → JudgesMap shape kinds.now def.now map_tree found) }
     ensures same { (P.state pages.new).work ≡ (P.state pages.old).work }
     ensures runs { RunsOverPages P.Pages NoPage AnyPage (BreaksTreeAt P.Pages pages.old (map_place def.now)) pages.old pages.new (fault_of result) }
 {

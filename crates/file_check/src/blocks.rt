@@ -3,8 +3,8 @@ ghost use Rattle.std.specs.Prelude.{◌≡◌, ◌<◌, ℕ, false, get_or, leng
 ghost use Rattle.store_api.specs.Causes.{fault_of};
 ghost use Rattle.store_api.specs.Frame.{NoPage};
 ghost use Rattle.store_api.specs.RunsOverPages.{RunsOverPages};
+ghost use Rattle.store_api.specs.declared.shape.Shape.{Shape};
 ghost use Rattle.entry_tree.specs.Forest.{Forest};
-ghost use Rattle.extent_map.specs.declared.extents.Extents.{Extents};
 ghost use Rattle.block_map.specs.BlockMaps.{FindsBlock};
 ghost use Rattle.block_map.specs.MapLines.{blocks_of_state};
 ghost use Rattle.block_map.specs.MapRows.{state_number};
@@ -14,18 +14,17 @@ ghost use Rattle.file_check.specs.Known.{HasBlockMap};
 ghost use Rattle.file_check.specs.Looking.{AnyPage, Unless};
 
 use block_map::{BlockMap, BlockRow, BlockState};
-use extent_map::Extents;
 use mdc_ast::TableDef;
 use mdc_sound::told_stores_hold_their_pages;
 use mdc_values::Blocks;
 use std::alloc::Global;
 use store_api::rules::BLOCK_MAPS_RULE;
-use store_api::{Damage, Pages, StoreFault};
+use store_api::{Damage, Pages, Shape, StoreFault};
 
 /// The blocks to which the block map of a table gives a state. Each is an extent.
 pub(crate) fn blocks_in_state<P: Pages>(
     alloc: Global,
-    ext: &Extents,
+    shape: Shape,
     pages: &mut P,
     def: &TableDef,
     state: BlockState,
@@ -33,15 +32,15 @@ pub(crate) fn blocks_in_state<P: Pages>(
     requires going { (P.state pages.old).ended ≡ false }
     ensures listed { IfOk result (λ blocks. IsTrue (P.state pages.old).is_told → (map_tree : Forest) → HasTree (P.state pages.old).work (map_place def.now) map_tree
         → blocks ≡ blocks_of_state (state_number state) map_tree) }
-    ensures within { IfOk result (λ blocks. (i : ℕ) → i < length blocks → get_or blocks i 0 < ext.now.cap) }
+    ensures within { IfOk result (λ blocks. (i : ℕ) → i < length blocks → get_or blocks i 0 < shape.extents) }
     ensures same { (P.state pages.new).work ≡ (P.state pages.old).work }
     ensures runs { RunsOverPages P.Pages NoPage AnyPage
-        (Unless P.Pages pages.old (λ told. (map_tree : Forest) × HasBlockMap ext.now told def.now map_tree)) pages.old pages.new (fault_of result) }
+        (Unless P.Pages pages.old (λ told. (map_tree : Forest) × HasBlockMap shape told def.now map_tree)) pages.old pages.new (fault_of result) }
 {
     told_stores_hold_their_pages(pages);
     let blocks = BlockMap::at(alloc, def.roots.map).list(pages, state)?;
     for block in blocks.as_slice() {
-        if *block >= ext.cap {
+        if *block >= shape.extents {
             return Err(no_extent(def));
         }
     }
@@ -59,7 +58,7 @@ pub(crate) fn row_in_map<P: Pages>(
     ensures found { IfOk result (λ row. IsTrue (P.state pages.old).is_told → (map_tree : Forest) → HasTree (P.state pages.old).work (map_place def.now) map_tree → FindsBlock map_tree block row) }
     ensures same { (P.state pages.new).work ≡ (P.state pages.old).work }
     ensures runs { RunsOverPages P.Pages NoPage AnyPage
-        (Unless P.Pages pages.old (λ told. (ext : Extents) × (map_tree : Forest) × HasBlockMap ext told def.now map_tree)) pages.old pages.new (fault_of result) }
+        (Unless P.Pages pages.old (λ told. (shape : Shape) × (map_tree : Forest) × HasBlockMap shape told def.now map_tree)) pages.old pages.new (fault_of result) }
 {
     told_stores_hold_their_pages(pages);
     BlockMap::at(alloc, def.roots.map).get(pages, block)

@@ -10,26 +10,27 @@ ghost use Rattle.file_check.specs.Judging.{Judges};
 
 use block_index::are_of_one_cell;
 use block_rows::Hit;
-use extent_map::Extents;
+use extent_map::first_page;
 use mdc_ast::TableDef;
+use store_api::Shape;
 
 /// The first page of a block, where its rows are of two cells.
 pub(crate) fn judge_cell_of_block(
-    ext: &Extents,
+    shape: Shape,
     def: &TableDef,
     block: u32,
     rows: &[Hit],
 ) -> Option<u32>
     requires defined { IsTableDef def.now.number def.now }
-    requires below { block < ext.now.cap }
+    requires below { block < shape.extents }
     requires keyed { HaveReadValues def.now.columns rows.now }
-    ensures { (pages : PageList) → map placed_row rows.now ≡ rows_in_block ext.now pages def.now block
-        → Judges (IsOfOneCell ext.now pages def.now block) (BreaksBlockCell ext.now pages def.now block) result }
+    ensures { (pages : PageList) → map placed_row rows.now ≡ rows_in_block shape pages def.now block
+        → Judges (IsOfOneCell shape pages def.now block) (BreaksBlockCell shape pages def.now block) result }
 {
     if do_rows_share_cell(def, rows) {
         None
     } else {
-        Some(ext.first_page(block))
+        Some(first_page(shape, block))
     }
 }
 

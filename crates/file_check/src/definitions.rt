@@ -12,11 +12,10 @@ ghost use Rattle.file_check.specs.TablePagesJudged.{AreDefsWithinLimits, HasForm
 use crate::lowest::lower;
 use crate::names::lowest_shared;
 use crate::roots::judge_roots;
-use extent_map::Extents;
 use mdc_ast::TableDef;
 use std::alloc::Global;
 use store_api::layout::{FIRST_TABLE_PAGE, TABLE_PLACES};
-use store_api::{Pages, StoreFault, bring};
+use store_api::{Pages, Shape, StoreFault, bring};
 use table_page::{DefFault, def_of};
 
 /// What judging the table pages answers.
@@ -50,21 +49,21 @@ enum PageForm {
 /// extents, and no two tables and no two record indexes have one name. Of two of one name the lower page breaks the rule.
 pub(crate) fn judge_table_pages<P: Pages>(
     alloc: Global,
-    ext: &Extents,
+    shape: Shape,
     pages: &mut P,
 ) -> Result<TablePages, StoreFault>
     requires going { (P.state pages.old).ended ≡ false }
-    ensures judged { IfOk result (λ answer. IsTrue (P.state pages.old).is_told → (owners : List Kind) → IsRootSound ext.now (P.state pages.old).work
-        → IsMapSound ext.now (P.state pages.old).work owners → JudgesTablePages ext.now (P.state pages.old).work owners answer) }
+    ensures judged { IfOk result (λ answer. IsTrue (P.state pages.old).is_told → (owners : List Kind) → IsRootSound shape (P.state pages.old).work
+        → IsMapSound shape (P.state pages.old).work owners → JudgesTablePages shape (P.state pages.old).work owners answer) }
     ensures limits { IfOk result AreDefsWithinLimits }
     ensures same { (P.state pages.new).work ≡ (P.state pages.old).work }
     ensures runs { RunsOverPages P.Pages NoPage AnyPage
-        (Unless P.Pages pages.old (λ told. IsRootSound ext.now told × (owners : List Kind) × IsMapSound ext.now told owners)) pages.old pages.new (fault_of result) }
+        (Unless P.Pages pages.old (λ told. IsRootSound shape told × (owners : List Kind) × IsMapSound shape told owners)) pages.old pages.new (fault_of result) }
 {
     let mut defs = Vec::new(alloc);
     let mut lowest = None;
     for t in 0..TABLE_PLACES {
-        let page = judge_table_page(alloc, ext, pages, t)?;
+        let page = judge_table_page(alloc, shape, pages, t)?;
         lowest = lower(lowest, page.broken);
         defs.push(page.def)?;
     }
@@ -77,20 +76,20 @@ pub(crate) fn judge_table_pages<P: Pages>(
 /// Judges a table page without the others: it has zeros alone, or is that of a definition whose roots are pages of index extents.
 fn judge_table_page<P: Pages>(
     alloc: Global,
-    ext: &Extents,
+    shape: Shape,
     pages: &mut P,
     t: u8,
 ) -> Result<JudgedPage, StoreFault>
     requires place { t < 16 }
     requires going { (P.state pages.old).ended ≡ false }
-    ensures judged { IfOk result (λ page. IsTrue (P.state pages.old).is_told → (owners : List Kind) → IsMapSound ext.now (P.state pages.old).work owners
-        → JudgesTablePage ext.now (P.state pages.old).work owners t page) }
+    ensures judged { IfOk result (λ page. IsTrue (P.state pages.old).is_told → (owners : List Kind) → IsMapSound shape (P.state pages.old).work owners
+        → JudgesTablePage shape (P.state pages.old).work owners t page) }
     ensures limits { IfOk result (λ page. IsWithinLimits t page.def) }
     ensures same { (P.state pages.new).work ≡ (P.state pages.old).work }
-    ensures runs { RunsOverPages P.Pages NoPage AnyPage (Unless P.Pages pages.old (HasOwners ext.now)) pages.old pages.new (fault_of result) }
+    ensures runs { RunsOverPages P.Pages NoPage AnyPage (Unless P.Pages pages.old (HasOwners shape)) pages.old pages.new (fault_of result) }
 {
     match form_of_page(alloc, pages, t)? {
-        PageForm::Formed(def) => judge_definition(alloc, ext, pages, t, def),
+        PageForm::Formed(def) => judge_definition(alloc, shape, pages, t, def),
         PageForm::Formless => Ok(JudgedPage {
             def: None,
             broken: Some(FIRST_TABLE_PAGE + u32::from(t)),
@@ -101,7 +100,7 @@ fn judge_table_page<P: Pages>(
 /// Judges what stands on a table page: where it is a definition, its roots are pages of index extents.
 fn judge_definition<P: Pages>(
     alloc: Global,
-    ext: &Extents,
+    shape: Shape,
     pages: &mut P,
     t: u8,
     def: Option<TableDef>,
@@ -109,11 +108,11 @@ fn judge_definition<P: Pages>(
     requires place { t < 16 }
     requires limits { IsWithinLimits t def }
     requires going { (P.state pages.old).ended ≡ false }
-    ensures judged { IfOk result (λ page. IsTrue (P.state pages.old).is_told → (owners : List Kind) → IsMapSound ext.now (P.state pages.old).work owners
-        → IsStoredPlace (P.state pages.old).work t def → JudgesTablePage ext.now (P.state pages.old).work owners t page) }
+    ensures judged { IfOk result (λ page. IsTrue (P.state pages.old).is_told → (owners : List Kind) → IsMapSound shape (P.state pages.old).work owners
+        → IsStoredPlace (P.state pages.old).work t def → JudgesTablePage shape (P.state pages.old).work owners t page) }
     ensures limits { IfOk result (λ page. IsWithinLimits t page.def) }
     ensures same { (P.state pages.new).work ≡ (P.state pages.old).work }
-    ensures runs { RunsOverPages P.Pages NoPage AnyPage (Unless P.Pages pages.old (HasOwners ext.now)) pages.old pages.new (fault_of result) }
+    ensures runs { RunsOverPages P.Pages NoPage AnyPage (Unless P.Pages pages.old (HasOwners shape)) pages.old pages.new (fault_of result) }
 {
     let Some(def) = def else {
         return Ok(JudgedPage {
@@ -121,7 +120,7 @@ fn judge_definition<P: Pages>(
             broken: None,
         });
     };
-    if judge_roots(alloc, ext, pages, &def)? {
+    if judge_roots(alloc, shape, pages, &def)? {
         return Ok(JudgedPage {
             def: Some(def),
             broken: None,

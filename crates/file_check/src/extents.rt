@@ -11,10 +11,10 @@ ghost use Rattle.file_check.specs.Looking.{AnyPage, Unless};
 ghost use Rattle.file_check.specs.MapPagesJudged.{TellTables};
 
 use crate::map_pages::is_map_page_sound;
-use extent_map::Extents;
+use extent_map::first_page;
 use store_api::layout::{FIRST_MAP_PAGE, FIRST_TABLE_PAGE, ROOT_PAGE, TABLE_PLACES};
 use store_api::rules::ROOT_PAGE_RULE;
-use store_api::{Damage, Page, Pages, StoreFault, blank_page, bring};
+use store_api::{Damage, Page, Pages, Shape, StoreFault, blank_page, bring};
 
 /// There are fewer pages than stand before the extents.
 const TOO_FEW_PAGES: Damage = Damage {
@@ -25,24 +25,24 @@ const TOO_FEW_PAGES: Damage = Damage {
 /// Judges the extent map: None where each of its pages has an entry of its form for each extent, blocks are those of tables that
 /// are there, and extents in use lie within the count; else the lowest of its pages that doesn't.
 pub(crate) fn judge_extents<P: Pages>(
-    ext: &Extents,
+    shape: Shape,
     pages: &mut P,
 ) -> Result<Option<u32>, StoreFault>
     requires going { (P.state pages.old).ended ≡ false }
-    ensures judged { IfOk result (λ found. IsTrue (P.state pages.old).is_told → IsRootSound ext.now (P.state pages.old).work
-        → JudgesRule ext.now (P.state pages.old).work 2 ((owners : List Kind) × IsMapSound ext.now (P.state pages.old).work owners) found) }
+    ensures judged { IfOk result (λ found. IsTrue (P.state pages.old).is_told → IsRootSound shape (P.state pages.old).work
+        → JudgesRule shape (P.state pages.old).work 2 ((owners : List Kind) × IsMapSound shape (P.state pages.old).work owners) found) }
     ensures same { (P.state pages.new).work ≡ (P.state pages.old).work }
-    ensures runs { RunsOverPages P.Pages NoPage AnyPage (Unless P.Pages pages.old (IsRootSound ext.now)) pages.old pages.new (fault_of result) }
+    ensures runs { RunsOverPages P.Pages NoPage AnyPage (Unless P.Pages pages.old (IsRootSound shape)) pages.old pages.new (fault_of result) }
 {
     let count = pages.count();
-    let end = ext.first_page(0);
+    let end = first_page(shape, 0);
     if count < end {
         return Err(StoreFault::Damaged(TOO_FEW_PAGES));
     }
     let tables = tables_there(pages)?;
     for p in FIRST_MAP_PAGE..end {
         bring(pages, p)?;
-        if !is_map_page_sound(ext, pages.page(), p - FIRST_MAP_PAGE, count, &tables) {
+        if !is_map_page_sound(shape, pages.page(), p - FIRST_MAP_PAGE, count, &tables) {
             return Ok(Some(p));
         }
     }

@@ -1,6 +1,6 @@
 // What holds of every verdict, whatever pages it is of.
 ghost use Rattle.std.specs.Prelude.{◌≡◌, ◌↔◌, ℕ};
-ghost use Rattle.extent_map.specs.declared.extents.Extents.{Extents};
+ghost use Rattle.store_api.specs.declared.shape.Shape.{Shape};
 ghost use Rattle.table_trees.specs.ToldPages.{PageList};
 ghost use Rattle.mdc_sound.specs.Breaks.{BreaksRule};
 ghost use Rattle.mdc_sound.specs.SoundDatabase.{IsSoundDatabase};
@@ -10,10 +10,10 @@ ghost use Rattle.file_check.specs.declared.verdict.Verdict.TheVariants.{Sound};
 
 /// No page of a sound database breaks a rule.
 pub fn sound_pages_break_no_rule()
-    ensures { (ext : Extents) (pages : PageList) (rule page : ℕ) → IsSoundDatabase ext pages → BreaksRule ext pages rule page → ⊥ }
+    ensures { (shape : Shape) (pages : PageList) (rule page : ℕ) → IsSoundDatabase shape pages → BreaksRule shape pages rule page → ⊥ }
 {}
 
 /// The verdict of pages is that they are sound exactly where they are.
 pub fn verdict_is_sound_exactly()
-    ensures { (ext : Extents) (pages : PageList) (verdict : Verdict) → IsVerdictOf ext pages verdict → (verdict ≡ Sound) ↔ IsSoundDatabase ext pages }
+    ensures { (shape : Shape) (pages : PageList) (verdict : Verdict) → IsVerdictOf shape pages verdict → (verdict ≡ Sound) ↔ IsSoundDatabase shape pages }
 {}

@@ -25,28 +25,27 @@ use crate::table_index::{IndexKind, TableIndex};
 use block_map::{BlockMap, BlockState};
 use byteorder::{BigEndian, ByteOrder};
 use entry_tree::Entries;
-use extent_map::Extents;
 use mdc_ast::TableDef;
 use mdc_values::Blocks;
 use std::alloc::Global;
 use store_api::layout::BLOCK_BYTES;
-use store_api::{Pages, StoreFault};
+use store_api::{Pages, Shape, StoreFault};
 
 /// Judges the record indexes of a table: each has the entry of each row, and no other but those that name Pending blocks. Else the
 /// lowest root of one that isn't so.
 pub(crate) fn judge_record_indexes<P: Pages>(
     alloc: Global,
-    ext: &Extents,
+    shape: Shape,
     pages: &mut P,
     def: &TableDef,
 ) -> Result<Option<u32>, StoreFault>
     requires limits { IsTableDef def.now.number def.now }
     requires going { (P.state pages.old).ended ≡ false }
-    ensures judged { IfOk result (λ found. IsTrue (P.state pages.old).is_told → (map_tree : Forest) → HasIndexes Rows ext.now (P.state pages.old).work def.now map_tree
-        → JudgesIndexes Rows ext.now (P.state pages.old).work def.now map_tree found) }
+    ensures judged { IfOk result (λ found. IsTrue (P.state pages.old).is_told → (map_tree : Forest) → HasIndexes Rows shape (P.state pages.old).work def.now map_tree
+        → JudgesIndexes Rows shape (P.state pages.old).work def.now map_tree found) }
     ensures same { (P.state pages.new).work ≡ (P.state pages.old).work }
     ensures runs { RunsOverPages P.Pages NoPage AnyPage
-        (Unless P.Pages pages.old (λ told. (map_tree : Forest) × HasIndexes Rows ext.now told def.now map_tree)) pages.old pages.new (fault_of result) }
+        (Unless P.Pages pages.old (λ told. (map_tree : Forest) × HasIndexes Rows shape told def.now map_tree)) pages.old pages.new (fault_of result) }
 {
     let kind = IndexKind::Rows;
     let map = BlockMap::at(alloc, def.roots.map);
@@ -55,7 +54,7 @@ pub(crate) fn judge_record_indexes<P: Pages>(
     let mut lowest = None;
     for place in 0..kind.count(def) {
         let index = TableIndex::at(alloc, def, kind, place)?;
-        if is_sound(alloc, ext, pages, def, &index, &used, &spare)? {
+        if is_sound(alloc, shape, pages, def, &index, &used, &spare)? {
             continue;
         }
         lowest = lower(lowest, Some(index.tree.root));
@@ -78,7 +77,7 @@ fn pending_blocks_of<P: Pages>(pages: &mut P, map: BlockMap) -> Result<Blocks, S
 /// Whether an index has the entry of each row in these blocks, and no other but those that name spare blocks.
 fn is_sound<P: Pages>(
     alloc: Global,
-    ext: &Extents,
+    shape: Shape,
     pages: &mut P,
     def: &TableDef,
     index: &TableIndex,
@@ -88,15 +87,15 @@ fn is_sound<P: Pages>(
     requires limits { IsTableDef def.now.number def.now }
     requires index { FitsTable def.now index.now }
     requires going { (P.state pages.old).ended ≡ false }
-    ensures sound { IfOk result (λ sound. IsTrue (P.state pages.old).is_told → AreReadable ext.now (P.state pages.old).work def.now used.now
+    ensures sound { IfOk result (λ sound. IsTrue (P.state pages.old).is_told → AreReadable shape (P.state pages.old).work def.now used.now
         → (tree : Forest) → HasTree (P.state pages.old).work (place_of_tree index.now.tree) tree
-        → IsTrue sound ↔ AreSoundEntries (entries_of_blocks index.now.kind ext.now (P.state pages.old).work def.now index.now.parts used.now) spare.now
+        → IsTrue sound ↔ AreSoundEntries (entries_of_blocks index.now.kind shape (P.state pages.old).work def.now index.now.parts used.now) spare.now
         (width_of_parts def.now.columns index.now.parts) (leaf_entries tree)) }
     ensures same { (P.state pages.new).work ≡ (P.state pages.old).work }
-    ensures runs { RunsOverPages P.Pages NoPage AnyPage (UnlessReadable P.Pages ext.now pages.old def.now used.now (place_of_tree index.now.tree)) pages.old pages.new (fault_of result) }
+    ensures runs { RunsOverPages P.Pages NoPage AnyPage (UnlessReadable P.Pages shape pages.old def.now used.now (place_of_tree index.now.tree)) pages.old pages.new (fault_of result) }
 {
     let mut noted = EntrySet::new(alloc);
-    if !note_rows(alloc, ext, pages, def, index, used, &mut noted)? {
+    if !note_rows(alloc, shape, pages, def, index, used, &mut noted)? {
         return Ok(false);
     }
     let entries = entries_of(alloc, pages, &index.tree)?;
@@ -106,7 +105,7 @@ fn is_sound<P: Pages>(
 /// Notes the entries of the rows in these blocks, where the index has each of them. Else it answers false.
 fn note_rows<P: Pages>(
     alloc: Global,
-    ext: &Extents,
+    shape: Shape,
     pages: &mut P,
     def: &TableDef,
     index: &TableIndex,
@@ -116,19 +115,19 @@ fn note_rows<P: Pages>(
     requires limits { IsTableDef def.now.number def.now }
     requires index { FitsTable def.now index.now }
     requires going { (P.state pages.old).ended ≡ false }
-    ensures notes { IfOk result (λ has. IsTrue (P.state pages.old).is_told → AreReadable ext.now (P.state pages.old).work def.now used.now
+    ensures notes { IfOk result (λ has. IsTrue (P.state pages.old).is_told → AreReadable shape (P.state pages.old).work def.now used.now
         → (tree : Forest) → HasTree (P.state pages.old).work (place_of_tree index.now.tree) tree
         → ((entry : List ℕ) → Contains (noted_entries noted.old) entry → Contains (leaf_entries tree) entry)
-        → MatchBool has (NotesEntries (entries_of_blocks index.now.kind ext.now (P.state pages.old).work def.now index.now.parts used.now) (leaf_entries tree) noted.old noted.new)
-        (LacksOne (entries_of_blocks index.now.kind ext.now (P.state pages.old).work def.now index.now.parts used.now) (leaf_entries tree))) }
+        → MatchBool has (NotesEntries (entries_of_blocks index.now.kind shape (P.state pages.old).work def.now index.now.parts used.now) (leaf_entries tree) noted.old noted.new)
+        (LacksOne (entries_of_blocks index.now.kind shape (P.state pages.old).work def.now index.now.parts used.now) (leaf_entries tree))) }
     ensures same { (P.state pages.new).work ≡ (P.state pages.old).work }
-    ensures runs { RunsOverPages P.Pages NoPage AnyPage (UnlessReadable P.Pages ext.now pages.old def.now used.now (place_of_tree index.now.tree)) pages.old pages.new (fault_of result) }
+    ensures runs { RunsOverPages P.Pages NoPage AnyPage (UnlessReadable P.Pages shape pages.old def.now used.now (place_of_tree index.now.tree)) pages.old pages.new (fault_of result) }
 {
     for block in used.as_slice() {
-        if *block >= ext.cap {
+        if *block >= shape.extents {
             return Err(no_extent(def));
         }
-        let hits = rows_of_block(alloc, ext, pages, def, *block)?;
+        let hits = rows_of_block(alloc, shape, pages, def, *block)?;
         if !note_entries(alloc, pages, def, index, &hits, noted)? {
             return Ok(false);
         }

@@ -11,19 +11,19 @@ ghost use Rattle.mdc_sound.specs.SpaceRules.{IsRootSound, stated_root};
 ghost use Rattle.file_check.specs.Judging.{JudgesRule};
 ghost use Rattle.file_check.specs.Looking.{AnyPage, UnlessTold};
 
-use extent_map::Extents;
+use extent_map::first_page;
 use store_api::layout::ROOT_PAGE;
-use store_api::{Page, Pages, StoreFault, blank_page, bring, stated_count};
+use store_api::{Page, Pages, Shape, StoreFault, blank_page, bring, stated_count};
 
 /// How many bytes of the root page say something: `ROOT`, the version and the page count.
 const ROOT_BYTES: usize = 12;
 
 /// Judges the root page: None where it states how many pages there are, which some number of whole extents make; else page 0, or
 /// the first page that it counts and that isn't there.
-pub(crate) fn judge_root<P: Pages>(ext: &Extents, pages: &mut P) -> Result<Option<u32>, StoreFault>
+pub(crate) fn judge_root<P: Pages>(shape: Shape, pages: &mut P) -> Result<Option<u32>, StoreFault>
     requires going { (P.state pages.old).ended ≡ false }
     ensures judged { IfOk result (λ found. IsTrue (P.state pages.old).is_told
-        → JudgesRule ext.now (P.state pages.old).work 1 (IsRootSound ext.now (P.state pages.old).work) found) }
+        → JudgesRule shape (P.state pages.old).work 1 (IsRootSound shape (P.state pages.old).work) found) }
     ensures same { (P.state pages.new).work ≡ (P.state pages.old).work }
     ensures runs { RunsOverPages P.Pages NoPage AnyPage (UnlessTold P.Pages pages.old) pages.old pages.new (fault_of result) }
 {
@@ -32,18 +32,18 @@ pub(crate) fn judge_root<P: Pages>(ext: &Extents, pages: &mut P) -> Result<Optio
         return Ok(Some(ROOT_PAGE));
     }
     bring(pages, ROOT_PAGE)?;
-    Ok(judge_root_page(ext, pages.page(), count))
+    Ok(judge_root_page(shape, pages.page(), count))
 }
 
 /// The same by the bytes of the root page and the number of pages that there are.
-fn judge_root_page(ext: &Extents, page: &Page, count: u32) -> Option<u32>
-    ensures { (pages : PageList) → length pages ≡ count → page_at pages 0 ≡ page.now → JudgesRule ext.now pages 1 (IsRootSound ext.now pages) result }
+fn judge_root_page(shape: Shape, page: &Page, count: u32) -> Option<u32>
+    ensures { (pages : PageList) → length pages ≡ count → page_at pages 0 ≡ page.now → JudgesRule shape pages 1 (IsRootSound shape pages) result }
 {
     let stated = stated_count(page);
     if stated < count {
         return Some(ROOT_PAGE);
     }
-    if !is_whole(ext, stated) {
+    if !is_whole(shape, stated) {
         return Some(ROOT_PAGE);
     }
     if !is_root_page(page, stated) {
@@ -56,18 +56,18 @@ fn judge_root_page(ext: &Extents, page: &Page, count: u32) -> Option<u32>
 }
 
 /// Whether so many pages are those before the extents and some number of whole extents.
-fn is_whole(ext: &Extents, count: u32) -> bool
-    ensures { IsTrue result ↔ IsWholeOf ext.now count }
+fn is_whole(shape: Shape, count: u32) -> bool
+    ensures { IsTrue result ↔ IsWholeOf shape count }
 {
-    let first = ext.first_page(0);
+    let first = first_page(shape, 0);
     if count < first {
         return false;
     }
     let behind = count - first;
-    if behind % ext.extent_pages != 0 {
+    if behind % shape.extent_pages != 0 {
         return false;
     }
-    behind / ext.extent_pages <= ext.cap
+    behind / shape.extent_pages <= shape.extents
 }
 
 /// Whether a page is the root page of so many pages.

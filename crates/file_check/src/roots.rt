@@ -9,26 +9,26 @@ ghost use Rattle.mdc_sound.specs.SpaceRules.{IsIndexKind, IsMapSound};
 ghost use Rattle.file_check.specs.Looking.{AnyPage, Unless};
 ghost use Rattle.file_check.specs.TablePagesJudged.{HasOwners, IsNoRootPage, IsRootPage, JudgesRoots, tree_roots};
 
-use extent_map::{Extents, Kind};
+use extent_map::{Kind, first_page, has_page, kind_of};
 use mdc_ast::TableDef;
 use std::alloc::Global;
-use store_api::{Pages, StoreFault};
+use store_api::{Pages, Shape, StoreFault};
 
 /// Whether each root of a table is a page of an extent of trees.
 pub(crate) fn judge_roots<P: Pages>(
     alloc: Global,
-    ext: &Extents,
+    shape: Shape,
     pages: &mut P,
     def: &TableDef,
 ) -> Result<bool, StoreFault>
     requires going { (P.state pages.old).ended ≡ false }
-    ensures judged { IfOk result (λ good. IsTrue (P.state pages.old).is_told → (owners : List Kind) → IsMapSound ext.now (P.state pages.old).work owners
-        → JudgesRoots ext.now (P.state pages.old).work owners (tree_roots def.now) good) }
+    ensures judged { IfOk result (λ good. IsTrue (P.state pages.old).is_told → (owners : List Kind) → IsMapSound shape (P.state pages.old).work owners
+        → JudgesRoots shape (P.state pages.old).work owners (tree_roots def.now) good) }
     ensures same { (P.state pages.new).work ≡ (P.state pages.old).work }
-    ensures runs { RunsOverPages P.Pages NoPage AnyPage (Unless P.Pages pages.old (HasOwners ext.now)) pages.old pages.new (fault_of result) }
+    ensures runs { RunsOverPages P.Pages NoPage AnyPage (Unless P.Pages pages.old (HasOwners shape)) pages.old pages.new (fault_of result) }
 {
     let roots = roots_of(alloc, def)?;
-    are_root_pages(ext, pages, &roots)
+    are_root_pages(shape, pages, &roots)
 }
 
 /// The roots of a table's trees.
@@ -47,15 +47,15 @@ fn roots_of(alloc: Global, def: &TableDef) -> Result<Vec<u32>, StoreFault>
 }
 
 /// Whether each of these pages is one of an extent of trees.
-fn are_root_pages<P: Pages>(ext: &Extents, pages: &mut P, roots: &[u32]) -> Result<bool, StoreFault>
+fn are_root_pages<P: Pages>(shape: Shape, pages: &mut P, roots: &[u32]) -> Result<bool, StoreFault>
     requires going { (P.state pages.old).ended ≡ false }
-    ensures judged { IfOk result (λ good. IsTrue (P.state pages.old).is_told → (owners : List Kind) → IsMapSound ext.now (P.state pages.old).work owners
-        → JudgesRoots ext.now (P.state pages.old).work owners roots.now good) }
+    ensures judged { IfOk result (λ good. IsTrue (P.state pages.old).is_told → (owners : List Kind) → IsMapSound shape (P.state pages.old).work owners
+        → JudgesRoots shape (P.state pages.old).work owners roots.now good) }
     ensures same { (P.state pages.new).work ≡ (P.state pages.old).work }
-    ensures runs { RunsOverPages P.Pages NoPage AnyPage (Unless P.Pages pages.old (HasOwners ext.now)) pages.old pages.new (fault_of result) }
+    ensures runs { RunsOverPages P.Pages NoPage AnyPage (Unless P.Pages pages.old (HasOwners shape)) pages.old pages.new (fault_of result) }
 {
     for root in roots {
-        if !is_root_page(ext, pages, *root)? {
+        if !is_root_page(shape, pages, *root)? {
             return Ok(false);
         }
     }
@@ -63,27 +63,27 @@ fn are_root_pages<P: Pages>(ext: &Extents, pages: &mut P, roots: &[u32]) -> Resu
 }
 
 /// Whether a page is one of an extent of trees.
-fn is_root_page<P: Pages>(ext: &Extents, pages: &mut P, p: u32) -> Result<bool, StoreFault>
+fn is_root_page<P: Pages>(shape: Shape, pages: &mut P, p: u32) -> Result<bool, StoreFault>
     requires going { (P.state pages.old).ended ≡ false }
-    ensures judged { IfOk result (λ good. IsTrue (P.state pages.old).is_told → (owners : List Kind) → IsMapSound ext.now (P.state pages.old).work owners
-        → MatchBool good (IsRootPage ext.now (P.state pages.old).work owners p) (IsNoRootPage ext.now (P.state pages.old).work p)) }
+    ensures judged { IfOk result (λ good. IsTrue (P.state pages.old).is_told → (owners : List Kind) → IsMapSound shape (P.state pages.old).work owners
+        → MatchBool good (IsRootPage shape (P.state pages.old).work owners p) (IsNoRootPage shape (P.state pages.old).work p)) }
     ensures same { (P.state pages.new).work ≡ (P.state pages.old).work }
-    ensures runs { RunsOverPages P.Pages NoPage AnyPage (Unless P.Pages pages.old (HasOwners ext.now)) pages.old pages.new (fault_of result) }
+    ensures runs { RunsOverPages P.Pages NoPage AnyPage (Unless P.Pages pages.old (HasOwners shape)) pages.old pages.new (fault_of result) }
 {
-    if !ext.has_page(p) {
+    if !has_page(shape, p) {
         return Ok(false);
     }
-    let kind = ext.kind(pages, extent_of(ext, p))?;
+    let kind = kind_of(shape, pages, extent_of(shape, p))?;
     Ok(is_index_kind(kind))
 }
 
 /// The extent that a page lies in.
-fn extent_of(ext: &Extents, p: u32) -> u32
-    requires { IsExtentPage ext.now p }
-    ensures value { result ≡ extent_of ext.now p }
-    ensures below { result < ext.now.cap }
+fn extent_of(shape: Shape, p: u32) -> u32
+    requires { IsExtentPage shape p }
+    ensures value { result ≡ extent_of shape p }
+    ensures below { result < shape.extents }
 {
-    (p - ext.first_page(0)) / ext.extent_pages
+    (p - first_page(shape, 0)) / shape.extent_pages
 }
 
 /// Whether an extent has pages of trees.

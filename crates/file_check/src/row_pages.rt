@@ -17,32 +17,32 @@ ghost use Rattle.file_check.specs.BlocksJudged.{BreaksBlockRows, JudgesPage, Jud
 use crate::blocks::blocks_in_state;
 use crate::lowest::lower;
 use block_map::BlockState;
-use extent_map::Extents;
+use extent_map::first_page;
 use mdc_ast::TableDef;
 use mdc_values::Memory;
 use row_fitting::does_row_fit;
 use row_page::{RowPageView, capacity};
 use std::alloc::Global;
-use store_api::{Pages, StoreFault, bring};
+use store_api::{Pages, Shape, StoreFault, bring};
 
 /// Judges the row pages of a table: the lowest page of its Used blocks that isn't one, or has a row that doesn't fit.
 pub(crate) fn judge_row_pages<P: Pages>(
     alloc: Global,
-    ext: &Extents,
+    shape: Shape,
     pages: &mut P,
     def: &TableDef,
 ) -> Result<Option<u32>, StoreFault>
     requires defined { IsTableDef def.now.number def.now }
     requires going { (P.state pages.old).ended ≡ false }
-    ensures judged { IfOk result (λ found. IsTrue (P.state pages.old).is_told → (map_tree : Forest) → HasBlockMap ext.now (P.state pages.old).work def.now map_tree
-        → JudgesEach (AreBlockRowsSound ext.now (P.state pages.old).work def.now) (BreaksBlockRows ext.now (P.state pages.old).work def.now) (used_blocks map_tree) found) }
+    ensures judged { IfOk result (λ found. IsTrue (P.state pages.old).is_told → (map_tree : Forest) → HasBlockMap shape (P.state pages.old).work def.now map_tree
+        → JudgesEach (AreBlockRowsSound shape (P.state pages.old).work def.now) (BreaksBlockRows shape (P.state pages.old).work def.now) (used_blocks map_tree) found) }
     ensures same { (P.state pages.new).work ≡ (P.state pages.old).work }
-    ensures runs { RunsOverPages P.Pages NoPage AnyPage (Unless P.Pages pages.old (TellsMap ext.now def.now)) pages.old pages.new (fault_of result) }
+    ensures runs { RunsOverPages P.Pages NoPage AnyPage (Unless P.Pages pages.old (TellsMap shape def.now)) pages.old pages.new (fault_of result) }
 {
-    let blocks = blocks_in_state(alloc, ext, pages, def, BlockState::Used)?;
+    let blocks = blocks_in_state(alloc, shape, pages, def, BlockState::Used)?;
     let mut lowest = None;
     for block in blocks.as_slice() {
-        let here = judge_rows_of_block(alloc, ext, pages, def, *block)?;
+        let here = judge_rows_of_block(alloc, shape, pages, def, *block)?;
         lowest = lower(lowest, here);
     }
     Ok(lowest)
@@ -51,21 +51,21 @@ pub(crate) fn judge_row_pages<P: Pages>(
 /// The lowest page of a block that isn't a row page, or has a row that doesn't fit.
 fn judge_rows_of_block<P: Pages>(
     alloc: Global,
-    ext: &Extents,
+    shape: Shape,
     pages: &mut P,
     def: &TableDef,
     block: u32,
 ) -> Result<Option<u32>, StoreFault>
     requires defined { IsTableDef def.now.number def.now }
-    requires below { block < ext.now.cap }
+    requires below { block < shape.extents }
     requires going { (P.state pages.old).ended ≡ false }
     ensures judged { IfOk result (λ found. IsTrue (P.state pages.old).is_told
-        → Judges (AreBlockRowsSound ext.now (P.state pages.old).work def.now block) (BreaksBlockRows ext.now (P.state pages.old).work def.now block) found) }
+        → Judges (AreBlockRowsSound shape (P.state pages.old).work def.now block) (BreaksBlockRows shape (P.state pages.old).work def.now block) found) }
     ensures same { (P.state pages.new).work ≡ (P.state pages.old).work }
     ensures runs { RunsOverPages P.Pages NoPage AnyPage NoDamage pages.old pages.new (fault_of result) }
 {
-    let first = ext.first_page(block);
-    for place in 0..ext.extent_pages {
+    let first = first_page(shape, block);
+    for place in 0..shape.extent_pages {
         if !is_page_fitting(alloc, pages, def, first + place)? {
             return Ok(Some(first + place));
         }

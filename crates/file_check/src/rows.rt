@@ -10,29 +10,28 @@ ghost use Rattle.file_check.specs.Known.{BlockHasRowPages};
 ghost use Rattle.file_check.specs.Looking.{AnyPage, Unless};
 
 use block_rows::Hit;
-use extent_map::Extents;
 use mdc_ast::TableDef;
 use std::alloc::Global;
-use store_api::{Pages, StoreFault};
+use store_api::{Pages, Shape, StoreFault};
 
 /// Copies of the rows of a block whose pages are row pages, by rising slot, each with its place.
 pub(crate) fn rows_of_block<P: Pages>(
     alloc: Global,
-    ext: &Extents,
+    shape: Shape,
     pages: &mut P,
     def: &TableDef,
     block: u32,
 ) -> Result<Vec<Hit>, StoreFault>
     requires columns { AreRowColumns def.now.columns }
-    requires below { block < ext.now.cap }
+    requires below { block < shape.extents }
     requires going { (P.state pages.old).ended ≡ false }
-    ensures rows { IfOk result (λ hits. IsTrue (P.state pages.old).is_told → BlockHasRowPages ext.now (P.state pages.old).work def.now block
-        → map placed_row hits.items ≡ rows_in_block ext.now (P.state pages.old).work def.now block) }
+    ensures rows { IfOk result (λ hits. IsTrue (P.state pages.old).is_told → BlockHasRowPages shape (P.state pages.old).work def.now block
+        → map placed_row hits.items ≡ rows_in_block shape (P.state pages.old).work def.now block) }
     ensures keyed { IfOk result (λ hits. HaveReadValues def.now.columns hits.items) }
     ensures same { (P.state pages.new).work ≡ (P.state pages.old).work }
-    ensures runs { RunsOverPages P.Pages NoPage AnyPage (Unless P.Pages pages.old (λ told. BlockHasRowPages ext.now told def.now block)) pages.old pages.new (fault_of result) }
+    ensures runs { RunsOverPages P.Pages NoPage AnyPage (Unless P.Pages pages.old (λ told. BlockHasRowPages shape told def.now block)) pages.old pages.new (fault_of result) }
 {
-    match block_rows::rows_of_block(alloc, def, ext, pages, block) {
+    match block_rows::rows_of_block(alloc, def, shape, pages, block) {
         Ok(hits) => Ok(hits),
         Err(fault) => Err(fault),
     }

@@ -23,33 +23,32 @@ use crate::lowest::lower;
 use crate::record_indexes::judge_record_indexes;
 use crate::row_pages::judge_row_pages;
 use crate::table_keys::judge_keys_of_table;
-use extent_map::Extents;
 use mdc_ast::TableDef;
 use std::alloc::Global;
-use store_api::{Pages, StoreFault};
+use store_api::{Pages, Shape, StoreFault};
 
 /// Judges the rules over all tables: for each the lowest page that breaks it, if there is one. A table breaks one at pages of its
 /// blocks, at the roots of its indexes, or at its table page. What is found for a rule stands where the rules before it are kept.
 pub(crate) fn judge_all_tables<P: Pages>(
     alloc: Global,
-    ext: &Extents,
+    shape: Shape,
     pages: &mut P,
     defs: &[Option<TableDef>],
 ) -> Result<Findings, StoreFault>
     requires limits { AreWithinLimits defs.now }
     requires going { (P.state pages.old).ended ≡ false }
-    ensures judged { IfOk result (λ found. IsTrue (P.state pages.old).is_told → (rule : TableRule) (view : DatabaseView) → ViewKnownFor rule ext.now (P.state pages.old).work defs.now view
-        → JudgesRule ext.now (P.state pages.old).work (rule_number rule) (ViewKeeps rule ext.now (P.state pages.old).work view) (found_of rule found)) }
+    ensures judged { IfOk result (λ found. IsTrue (P.state pages.old).is_told → (rule : TableRule) (view : DatabaseView) → ViewKnownFor rule shape (P.state pages.old).work defs.now view
+        → JudgesRule shape (P.state pages.old).work (rule_number rule) (ViewKeeps rule shape (P.state pages.old).work view) (found_of rule found)) }
     ensures same { (P.state pages.new).work ≡ (P.state pages.old).work }
     ensures runs { RunsOverPages P.Pages NoPage AnyPage
-        (Unless P.Pages pages.old (λ told. (view : DatabaseView) × ViewHasBlocks ext.now told defs.now view)) pages.old pages.new (fault_of result) }
+        (Unless P.Pages pages.old (λ told. (view : DatabaseView) × ViewHasBlocks shape told defs.now view)) pages.old pages.new (fault_of result) }
 {
     let mut lowest = Findings::none();
     for def in defs {
         let Some(def) = def else {
             continue;
         };
-        let here = judge_table(alloc, ext, pages, def)?;
+        let here = judge_table(alloc, shape, pages, def)?;
         lowest = lowest.lower(&here);
     }
     Ok(lowest)
@@ -58,42 +57,42 @@ pub(crate) fn judge_all_tables<P: Pages>(
 /// Judges the rules on one table. Where its row pages break rule 7, none of its rows is read.
 fn judge_table<P: Pages>(
     alloc: Global,
-    ext: &Extents,
+    shape: Shape,
     pages: &mut P,
     def: &TableDef,
 ) -> Result<Findings, StoreFault>
     requires defined { IsTableDef def.now.number def.now }
     requires going { (P.state pages.old).ended ≡ false }
-    ensures judged { IfOk result (λ found. IsTrue (P.state pages.old).is_told → (rule : TableRule) (map_tree : Forest) → TableKnownFor rule ext.now (P.state pages.old).work def.now map_tree
-        → Judges (TableKeeps rule ext.now (P.state pages.old).work def.now map_tree) (TableBreaks rule ext.now (P.state pages.old).work def.now map_tree) (found_of rule found)) }
+    ensures judged { IfOk result (λ found. IsTrue (P.state pages.old).is_told → (rule : TableRule) (map_tree : Forest) → TableKnownFor rule shape (P.state pages.old).work def.now map_tree
+        → Judges (TableKeeps rule shape (P.state pages.old).work def.now map_tree) (TableBreaks rule shape (P.state pages.old).work def.now map_tree) (found_of rule found)) }
     ensures same { (P.state pages.new).work ≡ (P.state pages.old).work }
-    ensures runs { RunsOverPages P.Pages NoPage AnyPage (Unless P.Pages pages.old (TellsTrees ext.now def.now)) pages.old pages.new (fault_of result) }
+    ensures runs { RunsOverPages P.Pages NoPage AnyPage (Unless P.Pages pages.old (TellsTrees shape def.now)) pages.old pages.new (fault_of result) }
 {
-    match judge_row_pages(alloc, ext, pages, def)? {
+    match judge_row_pages(alloc, shape, pages, def)? {
         Some(page) => Ok(Findings::of_row_page(page)),
-        None => judge_rows_of_table(alloc, ext, pages, def),
+        None => judge_rows_of_table(alloc, shape, pages, def),
     }
 }
 
 /// Judges rules 8 to 12 on a table whose row pages are sound.
 fn judge_rows_of_table<P: Pages>(
     alloc: Global,
-    ext: &Extents,
+    shape: Shape,
     pages: &mut P,
     def: &TableDef,
 ) -> Result<Findings, StoreFault>
     requires defined { IsTableDef def.now.number def.now }
     requires going { (P.state pages.old).ended ≡ false }
-    ensures judged { IfOk result (λ found. IsTrue (P.state pages.old).is_told → (map_tree : Forest) → TableHasRows ext.now (P.state pages.old).work def.now map_tree
-        → JudgesTable ext.now (P.state pages.old).work def.now map_tree found) }
+    ensures judged { IfOk result (λ found. IsTrue (P.state pages.old).is_told → (map_tree : Forest) → TableHasRows shape (P.state pages.old).work def.now map_tree
+        → JudgesTable shape (P.state pages.old).work def.now map_tree found) }
     ensures same { (P.state pages.new).work ≡ (P.state pages.old).work }
-    ensures runs { RunsOverPages P.Pages NoPage AnyPage (Unless P.Pages pages.old (TellsTable ext.now def.now)) pages.old pages.new (fault_of result) }
+    ensures runs { RunsOverPages P.Pages NoPage AnyPage (Unless P.Pages pages.old (TellsTable shape def.now)) pages.old pages.new (fault_of result) }
 {
-    let mut used = judge_used_blocks(alloc, ext, pages, def)?;
-    let idle = judge_idle_counts(alloc, ext, pages, def)?;
+    let mut used = judge_used_blocks(alloc, shape, pages, def)?;
+    let idle = judge_idle_counts(alloc, shape, pages, def)?;
     let others = judge_entry_counts(alloc, pages, def, used.blocks)?;
-    let record_indexes = judge_record_indexes(alloc, ext, pages, def)?;
-    let keys = judge_keys_of_table(alloc, ext, pages, def, &mut used.numbers)?;
+    let record_indexes = judge_record_indexes(alloc, shape, pages, def)?;
+    let keys = judge_keys_of_table(alloc, shape, pages, def, &mut used.numbers)?;
     Ok(Findings {
         row_pages: None,
         counts: lower(used.counts, idle),

@@ -11,8 +11,8 @@ ghost use Rattle.file_check.specs.Known.{AreTimesInTrees, ViewHasTrees};
 ghost use Rattle.file_check.specs.Looking.{AnyPage, Unless};
 ghost use Rattle.file_check.specs.TreesJudged.{AreTimesDue, IsLowestUndue, due_times};
 
-use extent_map::{Extents, Kind};
-use store_api::{Pages, StoreFault};
+use extent_map::{Kind, first_page, kind_of};
+use store_api::{Pages, Shape, StoreFault};
 
 /// An extent has no more pages than that.
 const MOST_PAGES: u32 = 32;
@@ -20,26 +20,26 @@ const MOST_PAGES: u32 = 32;
 /// Judges the pages of trees, of which it is told in how many trees each page is: a used index page is in one, and any other page
 /// in none. Else the lowest page that isn't so.
 pub(crate) fn judge_tree_pages<P: Pages>(
-    ext: &Extents,
+    shape: Shape,
     pages: &mut P,
     times: &[u16],
 ) -> Result<Option<u32>, StoreFault>
     requires going { (P.state pages.old).ended ≡ false }
-    ensures judged { IfOk result (λ found. IsTrue (P.state pages.old).is_told → (defs : Definitions) (view : DatabaseView) → ViewHasTrees ext.now (P.state pages.old).work defs view
-        → AreTimesInTrees (P.state pages.old).work view times.now → JudgesRule ext.now (P.state pages.old).work 5 (AreTreePagesSound ext.now view) found) }
+    ensures judged { IfOk result (λ found. IsTrue (P.state pages.old).is_told → (defs : Definitions) (view : DatabaseView) → ViewHasTrees shape (P.state pages.old).work defs view
+        → AreTimesInTrees (P.state pages.old).work view times.now → JudgesRule shape (P.state pages.old).work 5 (AreTreePagesSound shape view) found) }
     ensures same { (P.state pages.new).work ≡ (P.state pages.old).work }
     ensures runs { RunsOverPages P.Pages NoPage AnyPage
-        (Unless P.Pages pages.old (λ told. (defs : Definitions) × (view : DatabaseView) × ViewHasTrees ext.now told defs view)) pages.old pages.new (fault_of result) }
+        (Unless P.Pages pages.old (λ told. (defs : Definitions) × (view : DatabaseView) × ViewHasTrees shape told defs view)) pages.old pages.new (fault_of result) }
 {
     // Those ahead of the extents are to be in no tree, as those of an extent that is free.
-    let begin = ext.first_page(0);
+    let begin = first_page(shape, 0);
     let ahead = undue_page(Kind::Free, times, 0, begin);
     if ahead.is_some() {
         return Ok(ahead);
     }
-    for e in 0..ext.cap {
-        let kind = ext.kind(pages, e)?;
-        let undue = undue_page(kind, times, ext.first_page(e), ext.extent_pages);
+    for e in 0..shape.extents {
+        let kind = kind_of(shape, pages, e)?;
+        let undue = undue_page(kind, times, first_page(shape, e), shape.extent_pages);
         if undue.is_some() {
             return Ok(undue);
         }

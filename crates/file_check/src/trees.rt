@@ -3,8 +3,8 @@ ghost use Rattle.std.specs.Prelude.{◌≡◌, ◌<◌, ◌≤◌, ◌+◌, ◌�
 ghost use Rattle.store_api.specs.Causes.{NoDamage, fault_of};
 ghost use Rattle.store_api.specs.Frame.{NoPage};
 ghost use Rattle.store_api.specs.RunsOverPages.{RunsOverPages};
+ghost use Rattle.store_api.specs.declared.shape.Shape.{Shape};
 ghost use Rattle.stored_catalog.specs.StoredDefinitions.{AreWithinLimits};
-ghost use Rattle.extent_map.specs.declared.extents.Extents.{Extents};
 ghost use Rattle.extent_map.specs.declared.kind.Kind.{Kind};
 ghost use Rattle.mdc_ast.specs.TableLimits.{IsTableDef};
 ghost use Rattle.table_trees.specs.TableTrees.{place_of_tree, tree_places};
@@ -20,7 +20,7 @@ use entry_tree::Tree;
 use mdc_ast::TableDef;
 use mdc_sound::definitions_have_their_trees;
 use std::alloc::Global;
-use store_api::{Pages, StoreFault};
+use store_api::{Pages, Shape, StoreFault};
 use table_trees::{block_index_tree, block_map_tree, record_tree};
 
 /// How many trees a table has in front of the indexes of its dimensions: its block map and its composite index.
@@ -44,8 +44,8 @@ pub(crate) fn judge_trees<P: Pages>(
 ) -> Result<TreesSeen, StoreFault>
     requires limits { AreWithinLimits defs.now }
     requires going { (P.state pages.old).ended ≡ false }
-    ensures judged { IfOk result (λ seen. IsTrue (P.state pages.old).is_told → (ext : Extents) (owners : List Kind) → HasDefinitions ext (P.state pages.old).work owners defs.now
-        → JudgesTrees ext (P.state pages.old).work owners defs.now seen) }
+    ensures judged { IfOk result (λ seen. IsTrue (P.state pages.old).is_told → (shape : Shape) (owners : List Kind) → HasDefinitions shape (P.state pages.old).work owners defs.now
+        → JudgesTrees shape (P.state pages.old).work owners defs.now seen) }
     ensures same { (P.state pages.new).work ≡ (P.state pages.old).work }
     ensures runs { RunsOverPages P.Pages NoPage AnyPage (UnlessTold P.Pages pages.old) pages.old pages.new (fault_of result) }
 {

@@ -2,7 +2,6 @@
 ghost use Rattle.std.specs.Prelude.{◌≡◌, false, None, IfOk, OnOk};
 ghost use Rattle.script_engine.specs.Serving.{MayCall};
 
-use extent_map::Extents;
 use file_check::{Verdict, check};
 use mdc_outside::{MemSource, Source};
 use script_engine::Engine;
@@ -12,7 +11,7 @@ use script_engine_tests::{
 use sql_reader::Read;
 use std::alloc::Global;
 use std::test::Fail;
-use store_api::{Damage, Store};
+use store_api::{Damage, Shape, Store};
 
 // How many extents the databases may have.
 const CAP: u32 = 16;
@@ -71,10 +70,10 @@ fn checked<S: Store + Drop>(
 {
     let mut store = made(alloc, store, script)?;
     write_over(&mut store, patches)?;
-    let Some(ext) = Extents::new(CAP, 2) else {
+    let Some(shape) = Shape::new(CAP, 2) else {
         return Err("no shape of a database")?;
     };
-    Ok(check(alloc, &ext, &mut store)?)
+    Ok(check(alloc, shape, &mut store)?)
 }
 
 /// The verdict on the database of a script, once the patches are written over it.

@@ -4,7 +4,7 @@ use Rattle.mdc_ast.specs.declared.reply.Outcome.{Outcome}
 use Rattle.mdc_ast.specs.Reading.{Item}
 use Rattle.store_api.specs.Moments.{OnlyBase}
 use Rattle.store_api.specs.StoreState.{StoreState}
-use Rattle.extent_map.specs.declared.extents.Extents.{Extents}
+use Rattle.store_api.specs.declared.shape.Shape.{Shape}
 use Rattle.table_trees.specs.ToldPages.{PageList}
 use Rattle.script_engine.specs.Held.{HeldPages}
 use Rattle.script_session.specs.Ending.{IsPartOfNext}
@@ -22,9 +22,9 @@ held_first held [] = refl
 held_first held (next ∷ stages) = refl
 
 -- the pages that were held at the start, with nothing said, are left by each run
-pub left_first : (ext : Extents) (held : HeldPages) (stages : List Stage) (outcomes : List Outcome) (in_hand : List Item) (before : List ℕ) (pages : PageList) (left : Option PageList) (heard : List ℕ)
-    → AreServedPages ext pages → held.base ≡ pages → left ≡ Some pages → heard ≡ before → LeftByServing ext held stages outcomes in_hand before left heard
-left_first ext held stages outcomes in_hand before pages left heard served base is said = record {
+pub left_first : (shape : Shape) (held : HeldPages) (stages : List Stage) (outcomes : List Outcome) (in_hand : List Item) (before : List ℕ) (pages : PageList) (left : Option PageList) (heard : List ℕ)
+    → AreServedPages shape pages → held.base ≡ pages → left ≡ Some pages → heard ≡ before → LeftByServing shape held stages outcomes in_hand before left heard
+left_first shape held stages outcomes in_hand before pages left heard served base is said = record {
   pages = pages;
   reopens = is;
   served = served;
@@ -39,8 +39,8 @@ left_first ext held stages outcomes in_hand before pages left heard served base 
 }
 
 -- and so is what a store leaves whose base is these
-pub left_only_base : (ext : Extents) (held : HeldPages) (stages : List Stage) (outcomes : List Outcome) (in_hand : List Item) (before : List ℕ) (s : StoreState) (left : Option PageList) (heard : List ℕ)
-    → AreServedPages ext s.base → held.base ≡ s.base → s.told ≡ Some before → OnlyBase s left heard → LeftByServing ext held stages outcomes in_hand before left heard
-left_only_base ext held stages outcomes in_hand before s left heard served base told only =
-    left_first ext held stages outcomes in_hand before s.base left heard served base only.0
+pub left_only_base : (shape : Shape) (held : HeldPages) (stages : List Stage) (outcomes : List Outcome) (in_hand : List Item) (before : List ℕ) (s : StoreState) (left : Option PageList) (heard : List ℕ)
+    → AreServedPages shape s.base → held.base ≡ s.base → s.told ≡ Some before → OnlyBase s left heard → LeftByServing shape held stages outcomes in_hand before left heard
+left_only_base shape held stages outcomes in_hand before s left heard served base told only =
+    left_first shape held stages outcomes in_hand before s.base left heard served base only.0
     (subst (λ (o : Option (List ℕ)). IfSome o (λ bytes. heard ≡ bytes)) told only.1)

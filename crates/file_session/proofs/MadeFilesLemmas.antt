@@ -4,7 +4,7 @@ use Rattle.std.proofs.Math.Nat.{mul-le-mul_right}
 use Rattle.mdc_ast.specs.Database.{empty_database}
 use Rattle.mdc_outside.specs.Disk.{File}
 use Rattle.store_api.specs.Extents.{is_shape}
-use Rattle.extent_map.specs.declared.extents.Extents.{Extents}
+use Rattle.store_api.specs.declared.shape.Shape.{Shape}
 use Rattle.table_trees.specs.ToldPages.{PageList}
 use Rattle.mdc_sound.specs.StandsForDatabase.{PagesStandFor}
 use Rattle.page_file.specs.Layout.{file_page}
@@ -43,28 +43,28 @@ made_empty extents extent_pages file shape is =
     subst (IsEmptyDatabase extents) (sym is) (fresh_is_empty extents extent_pages (fits_extents extents extent_pages shape) (fits_pages extents extent_pages shape) shape)
 
 -- its pages are those that are made of so many extents
-made_pages_in : (extents extent_pages : ℕ) (file : List ℕ) (ext : Extents) → IsTrue (is_shape extents extent_pages) → file ≡ fresh_file extents extent_pages → ext.cap ≡ extents
-    → pages_in file ≡ made_pages ext.cap
-made_pages_in extents extent_pages file ext shape is cap = (made_empty extents extent_pages file shape is).pages ∙ ap made_pages (sym cap)
+made_pages_in : (extents extent_pages : ℕ) (file : List ℕ) (shape : Shape) → IsTrue (is_shape extents extent_pages) → file ≡ fresh_file extents extent_pages → shape.extents ≡ extents
+    → pages_in file ≡ made_pages shape.extents
+made_pages_in extents extent_pages file shape fits is cap = (made_empty extents extent_pages file fits is).pages ∙ ap made_pages (sym cap)
 
 -- a file that was made is well, where its pages may be served
-pub made_well : (extents extent_pages : ℕ) (file : List ℕ) (ext : Extents) → IsTrue (is_shape extents extent_pages) → file ≡ fresh_file extents extent_pages → ext.cap ≡ extents → ext.extent_pages ≡ extent_pages
-    → AreServedPages ext (made_pages ext.cap) → IsWell file
-made_well extents extent_pages file ext shape is cap size served =
-    let states = made_states extents extent_pages file shape is in
+pub made_well : (extents extent_pages : ℕ) (file : List ℕ) (shape : Shape) → IsTrue (is_shape extents extent_pages) → file ≡ fresh_file extents extent_pages → shape.extents ≡ extents → shape.extent_pages ≡ extent_pages
+    → AreServedPages shape (made_pages shape.extents) → IsWell file
+made_well extents extent_pages file shape fits is cap size served =
+    let states = made_states extents extent_pages file fits is in
     record {
-      formed = (made_empty extents extent_pages file shape is).formed;
-      ext = ext;
+      formed = (made_empty extents extent_pages file fits is).formed;
+      shape = shape;
       states = record { extents = states.0 ∙ sym cap; extent_pages = states.1 ∙ sym size };
-      served = subst (λ (pages : PageList). AreServedPages ext pages) (sym (made_pages_in extents extent_pages file ext shape is cap)) served;
+      served = subst (λ (pages : PageList). AreServedPages shape pages) (sym (made_pages_in extents extent_pages file shape fits is cap)) served;
     }
 
 -- it stands for what its pages do
-pub made_stands : (extents extent_pages : ℕ) (file : List ℕ) (ext : Extents) → IsTrue (is_shape extents extent_pages) → file ≡ fresh_file extents extent_pages → StatesExtents file ext
-    → PagesStandFor ext (made_pages ext.cap) empty_database → PagesStandFor ext (pages_in file) empty_database
-made_stands extents extent_pages file ext shape is states stands =
-    let cap : ext.cap ≡ extents = sym states.extents ∙ (made_states extents extent_pages file shape is).0 in
-    subst (λ (pages : PageList). PagesStandFor ext pages empty_database) (sym (made_pages_in extents extent_pages file ext shape is cap)) stands
+pub made_stands : (extents extent_pages : ℕ) (file : List ℕ) (shape : Shape) → IsTrue (is_shape extents extent_pages) → file ≡ fresh_file extents extent_pages → StatesExtents file shape
+    → PagesStandFor shape (made_pages shape.extents) empty_database → PagesStandFor shape (pages_in file) empty_database
+made_stands extents extent_pages file shape fits is states stands =
+    let cap : shape.extents ≡ extents = sym states.extents ∙ (made_states extents extent_pages file fits is).0 in
+    subst (λ (pages : PageList). PagesStandFor shape pages empty_database) (sym (made_pages_in extents extent_pages file shape fits is cap)) stands
 
 -- each image that a crash leaves of a made file is well
 pub made_images : (extents extent_pages : ℕ) (file : File) → ((image : List ℕ) → IsTrue (is_shape extents extent_pages) → image ≡ fresh_file extents extent_pages → IsWell image)

@@ -7,8 +7,7 @@ use Rattle.statement_meaning.specs.declared.pass.Pass.TheVariants.{Idle}
 use Rattle.mdc_outside.specs.Outside.{Takes}
 use Rattle.store_api.specs.declared.fault.Damage.{Damage}
 use Rattle.store_api.specs.declared.pages.Pages as pages
-use Rattle.extent_map.specs.Owners.{IsSameShape}
-use Rattle.extent_map.specs.declared.extents.Extents.{Extents}
+use Rattle.store_api.specs.declared.shape.Shape.{Shape}
 use Rattle.table_trees.specs.ToldPages.{PageList}
 use Rattle.mdc_sound.specs.SoundDatabase.{KeepAllRules}
 use Rattle.stored_catalog.specs.StoredDefinitions.{AreStored}
@@ -18,7 +17,6 @@ use Rattle.script_engine.specs.Serving.{IsReadyEngine, held_by}
 use Rattle.script_engine.specs.declared.engine.Engine.{Engine}
 use Rattle.script_engine.specs.declared.stop.EngineStop.{EngineStop}
 use Rattle.script_engine.specs.declared.stop.EngineStop.TheVariants as engine
-use Rattle.script_engine.proofs.ShapeLemmas.{keeps_along}
 use Rattle.script_session.specs.Going.{GoesOnPages}
 use Rattle.script_session.specs.Leaving.{AreServedPages, ReopensAlways}
 use Rattle.script_session.specs.Replying.{RepliesTo}
@@ -63,44 +61,35 @@ replies_stopped script old new stop end_ is same = replies_first script old new 
 
 module _ {S : Type 0} (g : pages.Ghosts S) where
   -- pages that an engine is ready on may be served
-  served_ready : (engine : Engine S) (base : PageList) → (g.state engine.store).base ≡ base → IsReadyEngine g engine → AreServedPages engine.tables.ext base
+  served_ready : (engine : Engine S) (base : PageList) → (g.state engine.store).base ≡ base → IsReadyEngine g engine → AreServedPages engine.tables.shape base
   served_ready engine base same ready = record {
-    sound = (ready.base_view, subst (λ (pages : PageList). KeepAllRules engine.tables.ext pages ready.base_view) same ready.base_sound);
+    sound = (ready.base_view, subst (λ (pages : PageList). KeepAllRules engine.tables.shape pages ready.base_view) same ready.base_sound);
     defs = ready.base_defs;
     stored = subst (λ (pages : PageList). AreStored pages ready.base_defs) same ready.base_stored;
     valid = ready.base_valid;
   }
 
   -- so may those of a sound store
-  served_sound : (ext : Extents) (s : S) → IsSoundStore g ext s → AreServedPages ext (g.state s).base
-  served_sound ext s sound = record {
-    sound = (sound.sound.0, subst (λ (pages : PageList). KeepAllRules ext pages sound.sound.0) (sym sound.committed) sound.sound.1);
+  served_sound : (shape : Shape) (s : S) → IsSoundStore g shape s → AreServedPages shape (g.state s).base
+  served_sound shape s sound = record {
+    sound = (sound.sound.0, subst (λ (pages : PageList). KeepAllRules shape pages sound.sound.0) (sym sound.committed) sound.sound.1);
     defs = sound.defs;
     stored = subst (λ (pages : PageList). AreStored pages sound.defs) (sym sound.committed) sound.stored;
     valid = sound.valid;
   }
 
-  -- a store is sound in extents of one shape
-  pub sound_along : (before now : Extents) (s : S) → IsSameShape before now → IsSoundStore g before s → IsSoundStore g now s
-  sound_along before now s shape sound = record {
-    told = sound.told;
-    sound = (sound.sound.0, keeps_along before now (g.state s).work sound.sound.0 shape sound.sound.1);
-    defs = sound.defs;
-    stored = sound.stored;
-    valid = sound.valid;
-    committed = sound.committed;
-  }
+  -- a store is sound in a shape that is the same
+  pub sound_along : (own shape : Shape) (s : S) → own ≡ shape → IsSoundStore g own s → IsSoundStore g shape s
+  sound_along own shape s same sound = subst (λ (at : Shape). IsSoundStore g at s) same sound
 
   -- a session that was served on an engine that was opened
-  pub served_on_store : (script left : Option (List ℕ)) (result : Result Served SessionStop) (ext : Extents) (old : S) (opened new : Engine S) → IsSoundStore g ext old → IsReadyEngine g opened
-      → KeepsPages g old opened.store → opened.is_open ≡ false → opened.settings ≡ first_settings → opened.pass ≡ Idle → IsSameShape ext opened.tables.ext → RunsScript g script left opened new result
-      → ((damage : Damage) → result ≡ Err (session.Damaged damage) → ⊥) → RunsOnStore g ext script left old new.store result
-  served_on_store script left result ext old opened new sound ready keeps closed settings pass shape runs undamaged =
+  pub served_on_store : (script left : Option (List ℕ)) (result : Result Served SessionStop) (shape : Shape) (old : S) (opened new : Engine S) → IsSoundStore g shape old → IsReadyEngine g opened
+      → KeepsPages g old opened.store → opened.is_open ≡ false → opened.settings ≡ first_settings → opened.pass ≡ Idle → opened.tables.shape ≡ shape → RunsScript g script left opened new result
+      → ((damage : Damage) → result ≡ Err (session.Damaged damage) → ⊥) → RunsOnStore g shape script left old new.store result
+  served_on_store script left result shape old opened new sound ready keeps closed settings pass same_shape runs undamaged =
       let work : (g.state opened.store).work ≡ (g.state old).base = keeps.work ∙ sym sound.committed in
       let served = served_ready opened (g.state old).base keeps.base ready in
-      record {
-        ext = opened.tables.ext;
-        shape = shape;
+      let on_store : RunsOnStore g opened.tables.shape script left old new.store result = record {
         served = served;
         held = held_by g opened;
         opened = record { base = keeps.base; work = work; defs = subst (λ (pages : PageList). AreStored pages opened.tables.catalog) work ready.work.stored; closed = closed; settings = settings; pass = pass };
@@ -114,19 +103,18 @@ module _ {S : Type 0} (g : pages.Ghosts S) where
         undamaged = undamaged;
         ends = runs.ends;
         time = λ before is. over_time_then
-            (over_time_wider keeps.time (λ left heard only. left_only_base opened.tables.ext (held_by g opened) runs.stages runs.outcomes runs.in_hand before (g.state old) left heard served keeps.base is only))
+            (over_time_wider keeps.time (λ left heard only. left_only_base opened.tables.shape (held_by g opened) runs.stages runs.outcomes runs.in_hand before (g.state old) left heard served keeps.base is only))
             (runs.time before (keeps.told ∙ is));
-      }
+      } in
+      subst (λ (s : Shape). RunsOnStore g s script left old new.store result) same_shape on_store
 
   -- an engine that stopped as it was opened
-  pub stopped_on_store : (script : Option (List ℕ)) (stop : EngineStop) (ext : Extents) (old new : S) → IsSoundStore g ext old → KeepsPages g old new
-      → ((damage : Damage) → stop ≡ engine.Damaged damage → ⊥) → RunsOnStore g ext script script old new (Err (stop_of_engine stop))
-  stopped_on_store script stop ext old new sound keeps undamaged =
-      let served = served_sound ext old sound in
+  pub stopped_on_store : (script : Option (List ℕ)) (stop : EngineStop) (shape : Shape) (old new : S) → IsSoundStore g shape old → KeepsPages g old new
+      → ((damage : Damage) → stop ≡ engine.Damaged damage → ⊥) → RunsOnStore g shape script script old new (Err (stop_of_engine stop))
+  stopped_on_store script stop shape old new sound keeps undamaged =
+      let served = served_sound shape old sound in
       let held : HeldPages = record { base = (g.state old).base; work = (g.state old).base; defs = served.defs; open_ = false; settings = first_settings; pass = Idle } in
       record {
-        ext = ext;
-        shape = record { cap = refl; extent_pages = refl };
         served = served;
         held = held;
         opened = record { base = refl; work = refl; defs = served.stored; closed = refl; settings = refl; pass = refl };
@@ -139,7 +127,7 @@ module _ {S : Type 0} (g : pages.Ghosts S) where
         told = subst (λ (tape : Option (List ℕ)). Takes (g.state old).told [] tape) (sym keeps.told) (takes_nothing (g.state old).told);
         undamaged = λ damage is. not_damaged stop undamaged damage (Err (stop_of_engine stop)) refl is;
         ends = ends_first script (stop_of_engine stop) (unread stop) (not_long stop);
-        time = λ before is. over_time_wider keeps.time (λ left heard only. left_only_base ext held [] [] [] before (g.state old) left heard served refl is only);
+        time = λ before is. over_time_wider keeps.time (λ left heard only. left_only_base shape held [] [] [] before (g.state old) left heard served refl is only);
       }
 
 -- ---- whatever the pages are
@@ -153,25 +141,9 @@ module _ {S : Type 0} (g : pages.Ghosts S) where
   pub reopens_served : (old mid new : S) → KeepsPages g old mid → OverTime g.clock g.left ReopensAlways mid new → OverTime g.clock g.left ReopensAlways old new
   reopens_served old mid new keeps serves = over_time_then (reopens_opening old mid keeps) serves
 
--- ---- extents of one shape
+-- ---- a shape that is the same
 
--- a run in extents of a shape is one in others of that shape
-pub runs_along : {S : Type 0} (g : pages.Ghosts S) (before now : Extents) (script left : Option (List ℕ)) (old last : S) (end_ : Result Served SessionStop) → IsSameShape before now
-    → RunsOnStore g now script left old last end_ → RunsOnStore g before script left old last end_
-runs_along g before now script left old last end_ shape runs = record {
-  ext = runs.ext;
-  shape = record { cap = runs.shape.cap ∙ shape.cap; extent_pages = runs.shape.extent_pages ∙ shape.extent_pages };
-  served = runs.served;
-  held = runs.held;
-  opened = runs.opened;
-  items = runs.items;
-  outcomes = runs.outcomes;
-  stages = runs.stages;
-  in_hand = runs.in_hand;
-  goes = runs.goes;
-  said = runs.said;
-  told = runs.told;
-  undamaged = runs.undamaged;
-  ends = runs.ends;
-  time = runs.time;
-}
+-- a run in a shape is one in another that is the same
+pub runs_along : {S : Type 0} (g : pages.Ghosts S) (own shape : Shape) (script left : Option (List ℕ)) (old last : S) (end_ : Result Served SessionStop) → own ≡ shape
+    → RunsOnStore g own script left old last end_ → RunsOnStore g shape script left old last end_
+runs_along g own shape script left old last end_ same runs = subst (λ (at : Shape). RunsOnStore g at script left old last end_) same runs

@@ -5,7 +5,6 @@ use Rattle.mdc_ast.specs.Reading.{Item}
 use Rattle.mdc_outside.specs.Disk.{File, IsImage, all_synced}
 use Rattle.store_api.specs.declared.pages.Pages.{Ghosts}
 use Rattle.store_api.specs.declared.shape.Shape.{Shape}
-use Rattle.extent_map.specs.declared.extents.Extents.{Extents}
 use Rattle.table_trees.specs.ToldPages.{PageList}
 use Rattle.mdc_sound.specs.SoundDatabase.{KeepAllRules}
 use Rattle.stored_catalog.specs.StoredDefinitions.{AreStored}
@@ -31,7 +30,7 @@ use Rattle.file_session.specs.declared.stop.FileStop.{FileStop}
 
 -- a well file is sound
 pub sound_of_well : (bytes : List ℕ) → IsWell bytes → IsSoundFile bytes
-sound_of_well bytes well = record { formed = well.formed; ext = well.ext; states = well.states; sound = well.served.sound }
+sound_of_well bytes well = record { formed = well.formed; shape = well.shape; states = well.states; sound = well.served.sound }
 
 pub well_is_served : (bytes : List ℕ) → IsWell bytes → IsServed bytes
 well_is_served bytes well = sound_is_served bytes (sound_of_well bytes well)
@@ -48,12 +47,12 @@ stop_of_well fault stop bytes served refuses stops = elim (refused_served fault 
 
 -- a store that was just opened on a well file tells sound pages
 pub sound_opened : {S : Type 0} (g : Ghosts S) (s : S) (bytes : List ℕ) (is_told : Bool) (tape : Option (List ℕ)) (shape : Shape) (attaches : Option (List (List ℕ × Bool))) (well : IsWell bytes) → is_told ≡ true → IsJustOpened is_told tape shape attaches (g.state s)
-    → (g.state s).base ≡ pages_in bytes → IsSoundStore g well.ext s
+    → (g.state s).base ≡ pages_in bytes → IsSoundStore g well.shape s
 sound_opened g s bytes is_told tape shape attaches well tells just base =
     let work : (g.state s).work ≡ pages_in bytes = ap (λ state. state.work) just ∙ base in
     record {
       told = ap (λ state. state.is_told) just ∙ tells;
-      sound = (well.served.sound.0, subst (λ (pages : PageList). KeepAllRules well.ext pages well.served.sound.0) (sym work) well.served.sound.1);
+      sound = (well.served.sound.0, subst (λ (pages : PageList). KeepAllRules well.shape pages well.served.sound.0) (sym work) well.served.sound.1);
       defs = well.served.defs;
       stored = subst (λ (pages : PageList). AreStored pages well.served.defs) (sym work) well.served.stored;
       valid = well.served.valid;
@@ -63,15 +62,15 @@ sound_opened g s bytes is_told tape shape attaches well tells just base =
 -- ---- what a crash leaves
 
 -- the pages of an image that a crash within a run leaves are those that the run left
-pub pages_left : (ext : Extents) (held : HeldPages) (stages : List Stage) (outcomes : List Outcome) (in_hand : List Item) (said image heard : List ℕ) → (run : LeftByRun ext held stages outcomes in_hand said image heard)
+pub pages_left : (shape : Shape) (held : HeldPages) (stages : List Stage) (outcomes : List Outcome) (in_hand : List Item) (said image heard : List ℕ) → (run : LeftByRun shape held stages outcomes in_hand said image heard)
     → pages_in image ≡ run.left.pages
-pages_left ext held stages outcomes in_hand said image heard run = let both : Some (pages_in image) ≡ Some run.left.pages = run.left.reopens in cc
+pages_left shape held stages outcomes in_hand said image heard run = let both : Some (pages_in image) ≡ Some run.left.pages = run.left.reopens in cc
 
 -- what a crash within a run leaves is well
-pub well_left : (ext : Extents) (held : HeldPages) (stages : List Stage) (outcomes : List Outcome) (in_hand : List Item) (said image heard : List ℕ) → LeftByRun ext held stages outcomes in_hand said image heard → IsWell image
-well_left ext held stages outcomes in_hand said image heard run =
-    let same = pages_left ext held stages outcomes in_hand said image heard run in
-    record { formed = run.formed; ext = ext; states = run.states_extents; served = subst (λ (pages : PageList). AreServedPages ext pages) (sym same) run.left.served }
+pub well_left : (shape : Shape) (held : HeldPages) (stages : List Stage) (outcomes : List Outcome) (in_hand : List Item) (said image heard : List ℕ) → LeftByRun shape held stages outcomes in_hand said image heard → IsWell image
+well_left shape held stages outcomes in_hand said image heard run =
+    let same = pages_left shape held stages outcomes in_hand said image heard run in
+    record { formed = run.formed; shape = shape; states = run.states_extents; served = subst (λ (pages : PageList). AreServedPages shape pages) (sym same) run.left.served }
 
 -- a file of which all is on the disk is left as it is
 pub synced_image : (file : File) (image : List ℕ) → file.since ≡ all_synced file.bytes → IsImage file.since image → image ≡ file.bytes

@@ -3,7 +3,7 @@ use Rattle.std.specs.Prelude.{ℕ, List, Some}
 use Rattle.mdc_ast.specs.declared.reply.Outcome.{Outcome}
 use Rattle.mdc_ast.specs.Reading.{Item}
 use Rattle.mdc_outside.specs.Disk.{File, IsImage}
-use Rattle.extent_map.specs.declared.extents.Extents.{Extents}
+use Rattle.store_api.specs.declared.shape.Shape.{Shape}
 use Rattle.page_store.specs.Standing.{IsFormed, pages_in}
 use Rattle.file_verdict.specs.SoundFile.{StatesExtents}
 use Rattle.script_engine.specs.Held.{HeldPages}
@@ -12,10 +12,10 @@ use Rattle.script_session.specs.Leaving.{LeftByServing}
 
 -- A crash within a run leaves a well image that stands for the pages of the last commit after some of the items, with each whose
 -- reply was begun, and at most one more.
-pub record LeftByRun (ext : Extents) (held : HeldPages) (stages : List Stage) (outcomes : List Outcome) (in_hand : List Item) (said image tape : List ℕ) : Type 0 where
+pub record LeftByRun (shape : Shape) (held : HeldPages) (stages : List Stage) (outcomes : List Outcome) (in_hand : List Item) (said image tape : List ℕ) : Type 0 where
   pub formed : IsFormed image
-  pub states_extents : StatesExtents image ext
-  pub left : LeftByServing ext held stages outcomes in_hand said (Some (pages_in image)) tape
+  pub states_extents : StatesExtents image shape
+  pub left : LeftByServing shape held stages outcomes in_hand said (Some (pages_in image)) tape
 
 -- each image that a crash may leave of a file is formed
 abbrev pub AreFormed : File → Type 0

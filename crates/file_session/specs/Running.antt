@@ -7,8 +7,7 @@ use Rattle.mdc_outside.specs.Outside.{Takes}
 use Rattle.mdc_outside.specs.declared.disk.Disk as disk
 use Rattle.store_api.specs.declared.fault.Damage.{Damage}
 use Rattle.store_api.specs.declared.pages.Pages as pages
-use Rattle.extent_map.specs.Owners.{IsSameShape}
-use Rattle.extent_map.specs.declared.extents.Extents.{Extents}
+use Rattle.store_api.specs.declared.shape.Shape.{Shape}
 use Rattle.page_store.specs.Standing.{IsFormed, pages_in}
 use Rattle.script_engine.specs.Held.{HeldPages}
 use Rattle.script_session.specs.Going.{GoesOnPages, Stage}
@@ -23,39 +22,35 @@ use Rattle.file_session.specs.Serving.{IsOpened, RunsItems}
 use Rattle.file_session.specs.declared.stop.FileStop.{FileStop}
 
 -- A run of a script on a store that tells sound pages, all of which are committed: one run of its items on these, whose texts are
--- told in order, how it ends, and what a crash meanwhile leaves. The extents have the shape that was stated.
-pub record RunsOnStore {S : Type 0} (g : pages.Ghosts S) (stated : Extents) (script left : Option (List ℕ)) (old new : S) (result : Result Served SessionStop) : Type 0 where
-  pub ext : Extents
-  pub shape : IsSameShape stated ext
-  pub served : AreServedPages ext (g.state old).base
+-- told in order, how it ends, and what a crash meanwhile leaves.
+pub record RunsOnStore {S : Type 0} (g : pages.Ghosts S) (shape : Shape) (script left : Option (List ℕ)) (old new : S) (result : Result Served SessionStop) : Type 0 where
+  pub served : AreServedPages shape (g.state old).base
   pub held : HeldPages
   pub opened : IsOpened (g.state old).base held
   pub items : List Item
   pub outcomes : List Outcome
   pub stages : List Stage
   pub in_hand : List Item
-  pub goes : GoesOnPages ext held items outcomes stages
+  pub goes : GoesOnPages shape held items outcomes stages
   pub said : List ℕ
   pub told : Takes (g.state old).told said (g.state new).told
   pub undamaged : (damage : Damage) → result ≡ Err (Damaged damage) → ⊥
   pub ends : IfSome script (λ script. EndsScript script left said items in_hand outcomes result)
   pub time : (before : List ℕ) → (g.state old).told ≡ Some before
-      → OverTime g.clock g.left (LeftByServing ext held stages outcomes in_hand before) old new
+      → OverTime g.clock g.left (LeftByServing shape held stages outcomes in_hand before) old new
 
 -- What was left of a store since a time, by an image of the host that it gives back: the image is formed and states the extents, and
 -- the store left the pages that it stands for at its opening, or the run leaves them. Or the store left a file that doesn't reopen.
-abbrev pub IsLeftSince : (List (List ℕ) → List ℕ → Type 0) → Extents → (Option (List (List ℕ)) → List ℕ → Type 0) → List ℕ → List ℕ → Type 0
-IsLeftSince Run ext left image heard =
-    (IsFormed image × StatesExtents image ext × (left (Some (pages_in image)) heard ⊎ Run (pages_in image) heard)) ⊎ left None heard
+abbrev pub IsLeftSince : (List (List ℕ) → List ℕ → Type 0) → Shape → (Option (List (List ℕ)) → List ℕ → Type 0) → List ℕ → List ℕ → Type 0
+IsLeftSince Run shape left image heard =
+    (IsFormed image × StatesExtents image shape × (left (Some (pages_in image)) heard ⊎ Run (pages_in image) heard)) ⊎ left None heard
 
 -- Such a run over the lists of rows that the pages stand for, as the host has it to which the store was closed.
-pub record ServesStore {S D : Type 0} (g : pages.Ghosts S) (d : disk.Ghosts D) (stated : Extents) (said : List ℕ) (script left : Option (List ℕ)) (old : S) (new : D) (result : Result Served FileStop) : Type 0 where
-  pub ext : Extents
-  pub shape : IsSameShape stated ext
-  pub served : AreServedPages ext (g.state old).base
-  pub run : RunsItems ext (g.state old).base said script left (d.beside new).tape result
+pub record ServesStore {S D : Type 0} (g : pages.Ghosts S) (d : disk.Ghosts D) (shape : Shape) (said : List ℕ) (script left : Option (List ℕ)) (old : S) (new : D) (result : Result Served FileStop) : Type 0 where
+  pub served : AreServedPages shape (g.state old).base
+  pub run : RunsItems shape (g.state old).base said script left (d.beside new).tape result
   pub since : (t : ℕ) → t ≤ g.clock old → (image heard : List ℕ) → d.moment new t image heard
-      → IsLeftSince (λ pages heard. LeftByServing ext run.held run.stages run.outcomes run.in_hand said (Some pages) heard) ext (g.left old t) image heard
+      → IsLeftSince (λ pages heard. LeftByServing shape run.held run.stages run.outcomes run.in_hand said (Some pages) heard) shape (g.left old t) image heard
 
 -- Whatever the pages are: since each time up to the opening of the store, a crash leaves an image of the host that is formed and
 -- states what the file states, or the store left a file then that doesn't reopen.

@@ -8,7 +8,7 @@ use Rattle.statement_meaning.specs.declared.pass.Pass.TheVariants.{Idle}
 use Rattle.mdc_outside.specs.Disk.{File}
 use Rattle.mdc_outside.specs.declared.disk.Disk.{Ghosts}
 use Rattle.store_api.specs.declared.fault.Damage.{Damage}
-use Rattle.extent_map.specs.declared.extents.Extents.{Extents}
+use Rattle.store_api.specs.declared.shape.Shape.{Shape}
 use Rattle.table_trees.specs.ToldPages.{PageList}
 use Rattle.mdc_sound.specs.StandsForDatabase.{PagesStandFor}
 use Rattle.stored_catalog.specs.StoredDefinitions.{AreStored}
@@ -39,18 +39,18 @@ pub record IsOpened (pages : PageList) (held : HeldPages) : Type 0 where
 
 -- A run of a script on these pages, which are sound: one run of its items on them, and so one over the plain lists of rows that
 -- they stand for, whose texts are said in order, and how it ends.
-pub record RunsItems (ext : Extents) (pages : PageList) (said : List ℕ) (script left tape : Option (List ℕ)) (result : Result Served FileStop) : Type 0 where
+pub record RunsItems (shape : Shape) (pages : PageList) (said : List ℕ) (script left tape : Option (List ℕ)) (result : Result Served FileStop) : Type 0 where
   pub held : HeldPages
   pub opened : IsOpened pages held
   pub db : Database
-  pub stands : PagesStandFor ext pages db
+  pub stands : PagesStandFor shape pages db
   pub items : List Item
   pub outcomes : List Outcome
   pub stages : List Stage
   pub in_hand : List Item
-  pub goes : GoesOnPages ext held items outcomes stages
+  pub goes : GoesOnPages shape held items outcomes stages
   pub sessions : List Session
-  pub lists : GoesOnLists ext held (session_on db) items outcomes stages sessions
+  pub lists : GoesOnLists shape held (session_on db) items outcomes stages sessions
   pub more : List ℕ
   pub tape_is : tape ≡ Some (said ++ more)
   pub end_ : Result Served SessionStop
@@ -71,7 +71,7 @@ RepliesBySession script left old new result =
 -- A run of a script on a file of these bytes, which is well: such a run on the pages that it stands for, and what a crash leaves at
 -- each moment of it.
 pub record RunsOnFile {D : Type 0} (g : Ghosts D) (before : File) (said : List ℕ) (script left : Option (List ℕ)) (old new : D) (result : Result Served FileStop) : Type 0 where
-  pub ext : Extents
-  pub states_extents : StatesExtents before.bytes ext
-  pub run : RunsItems ext (pages_in before.bytes) said script left (g.beside new).tape result
-  pub leaves : LeavesSince g before said (LeftByRun ext run.held run.stages run.outcomes run.in_hand said) old new
+  pub shape : Shape
+  pub states_extents : StatesExtents before.bytes shape
+  pub run : RunsItems shape (pages_in before.bytes) said script left (g.beside new).tape result
+  pub leaves : LeavesSince g before said (LeftByRun shape run.held run.stages run.outcomes run.in_hand said) old new

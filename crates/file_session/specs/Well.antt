@@ -2,7 +2,7 @@
 use Rattle.std.specs.Prelude.{ℕ, List}
 use Rattle.mdc_outside.specs.Disk.{File, IsImage}
 use Rattle.page_store.specs.Standing.{IsFormed, pages_in}
-use Rattle.extent_map.specs.declared.extents.Extents.{Extents}
+use Rattle.store_api.specs.declared.shape.Shape.{Shape}
 use Rattle.file_verdict.specs.SoundFile.{StatesExtents}
 use Rattle.script_session.specs.Leaving.{AreServedPages}
 
@@ -10,9 +10,9 @@ use Rattle.script_session.specs.Leaving.{AreServedPages}
 -- built forms.
 pub record IsWell (file : List ℕ) : Type 0 where
   pub formed : IsFormed file
-  pub ext : Extents
-  pub states : StatesExtents file ext
-  pub served : AreServedPages ext (pages_in file)
+  pub shape : Shape
+  pub states : StatesExtents file shape
+  pub served : AreServedPages shape (pages_in file)
 
 -- each image that a crash may leave of a file is well
 abbrev pub AreWell : File → Type 0

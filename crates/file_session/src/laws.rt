@@ -6,7 +6,7 @@ ghost use Rattle.mdc_ast.specs.Database.{empty_database};
 ghost use Rattle.statement_meaning.specs.Session.{session_on};
 ghost use Rattle.mdc_outside.specs.Disk.{File, IsImage, all_synced};
 ghost use Rattle.store_api.specs.Extents.{is_shape};
-ghost use Rattle.extent_map.specs.declared.extents.Extents.{Extents};
+ghost use Rattle.store_api.specs.declared.shape.Shape.{Shape};
 ghost use Rattle.table_trees.specs.ToldPages.{PageList};
 ghost use Rattle.mdc_sound.specs.StandsForDatabase.{PagesStandFor};
 ghost use Rattle.page_store.specs.Fresh.{HoldsFresh, fresh_file};
@@ -31,15 +31,15 @@ pub fn made_is_well()
     ensures well { (extents extent_pages : ℕ) (file : List ℕ) → IsTrue (is_shape extents extent_pages) → file ≡ fresh_file extents extent_pages → IsWell file }
     ensures each { (extents extent_pages : ℕ) (file : File) → IsTrue (is_shape extents extent_pages) → HoldsFresh extents extent_pages file → AreWell file }
     ensures stands { (extents extent_pages : ℕ) (file : List ℕ) → IsTrue (is_shape extents extent_pages) → file ≡ fresh_file extents extent_pages
-        → (ext : Extents) → StatesExtents file ext → PagesStandFor ext (pages_in file) empty_database }
+        → (shape : Shape) → StatesExtents file shape → PagesStandFor shape (pages_in file) empty_database }
 {
     made_database_is_sound();
 }
 
 /// What a crash within a run leaves is well, so that the next run keeps its promise too.
 pub fn left_by_run_is_well()
-    ensures { (ext : Extents) (held : HeldPages) (stages : List Stage) (outcomes : List Outcome) (in_hand : List Item) (said image tape : List ℕ)
-        → LeftByRun ext held stages outcomes in_hand said image tape → IsWell image }
+    ensures { (shape : Shape) (held : HeldPages) (stages : List Stage) (outcomes : List Outcome) (in_hand : List Item) (said image tape : List ℕ)
+        → LeftByRun shape held stages outcomes in_hand said image tape → IsWell image }
 {}
 
 /// The next run goes on from what the run before kept. On an image that a crash within a run leaves, it begins with the database that
@@ -47,12 +47,12 @@ pub fn left_by_run_is_well()
 /// whose reply was said whole. On what a crash leaves before a run comes to its origin, of a file that was all on the disk, it begins
 /// with the same database.
 pub fn next_run_goes_on()
-    ensures kept { (ext now : Extents) (pages : PageList) (said said_next : List ℕ) (script left tape script_next left_next tape_next : Option (List ℕ)) (result result_next : Result Served FileStop)
-        → (run : RunsItems ext pages said script left tape result) (image told : List ℕ) (crash : LeftByRun ext run.held run.stages run.outcomes run.in_hand said image told)
+    ensures kept { (shape now : Shape) (pages : PageList) (said said_next : List ℕ) (script left tape script_next left_next tape_next : Option (List ℕ)) (result result_next : Result Served FileStop)
+        → (run : RunsItems shape pages said script left tape result) (image told : List ℕ) (crash : LeftByRun shape run.held run.stages run.outcomes run.in_hand said image told)
         → StatesExtents image now → (next : RunsItems now (pages_in image) said_next script_next left_next tape_next result_next)
-        → IsKeptDatabase ext.cap (session_on run.db) run.sessions run.in_hand crash.left.items next.db }
-    ensures same { (before : File) (ext now : Extents) (said said_next : List ℕ) (script left tape script_next left_next tape_next : Option (List ℕ)) (result result_next : Result Served FileStop)
-        → before.since ≡ all_synced before.bytes → StatesExtents before.bytes ext → (run : RunsItems ext (pages_in before.bytes) said script left tape result)
+        → IsKeptDatabase shape.extents (session_on run.db) run.sessions run.in_hand crash.left.items next.db }
+    ensures same { (before : File) (shape now : Shape) (said said_next : List ℕ) (script left tape script_next left_next tape_next : Option (List ℕ)) (result result_next : Result Served FileStop)
+        → before.since ≡ all_synced before.bytes → StatesExtents before.bytes shape → (run : RunsItems shape (pages_in before.bytes) said script left tape result)
         → (image : List ℕ) → IsImage before.since image → StatesExtents image now → (next : RunsItems now (pages_in image) said_next script_next left_next tape_next result_next)
         → next.db ≡ run.db }
 {
@@ -72,5 +72,5 @@ pub fn ended_run_is_left<H: Host>()
     ensures { (old new : H) (before after : File) (said heard : List ℕ) (script left : Option (List ℕ)) (result : Result Served FileStop)
         → H.file old ≡ Some before → (H.beside old).tape ≡ Some said → H.file new ≡ Some after → (H.beside new).tape ≡ Some heard
         → (runs : RunsOnFile H.Disk before said script left old new result) (image : List ℕ) → IsImage after.since image
-        → LeftByRun runs.ext runs.run.held runs.run.stages runs.run.outcomes runs.run.in_hand said image heard ⊎ IsImage before.since image }
+        → LeftByRun runs.shape runs.run.held runs.run.stages runs.run.outcomes runs.run.in_hand said image heard ⊎ IsImage before.since image }
 {}

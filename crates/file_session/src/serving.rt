@@ -5,7 +5,7 @@ ghost use Rattle.mdc_words.specs.Faults.{CountsFault};
 ghost use Rattle.mdc_words.specs.Time.{OverTime};
 ghost use Rattle.mdc_outside.specs.Disk.{File};
 ghost use Rattle.store_api.specs.declared.fault.Damage.{Damage};
-ghost use Rattle.extent_map.specs.declared.extents.Extents.{Extents};
+ghost use Rattle.store_api.specs.declared.shape.Shape.{Shape};
 ghost use Rattle.page_file.specs.Bound.{LeavesOf};
 ghost use Rattle.page_store.specs.Opened.{CouldBeLeft, file_bytes};
 ghost use Rattle.page_store.specs.Opening.{IsServed};
@@ -25,13 +25,12 @@ ghost use Rattle.file_session.specs.Serving.{RepliesBySession, RunsOnFile, Takes
 ghost use Rattle.file_session.specs.Well.{AreWell, IsWell};
 
 use crate::stop::FileStop;
-use extent_map::Extents;
 use mdc_outside::{Host, Source};
 use page_store::{CACHED_PAGES, FileStore, OpenFault, Unopened};
 use script_engine::{Engine, Stopped, sound_pages_stand};
 use script_session::{Served, SessionStop, goes_on_lists, serve};
 use std::alloc::Global;
-use store_api::{Pages, Store};
+use store_api::{Pages, Shape, Store};
 
 /// How serving a script on a file ended, and the host.
 #[derive(Drop)]
@@ -100,13 +99,13 @@ fn serve_store<I: Source, H: Host>(alloc: Global, input: &mut I, store: FileStor
     requires going { (⟦<FileStore<H> as Pages>⟧.state store).ended ≡ false }
     requires unmarked { (⟦<FileStore<H> as Pages>⟧.state store).marked ≡ None }
     ensures runs { (file : File) (said : List ℕ) → H.file store.host ≡ Some file → (H.beside store.host).tape ≡ Some said
-        → (ext : Extents) → StatesExtents file.bytes ext → IsSoundStore ⟦<FileStore<H> as Pages>⟧ ext store
-        → ServesStore ⟦<FileStore<H> as Pages>⟧ H.Disk ext said (I.left input.old) (I.left input.new) store result.host result.end }
+        → (shape : Shape) → StatesExtents file.bytes shape → IsSoundStore ⟦<FileStore<H> as Pages>⟧ shape store
+        → ServesStore ⟦<FileStore<H> as Pages>⟧ H.Disk shape said (I.left input.old) (I.left input.new) store result.host result.end }
     ensures damaged { (damage : Damage) → result.end ≡ Err (FileStop.Damaged damage) → (file : File) → H.file store.host ≡ Some file
-        → (ext : Extents) → StatesExtents file.bytes ext → IsSoundStore ⟦<FileStore<H> as Pages>⟧ ext store → ⊥ }
+        → (shape : Shape) → StatesExtents file.bytes shape → IsSoundStore ⟦<FileStore<H> as Pages>⟧ shape store → ⊥ }
     ensures breaks { (damage : Damage) → result.end ≡ Err (FileStop.Damaged damage) → (⟦<FileStore<H> as Pages>⟧.state store).base ≡ (⟦<FileStore<H> as Pages>⟧.state store).work
-        → (file : File) → H.file store.host ≡ Some file → (ext : Extents) → StatesExtents file.bytes ext
-        → BreaksAtEnd ext (I.left input.old) (I.left input.new) (H.beside store.host).tape (H.beside result.host).tape damage result.end (H.file result.host) }
+        → (file : File) → H.file store.host ≡ Some file → (shape : Shape) → StatesExtents file.bytes shape
+        → BreaksAtEnd shape (I.left input.old) (I.left input.new) (H.beside store.host).tape (H.beside result.host).tape damage result.end (H.file result.host) }
     ensures takes { TakesBySession (I.left input.old) (I.left input.new) result.end }
     ensures replies { RepliesBySession (I.left input.old) (I.left input.new) (H.beside store.host).tape (H.beside result.host).tape result.end }
     ensures reopens { (file : File) (said : List ℕ) → H.file store.host ≡ Some file → (H.beside store.host).tape ≡ Some said
@@ -122,30 +121,30 @@ fn serve_store<I: Source, H: Host>(alloc: Global, input: &mut I, store: FileStor
     goes_on_lists();
     sound_pages_stand();
     let (extents, extent_pages) = store.shape();
-    let Some(ext) = Extents::new(extents, extent_pages) else {
+    let Some(shape) = Shape::new(extents, extent_pages) else {
         unreachable!()
     };
-    let answered = serve_pages(alloc, input, store, ext);
+    let answered = serve_pages(alloc, input, store, shape);
     Ended {
         end: end_of(answered.end),
         host: answered.store.close(),
     }
 }
 
-// Serves a script on the pages of a store, whose extents are these.
+// Serves a script on the pages of a store, whose extents are of this shape.
 fn serve_pages<I: Source, S: Store>(
     alloc: Global,
     input: &mut I,
     store: S,
-    ext: Extents,
+    shape: Shape,
 ) -> Answered<S>
     requires going { (S.state store).ended ≡ false }
     requires unmarked { (S.state store).marked ≡ None }
-    ensures runs { IsSoundStore S.Pages ext store → RunsOnStore S.Pages ext (I.left input.old) (I.left input.new) store result.store result.end }
-    ensures damaged { (damage : Damage) → result.end ≡ Err (SessionStop.Damaged damage) → IsSoundStore S.Pages ext store → ⊥ }
+    ensures runs { IsSoundStore S.Pages shape store → RunsOnStore S.Pages shape (I.left input.old) (I.left input.new) store result.store result.end }
+    ensures damaged { (damage : Damage) → result.end ≡ Err (SessionStop.Damaged damage) → IsSoundStore S.Pages shape store → ⊥ }
     // Damage is that of the pages that are held behind the items that were answered.
     ensures breaks { (damage : Damage) → result.end ≡ Err (SessionStop.Damaged damage) → (replies : RepliesTo (I.left input.old) (I.left input.new) (S.state store).told (S.state result.store).told result.end)
-        × BreaksOnStore S.Pages ext replies.items store result.store damage }
+        × BreaksOnStore S.Pages shape replies.items store result.store damage }
     ensures reads { CountsFault (result.end ≡ Err SessionStop.Unread) (I.read_faults input.old) (I.read_faults input.new) }
     ensures unsaid { CountsFault (result.end ≡ Err SessionStop.Unsaid) (S.say_faults store) (S.say_faults result.store) }
     ensures device { CountsFault (result.end ≡ Err SessionStop.Device) (S.disk_faults store) (S.disk_faults result.store) }
@@ -157,7 +156,7 @@ fn serve_pages<I: Source, S: Store>(
     ensures reopens { OverTime S.clock S.left ReopensAlways store result.store }
     ensures later { S.clock store ≤ S.clock result.store }
 {
-    match Engine::open(alloc, store, ext) {
+    match Engine::open(alloc, store, shape) {
         Ok(engine) => {
             let mut engine = engine;
             let end = serve(alloc, input, &mut engine);

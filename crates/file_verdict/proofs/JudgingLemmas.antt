@@ -1,17 +1,19 @@
 -- The verdict on a file from that on its pages, and what the judge leaves of it.
-use Rattle.std.proofs.Common.{◌≡◌, ◌⊎◌, ◌≤◌, ℕ, List, Option, Some, None, IfSome, IfOk, Result, Ok, Err, refl, sym, ◌∙◌, subst, inl, inr}
+use mathlib.Core.Bool.{Bool-set}
+use Rattle.std.proofs.Common.{◌≡◌, ◌⊎◌, ◌≤◌, ℕ, List, Option, Some, None, IfSome, IfOk, Result, Ok, Err, refl, sym, ◌∙◌, ap, subst, inl, inr}
+use Rattle.std.specs.Prelude.{IsTrue}
 use Rattle.mdc_words.specs.Faults.{CountsFault}
 use Rattle.mdc_words.proofs.FaultsLemmas.{counts_fault_as}
 use Rattle.mdc_outside.specs.declared.disk.Disk as disk
 use Rattle.mdc_outside.specs.Moments.{Beside}
 use Rattle.store_api.specs.Causes.{fault_of_pages}
+use Rattle.store_api.specs.Extents.{is_shape}
 use Rattle.store_api.specs.Works.{Steady}
 use Rattle.store_api.specs.declared.fault.PageFault.{PageFault}
 use Rattle.store_api.specs.declared.fault.PageFault.TheVariants as page
 use Rattle.store_api.specs.declared.fault.StoreFault.TheVariants as fault
 use Rattle.store_api.specs.declared.pages.Pages as pages
-use Rattle.extent_map.specs.Owners.{IsSameShape}
-use Rattle.extent_map.specs.declared.extents.Extents.{Extents}
+use Rattle.store_api.specs.declared.shape.Shape.{Shape}
 use Rattle.table_trees.specs.ToldPages.{PageList}
 use Rattle.mdc_sound.specs.Breaks.{BreaksRule}
 use Rattle.mdc_sound.specs.SoundDatabase.{IsSoundDatabase}
@@ -21,11 +23,9 @@ use Rattle.page_store.specs.FileStore.{IsLeft}
 use Rattle.page_store.specs.Opening.{IsServed}
 use Rattle.page_store.specs.Shape.{extents_in, extent_pages_in}
 use Rattle.page_store.specs.Standing.{IsStoreImage, Stands, pages_in}
-use Rattle.store_api.specs.declared.shape.Shape.{Shape}
 use Rattle.file_check.specs.Verdicts.{IsVerdictOf}
 use Rattle.file_check.specs.declared.verdict.Verdict.{Verdict}
 use Rattle.file_check.specs.declared.verdict.Verdict.TheVariants.{Broken, Sound}
-use Rattle.file_check.proofs.BreaksAlongLemmas.{first_break_along}
 use Rattle.file_verdict.specs.Resting.{LeavesBase, StandsAsBefore, StaysFormed}
 use Rattle.file_verdict.specs.SoundFile.{IsSoundFile, StatesExtents}
 use Rattle.file_verdict.specs.Verdict.{IsAnswerOnSound, IsNoVerdict, IsVerdictOn, IsVerdictOnPages, verdict_of_check}
@@ -37,11 +37,11 @@ use Rattle.file_verdict.proofs.SoundFilesLemmas.{formed_along, formed_standing}
 -- ---- the verdict
 
 -- what a check found of pages is the verdict on them
-pub found_on_pages : (ext : Extents) (pages : PageList) (found : Result Verdict PageFault) (verdict : Result Verdict Unjudged) → verdict ≡ verdict_of_check found → IfOk found (IsVerdictOf ext pages)
-    → IsVerdictOnPages ext pages verdict
-found_on_pages ext pages found verdict is of = subst (IsVerdictOnPages ext pages) (sym is) (by_found found of)
+pub found_on_pages : (shape : Shape) (pages : PageList) (found : Result Verdict PageFault) (verdict : Result Verdict Unjudged) → verdict ≡ verdict_of_check found → IfOk found (IsVerdictOf shape pages)
+    → IsVerdictOnPages shape pages verdict
+found_on_pages shape pages found verdict is of = subst (IsVerdictOnPages shape pages) (sym is) (by_found found of)
   where
-    by_found : (found : Result Verdict PageFault) → IfOk found (IsVerdictOf ext pages) → IsVerdictOnPages ext pages (verdict_of_check found)
+    by_found : (found : Result Verdict PageFault) → IfOk found (IsVerdictOf shape pages) → IsVerdictOnPages shape pages (verdict_of_check found)
     by_found (Ok verdict) of = of
     by_found (Err page.Device) of = tt
     by_found (Err page.Memory) of = tt
@@ -63,31 +63,42 @@ found_counted found verdict before now last is same counts =
     other_way (Err page.Memory) e = absurd (cc)
 
 -- the verdict on the pages of a file that can be served is that on the file
-pub verdict_on_file : (bytes : List ℕ) (ext : Extents) (verdict : Result Verdict Unjudged) → IsServed bytes → StatesExtents bytes ext → IsVerdictOnPages ext (pages_in bytes) verdict → IsVerdictOn bytes verdict
-verdict_on_file bytes ext (Ok Sound) served states is = record { formed = served_formed bytes served; ext = ext; states = states; sound = is.sound }
-verdict_on_file bytes ext (Ok (Broken damage)) served states is = inr (record { served = served; ext = ext; states = states; first = is })
-verdict_on_file bytes ext (Err Device) served states is = tt
-verdict_on_file bytes ext (Err Memory) served states is = tt
-verdict_on_file bytes ext (Err Unmade) served states is = absurd is
-verdict_on_file bytes ext (Err NotMdc) served states is = absurd is
-verdict_on_file bytes ext (Err (Version version)) served states is = absurd is
+pub verdict_on_file : (bytes : List ℕ) (shape : Shape) (verdict : Result Verdict Unjudged) → IsServed bytes → StatesExtents bytes shape → IsVerdictOnPages shape (pages_in bytes) verdict → IsVerdictOn bytes verdict
+verdict_on_file bytes shape (Ok Sound) served states is = record { formed = served_formed bytes served; shape = shape; states = states; sound = is.sound }
+verdict_on_file bytes shape (Ok (Broken damage)) served states is = inr (record { served = served; shape = shape; states = states; first = is })
+verdict_on_file bytes shape (Err Device) served states is = tt
+verdict_on_file bytes shape (Err Memory) served states is = tt
+verdict_on_file bytes shape (Err Unmade) served states is = absurd is
+verdict_on_file bytes shape (Err NotMdc) served states is = absurd is
+verdict_on_file bytes shape (Err (Version version)) served states is = absurd is
 
--- extents that one file states are of one shape
-pub stated_alike : (bytes : List ℕ) (first second : Extents) → StatesExtents bytes first → StatesExtents bytes second → IsSameShape first second
-stated_alike bytes first second one other = record { cap = sym other.extents ∙ one.extents; extent_pages = sym other.extent_pages ∙ one.extent_pages }
+-- a shape by its numbers
+abbrev shape_of : (extents extent_pages : ℕ) → IsTrue (is_shape extents extent_pages) → Shape
+shape_of extents extent_pages within = record { extents = extents; extent_pages = extent_pages; within = within }
+
+-- two shapes of the same numbers are the same
+pub same_shape : (one other : Shape) → one.extents ≡ other.extents → one.extent_pages ≡ other.extent_pages → one ≡ other
+same_shape one other extents extent_pages =
+    subst (λ (e : ℕ). (x : IsTrue (is_shape e other.extent_pages)) → one ≡ shape_of e other.extent_pages x) extents
+    (subst (λ (n : ℕ). (x : IsTrue (is_shape one.extents n)) → one ≡ shape_of one.extents n x) extent_pages
+    (λ x. ap (shape_of one.extents one.extent_pages) (Bool-set _ _ one.within x))) other.within
+
+-- one file states one shape
+pub stated_alike : (bytes : List ℕ) (first second : Shape) → StatesExtents bytes first → StatesExtents bytes second → first ≡ second
+stated_alike bytes first second one other = same_shape first second (sym one.extents ∙ other.extents) (sym one.extent_pages ∙ other.extent_pages)
 
 -- pages of a sound file have no verdict but that they are sound
-pub answer_on_sound : ((ext : Extents) (pages : PageList) (rule page : ℕ) → IsSoundDatabase ext pages → BreaksRule ext pages rule page → ⊥) → (bytes : List ℕ) (ext : Extents) (verdict : Result Verdict Unjudged)
-    → StatesExtents bytes ext → IsVerdictOnPages ext (pages_in bytes) verdict → IsSoundFile bytes → IsAnswerOnSound verdict
-answer_on_sound unbroken bytes ext (Ok Sound) states is sound = tt
-answer_on_sound unbroken bytes ext (Ok (Broken damage)) states is sound =
-    let first = first_break_along ext sound.ext (pages_in bytes) damage.rule damage.page (stated_alike bytes ext sound.ext states sound.states) is in
-    unbroken sound.ext (pages_in bytes) damage.rule damage.page sound.sound first.breaks
-answer_on_sound unbroken bytes ext (Err Device) states is sound = tt
-answer_on_sound unbroken bytes ext (Err Memory) states is sound = tt
-answer_on_sound unbroken bytes ext (Err Unmade) states is sound = is
-answer_on_sound unbroken bytes ext (Err NotMdc) states is sound = is
-answer_on_sound unbroken bytes ext (Err (Version version)) states is sound = is
+pub answer_on_sound : ((shape : Shape) (pages : PageList) (rule page : ℕ) → IsSoundDatabase shape pages → BreaksRule shape pages rule page → ⊥) → (bytes : List ℕ) (shape : Shape) (verdict : Result Verdict Unjudged)
+    → StatesExtents bytes shape → IsVerdictOnPages shape (pages_in bytes) verdict → IsSoundFile bytes → IsAnswerOnSound verdict
+answer_on_sound unbroken bytes shape (Ok Sound) states is sound = tt
+answer_on_sound unbroken bytes shape (Ok (Broken damage)) states is sound =
+    let same = stated_alike bytes sound.shape shape sound.states states in
+    unbroken shape (pages_in bytes) damage.rule damage.page (subst (λ (of : Shape). IsSoundDatabase of (pages_in bytes)) same sound.sound) is.breaks
+answer_on_sound unbroken bytes shape (Err Device) states is sound = tt
+answer_on_sound unbroken bytes shape (Err Memory) states is sound = tt
+answer_on_sound unbroken bytes shape (Err Unmade) states is sound = is
+answer_on_sound unbroken bytes shape (Err NotMdc) states is sound = is
+answer_on_sound unbroken bytes shape (Err (Version version)) states is sound = is
 
 -- where there is no verdict, that may be answered of a sound file
 pub no_verdict_on_sound : (answer : Result Verdict Unjudged) → IsNoVerdict answer → IsAnswerOnSound answer

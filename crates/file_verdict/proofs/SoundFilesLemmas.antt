@@ -4,7 +4,7 @@ use Rattle.byteorder.specs.Endian.{big_number}
 use Rattle.mdc_words.proofs.ListedLemmas.{get_or-listed, length-listed}
 use Rattle.store_api.specs.Extents.{first_count}
 use Rattle.store_api.specs.StoreState.{zero_page}
-use Rattle.extent_map.specs.declared.extents.Extents.{Extents}
+use Rattle.store_api.specs.declared.shape.Shape.{Shape}
 use Rattle.table_trees.specs.ToldPages.{PageList}
 use Rattle.mdc_sound.specs.SoundDatabase.{IsSoundDatabase}
 use Rattle.mdc_sound.specs.SpaceRules.{stated_root}
@@ -46,7 +46,7 @@ sound_is_served bytes file =
     let within : count.extents ≤ extents_in (file_page bytes 1) = subst (λ n. count.extents ≤ n) (sym file.states.extents) count.within in
     let counts : count_of bytes ≡ first_count (extents_in (file_page bytes 1)) + count.extents * extent_pages_in (file_page bytes 1) =
     sym (length-listed (count_of bytes) (page_of bytes)) ∙ (count.count
-    ∙ (ap (λ n. first_count n + count.extents * file.ext.extent_pages) (sym file.states.extents)
+    ∙ (ap (λ n. first_count n + count.extents * file.shape.extent_pages) (sym file.states.extents)
     ∙ ap (λ n. first_count (extents_in (file_page bytes 1)) + count.extents * n) (sym file.states.extent_pages))) in (
       (long, formed.made),
       formed.birth,
@@ -70,12 +70,12 @@ refused_served opening.Memory bytes served refuses = inr refl
 -- ---- what stands for the pages of a file
 
 -- an image that a formed file stands for states its extents
-pub states_standing : (bytes image : List ℕ) (all : List (List ℕ)) (ext : Extents) → Stands bytes all image → StatesExtents bytes ext → StatesExtents image ext
-states_standing bytes image all ext stands states = record { extents = ap extents_in stands.birth ∙ states.extents; extent_pages = ap extent_pages_in stands.birth ∙ states.extent_pages }
+pub states_standing : (bytes image : List ℕ) (all : List (List ℕ)) (shape : Shape) → Stands bytes all image → StatesExtents bytes shape → StatesExtents image shape
+states_standing bytes image all shape stands states = record { extents = ap extents_in stands.birth ∙ states.extents; extent_pages = ap extent_pages_in stands.birth ∙ states.extent_pages }
 
 -- and the other way
-pub states_stood : (bytes image : List ℕ) (all : List (List ℕ)) (ext : Extents) → Stands bytes all image → StatesExtents image ext → StatesExtents bytes ext
-states_stood bytes image all ext stands states = record { extents = ap extents_in (sym stands.birth) ∙ states.extents; extent_pages = ap extent_pages_in (sym stands.birth) ∙ states.extent_pages }
+pub states_stood : (bytes image : List ℕ) (all : List (List ℕ)) (shape : Shape) → Stands bytes all image → StatesExtents image shape → StatesExtents bytes shape
+states_stood bytes image all shape stands states = record { extents = ap extents_in (sym stands.birth) ∙ states.extents; extent_pages = ap extent_pages_in (sym stands.birth) ∙ states.extent_pages }
 
 -- and is formed as the file is
 pub formed_standing : (file image : List ℕ) (all : PageList) → Stands file all image → StaysFormed file image
@@ -90,14 +90,14 @@ pub stands_before : (file image : List ℕ) → Stands file (pages_in file) imag
 stands_before file image stands = record { stays = formed_standing file image (pages_in file) stands; pages = stands.pages }
 
 -- what stands for the pages of a file states its extents
-pub states_as_before : (file image : List ℕ) (ext : Extents) → StandsAsBefore file image → StatesExtents file ext → StatesExtents image ext
-states_as_before file image ext stands states = record { extents = stands.stays.extents ∙ states.extents; extent_pages = stands.stays.extent_pages ∙ states.extent_pages }
+pub states_as_before : (file image : List ℕ) (shape : Shape) → StandsAsBefore file image → StatesExtents file shape → StatesExtents image shape
+states_as_before file image shape stands states = record { extents = stands.stays.extents ∙ states.extents; extent_pages = stands.stays.extent_pages ∙ states.extent_pages }
 
 -- what stands for the pages of a sound file is sound
 pub sound_standing : (file image : List ℕ) → StandsAsBefore file image → IsSoundFile file → IsSoundFile image
 sound_standing file image stands sound = record {
   formed = stands.stays.formed;
-  ext = sound.ext;
-  states = states_as_before file image sound.ext stands sound.states;
-  sound = subst (λ (pages : PageList). IsSoundDatabase sound.ext pages) (sym stands.pages) sound.sound;
+  shape = sound.shape;
+  states = states_as_before file image sound.shape stands sound.states;
+  sound = subst (λ (pages : PageList). IsSoundDatabase sound.shape pages) (sym stands.pages) sound.sound;
 }

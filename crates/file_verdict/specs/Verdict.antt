@@ -3,7 +3,7 @@ use Rattle.std.specs.Prelude.{◌⊎◌, ℕ, List, Result, Ok, Err}
 use Rattle.store_api.specs.declared.fault.Damage.{Damage}
 use Rattle.store_api.specs.declared.fault.PageFault.{PageFault}
 use Rattle.store_api.specs.declared.fault.PageFault.TheVariants as page
-use Rattle.extent_map.specs.declared.extents.Extents.{Extents}
+use Rattle.store_api.specs.declared.shape.Shape.{Shape}
 use Rattle.table_trees.specs.ToldPages.{PageList}
 use Rattle.mdc_sound.specs.Breaks.{IsFirstBreak}
 use Rattle.page_store.specs.Fresh.{IsUnmade}
@@ -20,9 +20,9 @@ use Rattle.file_verdict.specs.declared.unjudged.Unjudged.TheVariants.{Device, Me
 -- it.
 pub record BreaksFirst (damage : Damage) (file : List ℕ) : Type 0 where
   pub served : IsServed file
-  pub ext : Extents
-  pub states : StatesExtents file ext
-  pub first : IsFirstBreak ext (pages_in file) damage.rule damage.page
+  pub shape : Shape
+  pub states : StatesExtents file shape
+  pub first : IsFirstBreak shape (pages_in file) damage.rule damage.page
 
 -- The file is sound; or it can't be opened for this damage, or it can and this is the first rule that its pages break; or it isn't
 -- made, is another program's, or is of this other version. A fault of the disk and a want of memory say nothing of it.
@@ -46,12 +46,12 @@ abbrev pub IsAnswerOnSound : Result Verdict Unjudged → Type 0
 IsAnswerOnSound (Ok Sound) = Unit {0}
 IsAnswerOnSound answer = IsNoVerdict answer
 
--- the verdict is that of the pages of a file that was opened, in these extents
-abbrev pub IsVerdictOnPages : Extents → PageList → Result Verdict Unjudged → Type 0
-IsVerdictOnPages ext pages (Ok verdict) = IsVerdictOf ext pages verdict
-IsVerdictOnPages ext pages (Err Device) = Unit {0}
-IsVerdictOnPages ext pages (Err Memory) = Unit {0}
-IsVerdictOnPages ext pages (Err other) = ⊥
+-- the verdict is that of the pages of a file that was opened, of this shape
+abbrev pub IsVerdictOnPages : Shape → PageList → Result Verdict Unjudged → Type 0
+IsVerdictOnPages shape pages (Ok verdict) = IsVerdictOf shape pages verdict
+IsVerdictOnPages shape pages (Err Device) = Unit {0}
+IsVerdictOnPages shape pages (Err Memory) = Unit {0}
+IsVerdictOnPages shape pages (Err other) = ⊥
 
 -- what a check of the pages found, as the verdict on their file
 abbrev pub verdict_of_check : Result Verdict PageFault → Result Verdict Unjudged

@@ -4,24 +4,23 @@ ghost use Rattle.std.specs.Option.{ForSome};
 ghost use Rattle.mdc_words.specs.Faults.{CountsFault};
 ghost use Rattle.mdc_words.specs.Time.{OverTime};
 ghost use Rattle.mdc_outside.specs.Disk.{File, IsImage};
+ghost use Rattle.store_api.specs.declared.shape.Shape.{Shape};
 ghost use Rattle.page_file.specs.Bound.{LeavesOf};
 ghost use Rattle.page_file.specs.Leaving.{LeavesImage};
 ghost use Rattle.page_store.specs.Faults.{MayComeFirst};
 ghost use Rattle.page_store.specs.Opened.{CouldBeLeft, file_bytes};
 ghost use Rattle.page_store.specs.Opening.{IsServed, Refuses};
 ghost use Rattle.page_store.specs.Standing.{IsFormed};
-ghost use Rattle.extent_map.specs.declared.extents.Extents.{Extents};
 ghost use Rattle.file_verdict.specs.Resting.{ComesToRest, LeavesBase, StandsAsBefore};
 ghost use Rattle.file_verdict.specs.SoundFile.{IsSoundFile, StatesExtents};
 ghost use Rattle.file_verdict.specs.Verdict.{IsAnswerOnSound, IsNoVerdict, IsVerdictOn, IsVerdictOnPages, verdict_of_check};
 
 use crate::unjudged::Unjudged;
-use extent_map::Extents;
 use file_check::{Verdict, check, sound_pages_break_no_rule};
 use mdc_outside::Host;
 use page_store::{CACHED_PAGES, FileStore, OpenFault, Unopened};
 use std::alloc::Global;
-use store_api::{PageFault, Pages};
+use store_api::{PageFault, Pages, Shape};
 
 /// The verdict on a file, or why it has none, and the host.
 #[derive(Drop)]
@@ -68,8 +67,8 @@ pub fn judge_file<H: Host>(alloc: Global, host: H) -> Judged<H>
 // Judges the pages of a store that was just opened, and gives its host back.
 fn judge_store<H: Host>(alloc: Global, store: FileStore<H>) -> Judged<H>
     requires going { (⟦<FileStore<H> as Pages>⟧.state store).ended ≡ false }
-    ensures judges { ForSome (H.file store.host) (λ file. (ext : Extents) × StatesExtents file.bytes ext
-        × IsVerdictOnPages ext (⟦<FileStore<H> as Pages>⟧.state store).work result.verdict) }
+    ensures judges { ForSome (H.file store.host) (λ file. (shape : Shape) × StatesExtents file.bytes shape
+        × IsVerdictOnPages shape (⟦<FileStore<H> as Pages>⟧.state store).work result.verdict) }
     // No page is written: what is left of the host stands for the base of the store.
     ensures leaves { (file : File) (said : List ℕ) → H.file store.host ≡ Some file → (H.beside store.host).tape ≡ Some said
         → LeavesBase ⟦<FileStore<H> as Pages>⟧ H.Disk file.bytes said store result.host }
@@ -81,10 +80,10 @@ fn judge_store<H: Host>(alloc: Global, store: FileStore<H>) -> Judged<H>
 {
     let mut store = store;
     let (extents, extent_pages) = store.shape();
-    let Some(ext) = Extents::new(extents, extent_pages) else {
+    let Some(shape) = Shape::new(extents, extent_pages) else {
         unreachable!()
     };
-    let verdict = check(alloc, &ext, &mut store);
+    let verdict = check(alloc, shape, &mut store);
     Judged {
         verdict: verdict_of(verdict),
         host: store.close(),

@@ -14,12 +14,11 @@ ghost use Rattle.free_space.specs.FoundRoom.{FindsRoom, cell_key_of};
 
 use block_index::first_block_from;
 use block_map::{BlockMap, BlockRow, BlockState};
-use extent_map::Extents;
 use mdc_ast::TableDef;
 use row_page::capacity;
 use std::alloc::Global;
 use store_api::rules::{BLOCK_INDEXES_RULE, BLOCK_MAPS_RULE};
-use store_api::{Damage, Pages, StoreFault};
+use store_api::{Damage, Pages, Shape, StoreFault};
 use table_trees::cell_width;
 
 /// The lowest Used block from a number on that is of the cell with this key and has an empty slot, with its row in the block map.
@@ -27,30 +26,30 @@ use table_trees::cell_width;
 pub fn find_room<P: Pages>(
     alloc: Global,
     def: &TableDef,
-    ext: &Extents,
+    shape: Shape,
     pages: &mut P,
     key: &[u8],
     from: u32,
 ) -> Result<Option<BlockRow>, StoreFault>
     requires defined { IsTableDef def.now.number def.now }
     requires going { (P.state pages.old).ended ≡ false }
-    ensures finds { IfOk result (λ found. (owners : List Kind) (forests : TableForests) (row : Row) → StandsTable P.Pages ext.now pages.old def.now owners forests
+    ensures finds { IfOk result (λ found. (owners : List Kind) (forests : TableForests) (row : Row) → StandsTable P.Pages shape pages.old def.now owners forests
         → IsTrue (fits_all def.now.columns row.values) → key.now ≡ cell_key_of def.now row.values
-        → FindsRoom def.now (spots_of P.Pages ext.now pages.old def.now owners forests) forests.map row from found) }
-    ensures within { IfOk result (λ found. IfSome found (λ found. found.block < ext.now.cap)) }
+        → FindsRoom def.now (spots_of P.Pages shape pages.old def.now owners forests) forests.map row from found) }
+    ensures within { IfOk result (λ found. IfSome found (λ found. found.block < shape.extents)) }
     ensures same { (P.state pages.new).work ≡ (P.state pages.old).work }
-    ensures runs { RunsOverPages P.Pages NoPage (IsTableTreePage P.Pages ext.now pages.old def.now) (BreaksTable P.Pages ext.now pages.old def.now) pages.old pages.new (fault_of result) }
+    ensures runs { RunsOverPages P.Pages NoPage (IsTableTreePage P.Pages shape pages.old def.now) (BreaksTable P.Pages shape pages.old def.now) pages.old pages.new (fault_of result) }
 {
     if key.len() != usize::from(cell_width(def)) {
         return Ok(None);
     }
-    let slots = ext.extent_pages * u32::from(capacity(&def.columns));
+    let slots = shape.extent_pages * u32::from(capacity(&def.columns));
     let mut next = from;
     'walk: loop {
         let Some(block) = first_block_from(alloc, def, pages, key, next)? else {
             return Ok(None);
         };
-        let row = used_row(alloc, def, ext, pages, block)?;
+        let row = used_row(alloc, def, shape, pages, block)?;
         if u32::from(row.rows) < slots {
             return Ok(Some(row));
         }
@@ -63,19 +62,19 @@ pub fn find_room<P: Pages>(
 fn used_row<P: Pages>(
     alloc: Global,
     def: &TableDef,
-    ext: &Extents,
+    shape: Shape,
     pages: &mut P,
     block: u32,
 ) -> Result<BlockRow, StoreFault>
     requires going { (P.state pages.old).ended ≡ false }
-    ensures mapped { IfOk result (λ row. (owners : List Kind) (forests : TableForests) → StandsTable P.Pages ext.now pages.old def.now owners forests → HasRow row forests.map) }
+    ensures mapped { IfOk result (λ row. (owners : List Kind) (forests : TableForests) → StandsTable P.Pages shape pages.old def.now owners forests → HasRow row forests.map) }
     ensures named { IfOk result (λ row. row.block ≡ block) }
     ensures used { IfOk result (λ row. row.state ≡ BlockState.Used) }
-    ensures within { IfOk result (λ row. row.block < ext.now.cap) }
+    ensures within { IfOk result (λ row. row.block < shape.extents) }
     ensures few { IfOk result (λ row. row.rows < 2 ^ 16) }
     ensures same { (P.state pages.new).work ≡ (P.state pages.old).work }
-    ensures runs { RunsOverPages P.Pages NoPage (IsTableTreePage P.Pages ext.now pages.old def.now)
-        (BreaksExpected P.Pages ext.now pages.old def.now (λ owners forests. Contains (used_blocks forests.map) block)) pages.old pages.new (fault_of result) }
+    ensures runs { RunsOverPages P.Pages NoPage (IsTableTreePage P.Pages shape pages.old def.now)
+        (BreaksExpected P.Pages shape pages.old def.now (λ owners forests. Contains (used_blocks forests.map) block)) pages.old pages.new (fault_of result) }
 {
     let map = BlockMap::at(alloc, def.roots.map);
     let Some(row) = map.get(pages, block)? else {
@@ -84,7 +83,7 @@ fn used_row<P: Pages>(
     if row.state != BlockState::Used {
         return Err(damaged(def.roots.composite, BLOCK_INDEXES_RULE));
     }
-    if block >= ext.cap {
+    if block >= shape.extents {
         return Err(damaged(def.roots.map, BLOCK_MAPS_RULE));
     }
     Ok(row)

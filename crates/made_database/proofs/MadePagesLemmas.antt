@@ -5,10 +5,10 @@ use Rattle.std.proofs.lemmas.List.{get_or-replicate, length-replicate}
 use Rattle.store_api.specs.Extents.{first_count, is_shape, map_pages}
 use Rattle.store_api.specs.Frame.{HoldsPage}
 use Rattle.store_api.specs.StoreState.{page_at, zero_page}
+use Rattle.store_api.specs.declared.shape.Shape.{Shape}
 use Rattle.extent_map.specs.Kinds.{is_used_place}
 use Rattle.extent_map.specs.Map.{HoldsMap}
 use Rattle.extent_map.specs.Owners.{IsUsedPage, extent_of, place_in_extent}
-use Rattle.extent_map.specs.declared.extents.Extents.{Extents}
 use Rattle.extent_map.specs.declared.kind.Kind.TheVariants.{Free}
 use Rattle.extent_map.proofs.LawsOfTheMap.{fresh_map, owner_of-fresh}
 use Rattle.table_trees.specs.ToldPages.{told_pages}
@@ -18,8 +18,8 @@ use Rattle.page_store.specs.Fresh.{root_page}
 use Rattle.made_database.specs.MadePages.{made_pages}
 
 -- what they show: each extent is free, and there is no table
-abbrev made_view : Extents → DatabaseView
-made_view ext = record { owners = replicate ext.cap Free; places = replicate 16 None }
+abbrev made_view : Shape → DatabaseView
+made_view shape = record { owners = replicate shape.extents Free; places = replicate 16 None }
 
 -- there are as many pages as a new database has
 length-made_pages : (extents : ℕ) → length (made_pages extents) ≡ first_count extents
@@ -34,28 +34,28 @@ page_at-made_pages : (extents p : ℕ) → 0 < p → p < first_count extents →
 page_at-made_pages extents zero behind within = absurd (omega (arith, behind))
 page_at-made_pages extents (suc p) behind within = get_or-replicate (16 + map_pages extents) p zero_page _ (omega (arith, within))
 
-root_sound : (ext : Extents) → IsRootSound ext (made_pages ext.cap)
-root_sound ext = record {
-  count = record { extents = 0; within = omega arith; count = omega (arith, length-made_pages ext.cap) };
-  root = root_page-stated ext.cap ∙ ap stated_root (sym (length-made_pages ext.cap));
+root_sound : (shape : Shape) → IsRootSound shape (made_pages shape.extents)
+root_sound shape = record {
+  count = record { extents = 0; within = omega arith; count = omega (arith, length-made_pages shape.extents) };
+  root = root_page-stated shape.extents ∙ ap stated_root (sym (length-made_pages shape.extents));
 }
 
-map_is_blank : (ext : Extents) (i : ℕ) → i < map_pages ext.cap → HoldsPage told_pages (made_pages ext.cap) (17 + i) zero_page
-map_is_blank ext i low = record {
+map_is_blank : (shape : Shape) (i : ℕ) → i < map_pages shape.extents → HoldsPage told_pages (made_pages shape.extents) (17 + i) zero_page
+map_is_blank shape i low = record {
   is_told = refl;
-  within = omega (arith, low, length-made_pages ext.cap);
-  bytes_are = page_at-made_pages ext.cap (17 + i) (omega arith) (omega (arith, low));
+  within = omega (arith, low, length-made_pages shape.extents);
+  bytes_are = page_at-made_pages shape.extents (17 + i) (omega arith) (omega (arith, low));
 }
 
-map_held : (ext : Extents) → HoldsMap told_pages ext (made_pages ext.cap) (replicate ext.cap Free)
-map_held ext = fresh_map ext (made_pages ext.cap) (map_is_blank ext)
+map_held : (shape : Shape) → HoldsMap told_pages shape (made_pages shape.extents) (replicate shape.extents Free)
+map_held shape = fresh_map shape (made_pages shape.extents) (map_is_blank shape)
 
-map_sound : (ext : Extents) → IsMapSound ext (made_pages ext.cap) (replicate ext.cap Free)
-map_sound ext = record {
-  count = length-replicate ext.cap Free;
+map_sound : (shape : Shape) → IsMapSound shape (made_pages shape.extents) (replicate shape.extents Free)
+map_sound shape = record {
+  count = length-replicate shape.extents Free;
   each = λ i low. record {
-    held = (map_held ext).pages i low;
-    owned = λ e on. subst (λ kind. IsOwnerThere (made_pages ext.cap) kind) (sym (owner_of-fresh ext.cap e)) tt;
+    held = (map_held shape).pages i low;
+    owned = λ e on. subst (λ kind. IsOwnerThere (made_pages shape.extents) kind) (sym (owner_of-fresh shape.extents e)) tt;
   };
 }
 
@@ -66,30 +66,30 @@ no_place_filled Holds first zero each = tt
 no_place_filled Holds first (suc count) each =
     (each first (omega arith), no_place_filled Holds (first + 1) count (λ t low. each t (omega (arith, low))))
 
-tables_sound : (ext : Extents) → AreTablePagesSound ext (made_pages ext.cap) (made_view ext)
-tables_sound ext = record {
-  each = no_place_filled (IsTablePlaceSound ext (made_pages ext.cap) (made_view ext).owners) 0 16 (λ t low. page_at-made_pages ext.cap (1 + t) (omega arith) (omega (arith, low)));
+tables_sound : (shape : Shape) → AreTablePagesSound shape (made_pages shape.extents) (made_view shape)
+tables_sound shape = record {
+  each = no_place_filled (IsTablePlaceSound shape (made_pages shape.extents) (made_view shape).owners) 0 16 (λ t low. page_at-made_pages shape.extents (1 + t) (omega arith) (omega (arith, low)));
   tables_differ = λ i j d low high. absurd (omega (arith, high));
   indexes_differ = λ i j d low high. absurd (omega (arith, high));
 }
 
-none_used : (ext : Extents) (p : ℕ) → IsUsedPage ext (replicate ext.cap Free) p → ⊥
-none_used ext p used =
-    let none : IsTrue (is_used_place (place_in_extent ext p) Free) =
-    subst (λ kind. IsTrue (is_used_place (place_in_extent ext p) kind)) (owner_of-fresh ext.cap (extent_of ext p)) used.used in
+none_used : (shape : Shape) (p : ℕ) → IsUsedPage shape (replicate shape.extents Free) p → ⊥
+none_used shape p used =
+    let none : IsTrue (is_used_place (place_in_extent shape p) Free) =
+    subst (λ kind. IsTrue (is_used_place (place_in_extent shape p) kind)) (owner_of-fresh shape.extents (extent_of shape p)) used.used in
     absurd (cc none)
 
-tree_page_sound : (ext : Extents) (p : ℕ) → IsTreePageSound ext (made_view ext) p
-tree_page_sound ext p = record { used = λ used. absurd (none_used ext p used); others = λ apart. refl }
+tree_page_sound : (shape : Shape) (p : ℕ) → IsTreePageSound shape (made_view shape) p
+tree_page_sound shape p = record { used = λ used. absurd (none_used shape p used); others = λ apart. refl }
 
-made_pages-keep_all : (ext : Extents) → KeepAllRules ext (made_pages ext.cap) (made_view ext)
-made_pages-keep_all ext = record {
+made_pages-keep_all : (shape : Shape) → KeepAllRules shape (made_pages shape.extents) (made_view shape)
+made_pages-keep_all shape = record {
   first = record {
-    rule1 = root_sound ext;
-    rule2 = map_sound ext;
-    rule3 = tables_sound ext;
+    rule1 = root_sound shape;
+    rule2 = map_sound shape;
+    rule3 = tables_sound shape;
     rule4 = tt;
-    rule5 = tree_page_sound ext;
+    rule5 = tree_page_sound shape;
     rule6 = tt;
     rule7 = tt;
     rule8 = record { used = tt; idle = tt };
@@ -101,10 +101,9 @@ made_pages-keep_all ext = record {
 }
 
 -- the pages that are made are sound
-pub made_pages-sound : (ext : Extents) → IsSoundDatabase ext (made_pages ext.cap)
-made_pages-sound ext = (made_view ext, made_pages-keep_all ext)
+pub made_pages-sound : (shape : Shape) → IsSoundDatabase shape (made_pages shape.extents)
+made_pages-sound shape = (made_view shape, made_pages-keep_all shape)
 
--- there are extents of each shape within the limits
-pub extents_of_shape : (extents extent_pages : ℕ) → IsTrue (is_shape extents extent_pages) → (ext : Extents) × (ext.cap ≡ extents) × (ext.extent_pages ≡ extent_pages)
-extents_of_shape extents extent_pages within =
-    (record { cap = extents; extent_pages = extent_pages; free_from = 0; unused_from = 0; within = within }, refl, refl)
+-- there is a shape of each two numbers within the limits
+pub shape_of_numbers : (extents extent_pages : ℕ) → IsTrue (is_shape extents extent_pages) → (shape : Shape) × (shape.extents ≡ extents) × (shape.extent_pages ≡ extent_pages)
+shape_of_numbers extents extent_pages within = (record { extents = extents; extent_pages = extent_pages; within = within }, refl, refl)

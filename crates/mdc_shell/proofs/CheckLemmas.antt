@@ -234,7 +234,7 @@ checks_unserved-opened g before said new_tape old mid new status attached checks
 pub well_standing : (file image : List ℕ) → StandsAsBefore file image → IsWell file → IsWell image
 well_standing file image stands well = record {
   formed = stands.stays.formed;
-  ext = well.ext;
-  states = states_as_before file image well.ext stands well.states;
-  served = subst (λ (pages : PageList). AreServedPages well.ext pages) (sym stands.pages) well.served;
+  shape = well.shape;
+  states = states_as_before file image well.shape stands well.states;
+  served = subst (λ (pages : PageList). AreServedPages well.shape pages) (sym stands.pages) well.served;
 }

@@ -8,7 +8,7 @@ use Rattle.mdc_ast.specs.Definitions.{no_tables}
 use Rattle.statement_meaning.specs.Session.{Session, session_on}
 use Rattle.mdc_outside.specs.Disk.{File}
 use Rattle.store_api.specs.Extents.{is_shape}
-use Rattle.extent_map.specs.declared.extents.Extents.{Extents}
+use Rattle.store_api.specs.declared.shape.Shape.{Shape}
 use Rattle.table_trees.specs.ToldPages.{PageList}
 use Rattle.mdc_sound.specs.SoundDatabase.{IsSoundDatabase}
 use Rattle.mdc_sound.specs.StandsForDatabase.{PagesStandFor}
@@ -33,26 +33,26 @@ use Rattle.mdc_shell.proofs.NothingRunLemmas.{nothing_run}
 
 -- The laws of the pages of a database that was just made.
 pub record MadeLaws : Type 0 where
-  pub sound : (ext : Extents) → IsSoundDatabase ext (made_pages ext.cap)
-  pub stands : (ext : Extents) → PagesStandFor ext (made_pages ext.cap) empty_database
-  pub stored : (ext : Extents) → AreStored (made_pages ext.cap) no_tables
+  pub sound : (shape : Shape) → IsSoundDatabase shape (made_pages shape.extents)
+  pub stands : (shape : Shape) → PagesStandFor shape (made_pages shape.extents) empty_database
+  pub stored : (shape : Shape) → AreStored (made_pages shape.extents) no_tables
   pub valid : AreBuiltDefs no_tables
-  pub extents : (extents extent_pages : ℕ) → IsTrue (is_shape extents extent_pages) → (ext : Extents) × (ext.cap ≡ extents) × (ext.extent_pages ≡ extent_pages)
+  pub extents : (extents extent_pages : ℕ) → IsTrue (is_shape extents extent_pages) → (shape : Shape) × (shape.extents ≡ extents) × (shape.extent_pages ≡ extent_pages)
 
 -- the pages that are made are served
-made_pages-served : MadeLaws → (ext : Extents) → AreServedPages ext (made_pages ext.cap)
-made_pages-served laws ext = record { sound = laws.sound ext; defs = no_tables; stored = laws.stored ext; valid = laws.valid }
+made_pages-served : MadeLaws → (shape : Shape) → AreServedPages shape (made_pages shape.extents)
+made_pages-served laws shape = record { sound = laws.sound shape; defs = no_tables; stored = laws.stored shape; valid = laws.valid }
 
 -- the law of a run over pages: it is one over lists
 abbrev pub OverLists : Type 0
-OverLists = (ext : Extents) (held : HeldPages) (items : List Item) (outcomes : List Outcome) (stages : List Stage) → GoesOnPages ext held items outcomes stages
-    → (session : Session) → StandsForSession ext held session → (sessions : List Session) × GoesOnLists ext held session items outcomes stages sessions
+OverLists = (shape : Shape) (held : HeldPages) (items : List Item) (outcomes : List Outcome) (stages : List Stage) → GoesOnPages shape held items outcomes stages
+    → (session : Session) → StandsForSession shape held session → (sessions : List Session) × GoesOnLists shape held session items outcomes stages sessions
 
 -- a run on pages that stand for no table is one over a database without a table
-over_nothing : OverLists → (ext : Extents) (pages : PageList) (said : List ℕ) (script left tape : Option (List ℕ)) (end_ : Result Served FileStop) → PagesStandFor ext pages empty_database
-    → RunsItems ext pages said script left tape end_ → (run : RunsItems ext pages said script left tape end_) × (run.db ≡ empty_database)
-over_nothing over ext pages said script left tape end_ stands run =
-    let all = over ext run.held run.items run.outcomes run.stages run.goes (session_on empty_database) (opened_session ext pages run.held empty_database run.opened stands) in (
+over_nothing : OverLists → (shape : Shape) (pages : PageList) (said : List ℕ) (script left tape : Option (List ℕ)) (end_ : Result Served FileStop) → PagesStandFor shape pages empty_database
+    → RunsItems shape pages said script left tape end_ → (run : RunsItems shape pages said script left tape end_) × (run.db ≡ empty_database)
+over_nothing over shape pages said script left tape end_ stands run =
+    let all = over shape run.held run.items run.outcomes run.stages run.goes (session_on empty_database) (opened_session shape pages run.held empty_database run.opened stands) in (
       record {
         held = run.held;
         opened = run.opened;
@@ -76,23 +76,23 @@ over_nothing over ext pages said script left tape end_ stands run =
     )
 
 -- a run on a scratch file that was just made
-pub made_file-runs : MadeLaws → OverLists → (file : File) (ext : Extents) (said : List ℕ) (script left tape : Option (List ℕ)) (end_ : Result Served FileStop) → HoldsFresh 4096 4 file
-    → IsEmptyDatabase 4096 file.bytes → StatesExtents file.bytes ext → RunsItems ext (pages_in file.bytes) said script left tape end_ → RunsScratch said script left tape (status_of end_)
-made_file-runs laws over file ext said script left tape end_ fresh empty states run =
+pub made_file-runs : MadeLaws → OverLists → (file : File) (shape : Shape) (said : List ℕ) (script left tape : Option (List ℕ)) (end_ : Result Served FileStop) → HoldsFresh 4096 4 file
+    → IsEmptyDatabase 4096 file.bytes → StatesExtents file.bytes shape → RunsItems shape (pages_in file.bytes) said script left tape end_ → RunsScratch said script left tape (status_of end_)
+made_file-runs laws over file shape said script left tape end_ fresh empty states run =
     let stated = made_states 4096 4 file.bytes refl fresh.bytes in
-    let cap : ext.cap ≡ 4096 = sym states.extents ∙ stated.0 in
-    let pages : ext.extent_pages ≡ 4 = sym states.extent_pages ∙ stated.1 in
-    let stands : PagesStandFor ext (made_pages 4096) empty_database = subst (λ (n : ℕ). PagesStandFor ext (made_pages n) empty_database) cap (laws.stands ext) in
-    let on_made : RunsItems ext (made_pages 4096) said script left tape end_ = subst (λ (p : PageList). RunsItems ext p said script left tape end_) empty.pages run in
-    let whole = over_nothing over ext (made_pages 4096) said script left tape end_ stands on_made in
-    record { end_ = end_; ext = ext; extents = cap; extent_pages = pages; run = whole.0; empty = whole.1; status_is = refl }
+    let cap : shape.extents ≡ 4096 = sym states.extents ∙ stated.0 in
+    let pages : shape.extent_pages ≡ 4 = sym states.extent_pages ∙ stated.1 in
+    let stands : PagesStandFor shape (made_pages 4096) empty_database = subst (λ (n : ℕ). PagesStandFor shape (made_pages n) empty_database) cap (laws.stands shape) in
+    let on_made : RunsItems shape (made_pages 4096) said script left tape end_ = subst (λ (p : PageList). RunsItems shape p said script left tape end_) empty.pages run in
+    let whole = over_nothing over shape (made_pages 4096) said script left tape end_ stands on_made in
+    record { end_ = end_; shape = shape; extents = cap; extent_pages = pages; run = whole.0; empty = whole.1; status_is = refl }
 
 -- a run of none of a script's items on a scratch file
 pub nothing_run-scratch : MadeLaws → (said : List ℕ) (script : Option (List ℕ)) (stop : FileStop) → IsStopBefore stop → RunsScratch said script script (Some said) (status_of (Err stop))
 nothing_run-scratch laws said script stop before =
     let found = laws.extents 4096 4 refl in
-    let ext : Extents = found.0 in
-    let served : AreServedPages ext (made_pages 4096) = subst (λ (n : ℕ). AreServedPages ext (made_pages n)) found.1 (made_pages-served laws ext) in
-    let stands : PagesStandFor ext (made_pages 4096) empty_database = subst (λ (n : ℕ). PagesStandFor ext (made_pages n) empty_database) found.1 (laws.stands ext) in
-    let run = nothing_run ext (made_pages 4096) empty_database said script stop before served stands in
-    record { end_ = Err stop; ext = ext; extents = found.1; extent_pages = found.2; run = run.0; empty = run.1; status_is = refl }
+    let shape : Shape = found.0 in
+    let served : AreServedPages shape (made_pages 4096) = subst (λ (n : ℕ). AreServedPages shape (made_pages n)) found.1 (made_pages-served laws shape) in
+    let stands : PagesStandFor shape (made_pages 4096) empty_database = subst (λ (n : ℕ). PagesStandFor shape (made_pages n) empty_database) found.1 (laws.stands shape) in
+    let run = nothing_run shape (made_pages 4096) empty_database said script stop before served stands in
+    record { end_ = Err stop; shape = shape; extents = found.1; extent_pages = found.2; run = run.0; empty = run.1; status_is = refl }

@@ -5,7 +5,7 @@ use Rattle.mdc_ast.specs.Database.{Database}
 use Rattle.statement_meaning.specs.Session.{first_settings}
 use Rattle.statement_meaning.specs.declared.pass.Pass.TheVariants.{Idle}
 use Rattle.store_api.specs.declared.fault.Damage.{Damage}
-use Rattle.extent_map.specs.declared.extents.Extents.{Extents}
+use Rattle.store_api.specs.declared.shape.Shape.{Shape}
 use Rattle.table_trees.specs.ToldPages.{PageList}
 use Rattle.mdc_sound.specs.StandsForDatabase.{PagesStandFor}
 use Rattle.script_engine.specs.Held.{HeldPages}
@@ -25,10 +25,10 @@ use Rattle.file_session.proofs.HostRunsLemmas.{opened_session}
 use Rattle.mdc_shell.specs.Run.{IsStopBefore}
 
 -- a run of no items on pages that are served, which stand for this database, up to this end of its session
-run_to : (ext : Extents) (pages : PageList) (db : Database) (said : List ℕ) (script : Option (List ℕ)) (end_ : Result Served SessionStop) → AreServedPages ext pages → PagesStandFor ext pages db
+run_to : (shape : Shape) (pages : PageList) (db : Database) (said : List ℕ) (script : Option (List ℕ)) (end_ : Result Served SessionStop) → AreServedPages shape pages → PagesStandFor shape pages db
     → ((damage : Damage) → end_ ≡ Err (session.Damaged damage) → ⊥) → IfSome script (λ bytes. EndsScript bytes script [] [] [] [] end_)
-    → (run : RunsItems ext pages said script script (Some said) (end_of_session end_)) × (run.db ≡ db)
-run_to ext pages db said script end_ served stands undamaged ends =
+    → (run : RunsItems shape pages said script script (Some said) (end_of_session end_)) × (run.db ≡ db)
+run_to shape pages db said script end_ served stands undamaged ends =
     let held : HeldPages = record { base = pages; work = pages; defs = served.defs; open_ = false; settings = first_settings; pass = Idle } in
     let opened : IsOpened pages held = record { base = refl; work = refl; defs = served.stored; closed = refl; settings = refl; pass = refl } in (
       record {
@@ -42,7 +42,7 @@ run_to ext pages db said script end_ served stands undamaged ends =
         in_hand = [];
         goes = GoesOnPages.nothing;
         sessions = [];
-        lists = GoesOnLists.nothing (opened_session ext pages held db opened stands);
+        lists = GoesOnLists.nothing (opened_session shape pages held db opened stands);
         more = [];
         tape_is = ap Some (sym (append-nil said));
         end_ = end_;
@@ -54,14 +54,14 @@ run_to ext pages db said script end_ served stands undamaged ends =
     )
 
 -- such a run up to a stop that comes before anything is taken
-pub nothing_run : (ext : Extents) (pages : PageList) (db : Database) (said : List ℕ) (script : Option (List ℕ)) (stop : FileStop) → IsStopBefore stop → AreServedPages ext pages
-    → PagesStandFor ext pages db → (run : RunsItems ext pages said script script (Some said) (Err stop)) × (run.db ≡ db)
-nothing_run ext pages db said script Device before served stands = run_to ext pages db said script (Err session.Device) served stands (λ damage is. cc) (ends_first script session.Device (λ e. cc) (λ e. cc))
-nothing_run ext pages db said script Memory before served stands = run_to ext pages db said script (Err session.Memory) served stands (λ damage is. cc) (ends_first script session.Memory (λ e. cc) (λ e. cc))
-nothing_run ext pages db said script Unmade before served stands = absurd before
-nothing_run ext pages db said script NotMdc before served stands = absurd before
-nothing_run ext pages db said script (Version version) before served stands = absurd before
-nothing_run ext pages db said script Unread before served stands = absurd before
-nothing_run ext pages db said script TooLong before served stands = absurd before
-nothing_run ext pages db said script Unsaid before served stands = absurd before
-nothing_run ext pages db said script (Damaged damage) before served stands = absurd before
+pub nothing_run : (shape : Shape) (pages : PageList) (db : Database) (said : List ℕ) (script : Option (List ℕ)) (stop : FileStop) → IsStopBefore stop → AreServedPages shape pages
+    → PagesStandFor shape pages db → (run : RunsItems shape pages said script script (Some said) (Err stop)) × (run.db ≡ db)
+nothing_run shape pages db said script Device before served stands = run_to shape pages db said script (Err session.Device) served stands (λ damage is. cc) (ends_first script session.Device (λ e. cc) (λ e. cc))
+nothing_run shape pages db said script Memory before served stands = run_to shape pages db said script (Err session.Memory) served stands (λ damage is. cc) (ends_first script session.Memory (λ e. cc) (λ e. cc))
+nothing_run shape pages db said script Unmade before served stands = absurd before
+nothing_run shape pages db said script NotMdc before served stands = absurd before
+nothing_run shape pages db said script (Version version) before served stands = absurd before
+nothing_run shape pages db said script Unread before served stands = absurd before
+nothing_run shape pages db said script TooLong before served stands = absurd before
+nothing_run shape pages db said script Unsaid before served stands = absurd before
+nothing_run shape pages db said script (Damaged damage) before served stands = absurd before

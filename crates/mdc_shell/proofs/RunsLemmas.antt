@@ -10,7 +10,7 @@ use Rattle.mdc_outside.specs.Outside.{Takes}
 use Rattle.mdc_outside.specs.declared.disk.Disk.{Ghosts}
 use Rattle.mdc_outside.proofs.MomentLemmas.{within_call-told}
 use Rattle.store_api.specs.declared.fault.Damage.{Damage}
-use Rattle.extent_map.specs.declared.extents.Extents.{Extents}
+use Rattle.store_api.specs.declared.shape.Shape.{Shape}
 use Rattle.table_trees.specs.ToldPages.{PageList}
 use Rattle.page_file.specs.Leaving.{LeavesImage}
 use Rattle.page_file.proofs.LeavesLemmas.{nothing_said}
@@ -53,7 +53,7 @@ end_of_session-quiet (Err (session.Damaged damage)) undamaged = absurd (undamage
 end_of_session-quiet (Err session.Memory) undamaged = refl
 
 -- so does a run of items
-pub runs_items-quiet : {ext : Extents} {pages : PageList} {said : List ℕ} {script left tape : Option (List ℕ)} {end_ : Result Served FileStop} → RunsItems ext pages said script left tape end_
+pub runs_items-quiet : {shape : Shape} {pages : PageList} {said : List ℕ} {script left tape : Option (List ℕ)} {end_ : Result Served FileStop} → RunsItems shape pages said script left tape end_
     → line_of_end end_ ≡ []
 runs_items-quiet run = ap line_of_end run.result_is ∙ end_of_session-quiet run.end_ run.undamaged
 
@@ -92,7 +92,7 @@ pub runs_path-opened : {D : Type 0} (g : Ghosts D) (before : File) (said : List 
 runs_path-opened g before said script left old mid new status attached run = record {
   end_ = run.end_;
   run = record {
-    ext = run.run.ext;
+    shape = run.run.shape;
     states_extents = run.run.states_extents;
     run = run.run.run;
     leaves = elim run.run.leaves [
@@ -198,14 +198,14 @@ refuses_file-before g before said new_tape old new stop is_before same meanwhile
 }
 
 pub runs_path-before : {D : Type 0} (g : Ghosts D) (before : File) (said : List ℕ) (script : Option (List ℕ)) (old new : D) (stop : FileStop) (well : IsWell before.bytes)
-    → RunsItems well.ext (pages_in before.bytes) said script script (Some said) (Err stop) → (g.beside new).tape ≡ Some said
+    → RunsItems well.shape (pages_in before.bytes) said script script (Some said) (Err stop) → (g.beside new).tape ≡ Some said
     → OverTime g.clock g.moment (LeavesImage (CouldBeLeft before) said) old new → RunsPath g before said script script old new (status_of_stop stop)
 runs_path-before g before said script old new stop well items tape meanwhile = record {
   end_ = Err stop;
   run = record {
-    ext = well.ext;
+    shape = well.shape;
     states_extents = well.states;
-    run = subst (λ (t : Option (List ℕ)). RunsItems well.ext (pages_in before.bytes) said script script t (Err stop)) (sym tape) items;
+    run = subst (λ (t : Option (List ℕ)). RunsItems well.shape (pages_in before.bytes) said script script t (Err stop)) (sym tape) items;
     leaves = inr meanwhile;
   };
   status_is = refl;
@@ -229,8 +229,8 @@ completes_session (Err (session.Damaged damage)) script left said items in_hand 
 completes_session (Err session.Memory) script left said items in_hand outcomes undamaged ends within no_disk no_read no_say = inr (inr refl)
 
 -- so is a run of items, whose status is that of its end
-pub runs_items-complete : {ext : Extents} {pages : PageList} (said : List ℕ) (script left tape : Option (List ℕ)) (end_ : Result Served FileStop) (status : ℕ)
-    → RunsItems ext pages said script left tape end_ → status ≡ status_of end_ → IsWithinLimit script → (status ≡ 3 → ⊥) → (status ≡ 4 → ⊥) → (status ≡ 5 → ⊥) → IsComplete status
+pub runs_items-complete : {shape : Shape} {pages : PageList} (said : List ℕ) (script left tape : Option (List ℕ)) (end_ : Result Served FileStop) (status : ℕ)
+    → RunsItems shape pages said script left tape end_ → status ≡ status_of end_ → IsWithinLimit script → (status ≡ 3 → ⊥) → (status ≡ 4 → ⊥) → (status ≡ 5 → ⊥) → IsComplete status
 runs_items-complete said script left tape end_ status run is within no_disk no_read no_say =
     let same : status ≡ status_of (end_of_session run.end_) = is ∙ ap status_of run.result_is in
     subst IsComplete (sym same) (completes_session run.end_ script left run.more run.items run.in_hand run.outcomes run.undamaged run.ends within

@@ -8,7 +8,7 @@ use Rattle.mdc_outside.specs.Moments.{IsMoment}
 use Rattle.mdc_outside.specs.Outside.{Takes, TakesPart}
 use Rattle.mdc_outside.specs.declared.disk.Disk.{Ghosts}
 use Rattle.store_api.specs.declared.fault.Damage.{Damage}
-use Rattle.extent_map.specs.declared.extents.Extents.{Extents}
+use Rattle.store_api.specs.declared.shape.Shape.{Shape}
 use Rattle.mdc_sound.specs.StandsForDatabase.{PagesStandFor}
 use Rattle.page_store.specs.Standing.{pages_in}
 use Rattle.made_database.specs.MadePages.{made_pages}
@@ -84,10 +84,10 @@ pub record TakesByStatus (script : List ℕ) (left : Option (List ℕ)) (status 
 -- `run -` on a scratch file without a byte: a run of the script's items on a database of 4,096 extents of 4 pages without a table
 pub record RunsScratch (said : List ℕ) (script left new_tape : Option (List ℕ)) (status : ℕ) : Type 0 where
   pub end_ : Result Served FileStop
-  pub ext : Extents
-  pub extents : ext.cap ≡ 4096
-  pub extent_pages : ext.extent_pages ≡ 4
-  pub run : RunsItems ext (made_pages 4096) said script left new_tape end_
+  pub shape : Shape
+  pub extents : shape.extents ≡ 4096
+  pub extent_pages : shape.extent_pages ≡ 4
+  pub run : RunsItems shape (made_pages 4096) said script left new_tape end_
   pub empty : run.db ≡ empty_database
   pub status_is : status ≡ status_of end_
 
@@ -105,9 +105,9 @@ IsStopBefore stop = ⊥
 
 -- the file stands for a database without a table
 pub record StandsForNothing (file : List ℕ) : Type 0 where
-  pub ext : Extents
-  pub states : StatesExtents file ext
-  pub stands : PagesStandFor ext (pages_in file) empty_database
+  pub shape : Shape
+  pub states : StatesExtents file shape
+  pub stands : PagesStandFor shape (pages_in file) empty_database
 
 -- a script within the limit is run to its end, unless memory is wanted
 abbrev pub IsComplete : ℕ → Type 0

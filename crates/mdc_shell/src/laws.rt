@@ -2,7 +2,7 @@
 ghost use Rattle.std.specs.Prelude.{IsTrue, ℕ, List, Option, Some, Result, Err};
 ghost use Rattle.mdc_outside.specs.Disk.{File};
 ghost use Rattle.store_api.specs.Extents.{is_shape};
-ghost use Rattle.extent_map.specs.declared.extents.Extents.{Extents};
+ghost use Rattle.store_api.specs.declared.shape.Shape.{Shape};
 ghost use Rattle.page_store.specs.Empty.{IsEmptyDatabase};
 ghost use Rattle.page_store.specs.Fresh.{HoldsFresh};
 ghost use Rattle.page_store.specs.Standing.{pages_in};
@@ -22,7 +22,7 @@ use script_session::goes_on_lists;
 /// A stop before anything is taken of the script is a run of none of its items: on a file that is well, and on a scratch file.
 pub(crate) fn nothing_is_run()
     ensures well { (file said : List ℕ) (script : Option (List ℕ)) (stop : FileStop) → IsStopBefore stop → (well : IsWell file)
-        → RunsItems well.ext (pages_in file) said script script (Some said) (Err stop) }
+        → RunsItems well.shape (pages_in file) said script script (Some said) (Err stop) }
     ensures scratch { (said : List ℕ) (script : Option (List ℕ)) (stop : FileStop) → IsStopBefore stop
         → RunsScratch said script script (Some said) (status_of (Err stop)) }
 {
@@ -40,8 +40,8 @@ pub(crate) fn made_files_are_well()
 
 /// A run on a scratch file that was just made is one on a database without a table.
 pub(crate) fn scratch_runs()
-    ensures { (file : File) (ext : Extents) (said : List ℕ) (script left tape : Option (List ℕ)) (end_ : Result Served FileStop) → HoldsFresh 4096 4 file
-        → IsEmptyDatabase 4096 file.bytes → StatesExtents file.bytes ext → RunsItems ext (pages_in file.bytes) said script left tape end_
+    ensures { (file : File) (shape : Shape) (said : List ℕ) (script left tape : Option (List ℕ)) (end_ : Result Served FileStop) → HoldsFresh 4096 4 file
+        → IsEmptyDatabase 4096 file.bytes → StatesExtents file.bytes shape → RunsItems shape (pages_in file.bytes) said script left tape end_
         → RunsScratch said script left tape (status_of end_) }
 {
     goes_on_lists();

@@ -3,8 +3,8 @@ use Rattle.std.proofs.Common.{◌≡◌, ◌<◌, ℕ, zero, suc, List, [], ◌�
 use Rattle.std.specs.Prelude.{AllPairs, Contains, map}
 use Rattle.std.specs.List.{AllByRecursion, AllZip}
 use Rattle.mdc_ast.specs.declared.definition.TableDef.{TableDef}
-use Rattle.extent_map.specs.Owners.{IsSameShape, owner_of}
-use Rattle.extent_map.specs.declared.extents.Extents.{Extents}
+use Rattle.store_api.specs.declared.shape.Shape.{Shape}
+use Rattle.extent_map.specs.Owners.{owner_of}
 use Rattle.extent_map.specs.declared.kind.Kind.{Kind}
 use Rattle.extent_map.specs.declared.kind.Kind.TheVariants.{Block}
 use Rattle.row_page.specs.RowPage.{IsRowPage, rows_of}
@@ -43,77 +43,76 @@ line_at P (first ∷ entries) entry all (inl e) = subst (λ x. P (map_line x)) (
 line_at P (first ∷ entries) entry all (inr later) = line_at P entries entry all.1 later
 
 -- a block that is named in some state is one of the table
-pub named_owned : (ext : Extents) (owners : List Kind) (def : TableDef) (map_tree : Forest) (state block : ℕ) → IsBlockMapSound ext owners def map_tree
-    → Contains (blocks_of_state state map_tree) block → (block < ext.cap) × (owner_of owners block ≡ Block def.number)
-named_owned ext owners def map_tree state block sound there =
+pub named_owned : (shape : Shape) (owners : List Kind) (def : TableDef) (map_tree : Forest) (state block : ℕ) → IsBlockMapSound shape owners def map_tree
+    → Contains (blocks_of_state state map_tree) block → (block < shape.extents) × (owner_of owners block ≡ Block def.number)
+named_owned shape owners def map_tree state block sound there =
     let named = named_in_state state (leaf_entries map_tree) block there in
-    let line = line_at (IsMapLineSound ext owners def) (leaf_entries map_tree) named.entry sound.lines named.there in (
-      subst (λ e. e < ext.cap) named.block_is line.within,
+    let line = line_at (IsMapLineSound shape owners def) (leaf_entries map_tree) named.entry sound.lines named.there in (
+      subst (λ e. e < shape.extents) named.block_is line.within,
       subst (λ e. owner_of owners e ≡ Block def.number) named.block_is line.owned,
     )
 
 -- ---- what stays
 
-module _ (before ext : Extents) (old new : PageList) (def : TableDef) (owners : List Kind) (map_tree : Forest) (shape : IsSameShape before ext) (sound : IsBlockMapSound before owners def map_tree)
-    (kept : (block : ℕ) → owner_of owners block ≡ Block def.number → KeepsBlockPages before ext old new block) where
-  pub used_kept : (block : ℕ) → Contains (used_blocks map_tree) block → KeepsBlockPages before ext old new block
-  used_kept block used = kept block (named_owned before owners def map_tree 1 block sound used).1
+module _ (shape : Shape) (old new : PageList) (def : TableDef) (owners : List Kind) (map_tree : Forest) (sound : IsBlockMapSound shape owners def map_tree)
+    (kept : (block : ℕ) → owner_of owners block ≡ Block def.number → KeepsBlockPages shape old new block) where
+  pub used_kept : (block : ℕ) → Contains (used_blocks map_tree) block → KeepsBlockPages shape old new block
+  used_kept block used = kept block (named_owned shape owners def map_tree 1 block sound used).1
 
-  block_rows_kept : (block : ℕ) → KeepsBlockPages before ext old new block → AreBlockRowsSound before old def block → AreBlockRowsSound ext new def block
+  block_rows_kept : (block : ℕ) → KeepsBlockPages shape old new block → AreBlockRowsSound shape old def block → AreBlockRowsSound shape new def block
   block_rows_kept block stays was = record {
     forms = λ j low.
-        let within : j < before.extent_pages = omega (arith, low, shape.extent_pages) in
-        subst (λ page. IsRowPage def.columns page (rows_of def.columns page)) (sym (stays.each j within)) (was.forms j within);
-    rows = subst (AllByRecursion (λ (placed : PlacedRow). RowFits def placed.row)) (sym (rows_in_block-kept before ext old new def shape block stays)) was.rows;
+        subst (λ page. IsRowPage def.columns page (rows_of def.columns page)) (sym (stays.each j low)) (was.forms j low);
+    rows = subst (AllByRecursion (λ (placed : PlacedRow). RowFits def placed.row)) (sym (rows_in_block-kept shape old new def block stays)) was.rows;
   }
 
-  pub rows_kept : AllByRecursion (AreBlockRowsSound before old def) (used_blocks map_tree) → AllByRecursion (AreBlockRowsSound ext new def) (used_blocks map_tree)
-  rows_kept all = each_as (AreBlockRowsSound before old def) (AreBlockRowsSound ext new def) (used_blocks map_tree) (λ block used was. block_rows_kept block (used_kept block used) was) all
+  pub rows_kept : AllByRecursion (AreBlockRowsSound shape old def) (used_blocks map_tree) → AllByRecursion (AreBlockRowsSound shape new def) (used_blocks map_tree)
+  rows_kept all = each_as (AreBlockRowsSound shape old def) (AreBlockRowsSound shape new def) (used_blocks map_tree) (λ block used was. block_rows_kept block (used_kept block used) was) all
 
-  pub cells_kept : AllByRecursion (IsOfOneCell before old def) (used_blocks map_tree) → AllByRecursion (IsOfOneCell ext new def) (used_blocks map_tree)
+  pub cells_kept : AllByRecursion (IsOfOneCell shape old def) (used_blocks map_tree) → AllByRecursion (IsOfOneCell shape new def) (used_blocks map_tree)
   cells_kept all =
-      each_as (IsOfOneCell before old def) (IsOfOneCell ext new def) (used_blocks map_tree)
-      (λ block used was. subst (AllPairs (λ (a b : PlacedRow). AreOfOneCell def a.row.values b.row.values)) (sym (rows_in_block-kept before ext old new def shape block (used_kept block used))) was) all
+      each_as (IsOfOneCell shape old def) (IsOfOneCell shape new def) (used_blocks map_tree)
+      (λ block used was. subst (AllPairs (λ (a b : PlacedRow). AreOfOneCell def a.row.values b.row.values)) (sym (rows_in_block-kept shape old new def block (used_kept block used))) was) all
 
-  counts_kept : (lines : List MapLine) → AllByRecursion (IsMapLineSound before owners def) lines → AllByRecursion (IsUsedCountSound before old def) lines → AllByRecursion (IsUsedCountSound ext new def) lines
+  counts_kept : (lines : List MapLine) → AllByRecursion (IsMapLineSound shape owners def) lines → AllByRecursion (IsUsedCountSound shape old def) lines → AllByRecursion (IsUsedCountSound shape new def) lines
   counts_kept [] owned was = tt
   counts_kept (line ∷ lines) owned was = (
     record {
       some_row = was.0.some_row;
-      counted = λ used. was.0.counted used ∙ sym (ap length (rows_in_block-kept before ext old new def shape line.block (kept line.block owned.0.owned)));
+      counted = λ used. was.0.counted used ∙ sym (ap length (rows_in_block-kept shape old new def line.block (kept line.block owned.0.owned)));
     },
     counts_kept lines owned.1 was.1,
   )
 
-  pub used_counts_kept : AllByRecursion (IsUsedCountSound before old def) (map_lines map_tree) → AllByRecursion (IsUsedCountSound ext new def) (map_lines map_tree)
+  pub used_counts_kept : AllByRecursion (IsUsedCountSound shape old def) (map_lines map_tree) → AllByRecursion (IsUsedCountSound shape new def) (map_lines map_tree)
   used_counts_kept was = counts_kept (map_lines map_tree) sound.lines was
 
-  pub table_rows_kept : rows_in_table ext new def map_tree ≡ rows_in_table before old def map_tree
-  table_rows_kept = rows_in_table-kept before ext old new def shape map_tree used_kept
+  pub table_rows_kept : rows_in_table shape new def map_tree ≡ rows_in_table shape old def map_tree
+  table_rows_kept = rows_in_table-kept shape old new def map_tree used_kept
 
   pub indexes_kept : (composite : Forest) (dims indexes : List Forest)
-      → AreTableBlockIndexesSound before old (record { def = def; map = map_tree; composite = composite; dims = dims; indexes = indexes })
-      → AreTableBlockIndexesSound ext new (record { def = def; map = map_tree; composite = composite; dims = dims; indexes = indexes })
+      → AreTableBlockIndexesSound shape old (record { def = def; map = map_tree; composite = composite; dims = dims; indexes = indexes })
+      → AreTableBlockIndexesSound shape new (record { def = def; map = map_tree; composite = composite; dims = dims; indexes = indexes })
   indexes_kept composite dims indexes was = record {
     composite = subst (λ rows. IsBlockIndexSound def rows (cell_parts def) composite) (sym table_rows_kept) was.composite;
     dims = subst (λ rows. AllZip (λ dim index. IsBlockIndexSound def rows (rising_parts dim) index) def.dims dims) (sym table_rows_kept) was.dims;
   }
 
 -- a block map names what it named, where the blocks of its table are the same
-lines_kept : (before ext : Extents) (owners owners_now : List Kind) (def : TableDef) (lines : List MapLine) → IsSameShape before ext
+lines_kept : (shape : Shape) (owners owners_now : List Kind) (def : TableDef) (lines : List MapLine)
     → ((e : ℕ) → owner_of owners e ≡ Block def.number → owner_of owners_now e ≡ Block def.number)
-    → AllByRecursion (IsMapLineSound before owners def) lines → AllByRecursion (IsMapLineSound ext owners_now def) lines
-lines_kept before ext owners owners_now def lines shape still was =
-    each_as (IsMapLineSound before owners def) (IsMapLineSound ext owners_now def) lines
-    (λ line there is. record { state = is.state; within = omega (arith, is.within, shape.cap); owned = still line.block is.owned }) was
+    → AllByRecursion (IsMapLineSound shape owners def) lines → AllByRecursion (IsMapLineSound shape owners_now def) lines
+lines_kept shape owners owners_now def lines still was =
+    each_as (IsMapLineSound shape owners def) (IsMapLineSound shape owners_now def) lines
+    (λ line there is. record { state = is.state; within = is.within; owned = still line.block is.owned }) was
 
-pub block_map_kept : (before ext : Extents) (owners owners_now : List Kind) (def : TableDef) (map_tree : Forest) → IsSameShape before ext
+pub block_map_kept : (shape : Shape) (owners owners_now : List Kind) (def : TableDef) (map_tree : Forest)
     → ((e : ℕ) → owner_of owners e ≡ Block def.number → owner_of owners_now e ≡ Block def.number)
     → ((e : ℕ) → owner_of owners_now e ≡ Block def.number → owner_of owners e ≡ Block def.number)
-    → IsBlockMapSound before owners def map_tree → IsBlockMapSound ext owners_now def map_tree
-block_map_kept before ext owners owners_now def map_tree shape still back was = record {
+    → IsBlockMapSound shape owners def map_tree → IsBlockMapSound shape owners_now def map_tree
+block_map_kept shape owners owners_now def map_tree still back was = record {
   entries = was.entries;
-  lines = lines_kept before ext owners owners_now def (map_lines map_tree) shape still was.lines;
+  lines = lines_kept shape owners owners_now def (map_lines map_tree) still was.lines;
   once_each = was.once_each;
-  all_named = λ e low is. was.all_named e (omega (arith, low, shape.cap)) (back e is);
+  all_named = λ e low is. was.all_named e low (back e is);
 }

@@ -8,13 +8,13 @@ use Rattle.std.proofs.lemmas.List.{get_or-set_same, length-append, length-map}
 use Rattle.mdc_words.proofs.PlacesLemmas.{slice_get-set_same}
 use Rattle.mdc_ast.specs.declared.definition.IndexDef.{IndexDef}
 use Rattle.mdc_ast.specs.declared.definition.TableDef.{TableDef}
-use Rattle.store_api.specs.Extents.{first_page_of}
 use Rattle.store_api.specs.Frame.{HoldsPage, OnlyPage, Touches}
 use Rattle.store_api.specs.StoreState.{page_at}
 use Rattle.store_api.specs.declared.pages.Pages.{Ghosts}
+use Rattle.store_api.specs.declared.shape.Shape.{Shape}
 use Rattle.extent_map.specs.Map.{IsWholeCount, root_stating}
-use Rattle.extent_map.specs.declared.extents.Extents.{Extents}
 use Rattle.extent_map.specs.declared.kind.Kind.{Kind}
+use Rattle.extent_map.specs.declared.space_notes.SpaceNotes.{SpaceNotes}
 use Rattle.entry_tree.specs.Forest.{Forest, times}
 use Rattle.mdc_ast.specs.TableLimits.{IsTableDef}
 use Rattle.table_page.specs.TablePage.{table_page}
@@ -41,9 +41,6 @@ use Rattle.mdc_sound.proofs.StandingTableLemmas.{forests_of, number_of_place, on
 root_stated_again : (m n : ℕ) → root_stating m (stated_root n) ≡ stated_root m
 root_stated_again m n = refl
 
-first_page_same : (a b n m e : ℕ) → a ≡ b → n ≡ m → first_page_of a n e ≡ first_page_of b m e
-first_page_same a b n m e same size = ap (λ x. first_page_of x n e) same ∙ ap (λ y. first_page_of b y e) size
-
 -- ---- a table without record indexes
 
 pairs_count : {A B : Type 0} (R : A → B → Type 0) (xs : List A) (ys : List B) → AllZip R xs ys → length xs ≡ length ys
@@ -62,33 +59,33 @@ zip_count (dim ∷ dims) [] same = absurd (omega (arith, same))
 zip_count (dim ∷ dims) (root ∷ roots) same = ap suc (zip_count dims roots (omega (arith, same)))
 
 -- has no trees of such
-no_index_trees : {S : Type 0} (g : Ghosts S) (ext : Extents) (s : S) (def : TableDef) (owners : List Kind) (forests : TableForests) → StandsTable g ext s def owners forests
+no_index_trees : {S : Type 0} (g : Ghosts S) (shape : Shape) (s : S) (def : TableDef) (owners : List Kind) (forests : TableForests) → StandsTable g shape s def owners forests
     → length def.roots.dims ≡ length def.dims → def.indexes ≡ [] → forests.indexes ≡ []
-no_index_trees g ext s def owners forests st one_each none =
+no_index_trees g shape s def owners forests st one_each none =
     let all = pairs_count (HoldsTreeAt g s) (tree_places def) (forests_in_order forests) st.trees.held in
-    let dims = pairs_count (λ dim index. IsBlockIndexSound def (rows_in_table ext (pages_of g s) def forests.map) (rising_parts dim) index) def.dims forests.dims st.indexes.dims in
+    let dims = pairs_count (λ dim index. IsBlockIndexSound def (rows_in_table shape (pages_of g s) def forests.map) (rising_parts dim) index) def.dims forests.dims st.indexes.dims in
     let places = length-append (dimension_places def) (record_places def) in
     let trees = length-append forests.dims forests.indexes in
     let of_dims = length-map (zip def.dims def.roots.dims) (λ (pair : List ℕ × ℕ). dimension_place def pair.0 pair.1) ∙ zip_count def.dims def.roots.dims one_each in
     let of_indexes = length-map def.indexes (record_place def) ∙ ap length none in
     no_elements forests.indexes (omega (arith, all, dims, places, trees, of_dims, of_indexes))
 
-no_indexes_sound : (ext : Extents) (pages : PageList) (def : TableDef) (forests : TableForests) → def.indexes ≡ [] → forests.indexes ≡ [] → AreTableIndexesSound ext pages (view_of def forests)
-no_indexes_sound ext pages def forests none trees =
-    let R : IndexDef → Forest → Type 0 = IsSoundIndex def (rows_in_table ext pages def forests.map) (pending_blocks forests.map) in
+no_indexes_sound : (shape : Shape) (pages : PageList) (def : TableDef) (forests : TableForests) → def.indexes ≡ [] → forests.indexes ≡ [] → AreTableIndexesSound shape pages (view_of def forests)
+no_indexes_sound shape pages def forests none trees =
+    let R : IndexDef → Forest → Type 0 = IsSoundIndex def (rows_in_table shape pages def forests.map) (pending_blocks forests.map) in
     subst (λ indexes. AllZip R indexes forests.indexes) (sym none) (subst (λ found. AllZip R [] found) (sym trees) tt)
 
 -- ---- the change
 
-module _ {S : Type 0} (g : Ghosts S) (before ext : Extents) (old new : S) (def : TableDef) (owners owners_now : List Kind) (forests forests_now : TableForests)
-    (sound : IsSoundWith before def (pages_of g old)) (st : StandsTable g before old def owners forests)
-    (changes : ChangesTable g before ext old new def owners forests owners_now forests_now)
-    (touched : Touches g (IsTableSpace g before old def) old new) (longer : length (pages_of g old) ≤ length (pages_of g new)) where
-  stood : StandsTable g before old def sound.view.owners (forests_of sound.table)
-  stood = stands_of_sound g before old def sound st.told
+module _ {S : Type 0} (g : Ghosts S) (shape : Shape) {before noted : SpaceNotes} (old new : S) (def : TableDef) (owners owners_now : List Kind) (forests forests_now : TableForests)
+    (sound : IsSoundWith shape def (pages_of g old)) (st : StandsTable g shape old def owners forests)
+    (changes : ChangesTable g shape before noted old new def owners forests owners_now forests_now)
+    (touched : Touches g (IsTableSpace g shape old def) old new) (longer : length (pages_of g old) ≤ length (pages_of g new)) where
+  stood : StandsTable g shape old def sound.view.owners (forests_of sound.table)
+  stood = stands_of_sound g shape old def sound st.told
 
   same_standing : (owners ≡ sound.view.owners) × (forests_in_order forests ≡ trees_of_table sound.table)
-  same_standing = one_standing g before old def owners sound.view.owners forests (forests_of sound.table) st stood
+  same_standing = one_standing g shape old def owners sound.view.owners forests (forests_of sound.table) st stood
 
   same_owners : owners ≡ sound.view.owners
   same_owners = same_standing.0
@@ -97,24 +94,24 @@ module _ {S : Type 0} (g : Ghosts S) (before ext : Extents) (old new : S) (def :
   times_same p = ap (sum_by (times p)) same_standing.1
 
   low : def.number < 16
-  low = (number_of_place before (with_table_page def (pages_of g old)) sound.view sound.first def.number sound.table sound.there).0
+  low = (number_of_place shape (with_table_page def (pages_of g old)) sound.view sound.first def.number sound.table sound.there).0
 
   enough_pages : 17 ≤ length (pages_of g old)
   enough_pages = omega (arith, sound.first.rule1.count.count, length-with_table_page def (pages_of g old))
 
   pub limits : IsTableDef def.number def
   limits =
-      let here = range_at (IsTablePlaceSound before (with_table_page def (pages_of g old)) sound.view.owners) 0 16 sound.view.places def.number (Some sound.table) sound.first.rule3.each sound.there in
+      let here = range_at (IsTablePlaceSound shape (with_table_page def (pages_of g old)) sound.view.owners) 0 16 sound.view.places def.number (Some sound.table) sound.first.rule3.each sound.there in
       let same : 0 + def.number ≡ def.number = omega arith in
       subst (λ d. IsTableDef def.number d) sound.same (subst (λ t. IsTableDef t sound.table.def) same here.1.0.limits)
 
   -- the rows of the table in the view are those of the trees at hand
-  pub rows_then : rows_in_table before (with_table_page def (pages_of g old)) sound.table.def sound.table.map ≡ rows_in_table before (pages_of g old) def forests.map
+  pub rows_then : rows_in_table shape (with_table_page def (pages_of g old)) sound.table.def sound.table.map ≡ rows_in_table shape (pages_of g old) def forests.map
   rows_then =
       let trees = same_standing.1 in
       let map : sound.table.map ≡ forests.map = cc in
-      ap (λ (d : TableDef). rows_in_table before (with_table_page def (pages_of g old)) d sound.table.map) sound.same
-      ∙ (rows_with_table_page before def (pages_of g old) low def sound.table.map ∙ ap (λ (m : Forest). rows_in_table before (pages_of g old) def m) map)
+      ap (λ (d : TableDef). rows_in_table shape (with_table_page def (pages_of g old)) d sound.table.map) sound.same
+      ∙ (rows_with_table_page shape def (pages_of g old) low def sound.table.map ∙ ap (λ (m : Forest). rows_in_table shape (pages_of g old) def m) map)
 
   -- page 0 states how many pages there are now
   root_then : HoldsPage g old 0 (stated_root (length (pages_of g old)))
@@ -133,13 +130,13 @@ module _ {S : Type 0} (g : Ghosts S) (before ext : Extents) (old new : S) (def :
         (changes.grows.stated.same same (stated_root (length (pages_of g old))) root_then).bytes_are ∙ ap stated_root (sym same)
   ]
 
-  whole_then : IsWholeCount g before old
+  whole_then : IsWholeCount g shape old
   whole_then =
       let count = sound.first.rule1.count in
       record { extents = count.extents; within = count.within; count = sym (length-with_table_page def (pages_of g old)) ∙ count.count }
 
   module _ (def_now : TableDef) (same_number : def_now.number ≡ def.number) (same_name : def_now.name ≡ def.name) (same_indexes : def_now.indexes ≡ def.indexes)
-      (limits_now : IsTableDef def.number def_now) (stands_now : StandsTable g ext new def_now owners_now forests_now) where
+      (limits_now : IsTableDef def.number def_now) (stands_now : StandsTable g shape new def_now owners_now forests_now) where
     pages_now : PageList
     pages_now = with_table_page def_now (pages_of g new)
 
@@ -150,23 +147,23 @@ module _ {S : Type 0} (g : Ghosts S) (before ext : Extents) (old new : S) (def :
     unfolding pages_now
     length_now = length-with_table_page def_now (pages_of g new)
 
-    root_sound_now : IsRootSound ext pages_now
+    root_sound_now : IsRootSound shape pages_now
     unfolding pages_now
     root_sound_now =
         let whole = changes.grows.whole whole_then in record {
           count = record {
             extents = whole.extents;
-            within = omega (arith, whole.within, changes.shape.cap);
-            count = length_now ∙ (whole.count ∙ first_page_same before.cap ext.cap before.extent_pages ext.extent_pages whole.extents (sym changes.shape.cap) (sym changes.shape.extent_pages));
+            within = whole.within;
+            count = length_now ∙ whole.count;
           };
           root = page_at-with_table_page def_now (pages_of g new) 0 (λ e. omega (arith, e)) ∙ (root_now ∙ ap stated_root (sym length_now));
         }
 
-    listed_now : StandsTable told_pages ext pages_now def_now owners_now forests_now
+    listed_now : StandsTable told_pages shape pages_now def_now owners_now forests_now
     unfolding pages_now
     listed_now =
-        let listed = stands_listed g new stands_now.told ext def_now owners_now forests_now stands_now in
-        stands_still (OnlyPage (1 + def_now.number)) ext (pages_of g new) pages_now def_now owners_now forests_now listed (put_table_page def_now (pages_of g new)) refl
+        let listed = stands_listed g new stands_now.told shape def_now owners_now forests_now stands_now in
+        stands_still (OnlyPage (1 + def_now.number)) shape (pages_of g new) pages_now def_now owners_now forests_now listed (put_table_page def_now (pages_of g new)) refl
         (omega (arith, length_now))
         (λ p on only. omega (arith, on.0, only, low_now))
         (λ p l only. omega (arith, (listed.trees.used p l).page.behind, only, low_now))
@@ -179,7 +176,7 @@ module _ {S : Type 0} (g : Ghosts S) (before ext : Extents) (old new : S) (def :
       printed = ap (page_at pages_now) (ap (λ n. 1 + n) (sym same_number)) ∙ get_or-set_same (pages_of g new) (1 + def_now.number) (table_page def_now) [] (omega (arith, low_now, enough_pages, longer));
     }
 
-    touched_now : Touches told_pages (IsPlaceSpace before owners sound.table def.number) (with_table_page def (pages_of g old)) pages_now
+    touched_now : Touches told_pages (IsPlaceSpace shape owners sound.table def.number) (with_table_page def (pages_of g old)) pages_now
     unfolding pages_now
     touched_now = record {
       others = λ p bytes off holds.
@@ -203,9 +200,8 @@ module _ {S : Type 0} (g : Ghosts S) (before ext : Extents) (old new : S) (def :
           };
     }
 
-    changes_place : ChangesPlace before ext (with_table_page def (pages_of g old)) pages_now owners sound.table def_now owners_now forests_now def.number
+    changes_place : ChangesPlace shape (with_table_page def (pages_of g old)) pages_now owners sound.table def_now owners_now forests_now def.number
     changes_place = record {
-      shape = changes.shape;
       stands = listed_now;
       defines = defines_now;
       name = same_name ∙ sym (ap (λ (d : TableDef). d.name) sound.same);
@@ -220,66 +216,66 @@ module _ {S : Type 0} (g : Ghosts S) (before ext : Extents) (old new : S) (def :
     }
 
     -- the same with the owners of the view
-    pub changes_in_view : ChangesPlace before ext (with_table_page def (pages_of g old)) (with_table_page def_now (pages_of g new)) sound.view.owners sound.table def_now owners_now forests_now def.number
+    pub changes_in_view : ChangesPlace shape (with_table_page def (pages_of g old)) (with_table_page def_now (pages_of g new)) sound.view.owners sound.table def_now owners_now forests_now def.number
     unfolding pages_now
-    changes_in_view = subst (λ o. ChangesPlace before ext (with_table_page def (pages_of g old)) pages_now o sound.table def_now owners_now forests_now def.number) same_owners changes_place
+    changes_in_view = subst (λ o. ChangesPlace shape (with_table_page def (pages_of g old)) pages_now o sound.table def_now owners_now forests_now def.number) same_owners changes_place
 
-    pub sound_of_change : IsSoundWith ext def_now (pages_of g new)
+    pub sound_of_change : IsSoundWith shape def_now (pages_of g new)
     unfolding pages_now
     sound_of_change = record {
       view = record { owners = owners_now; places = slice_set sound.view.places def.number (Some (view_of def_now forests_now)) };
       table = view_of def_now forests_now;
-      first = first_rules_now before ext (with_table_page def (pages_of g old)) pages_now sound.view sound.table def_now owners_now forests_now def.number sound.first sound.there changes_in_view;
+      first = first_rules_now shape (with_table_page def (pages_of g old)) pages_now sound.view sound.table def_now owners_now forests_now def.number sound.first sound.there changes_in_view;
       there = subst (λ n. slice_get (slice_set sound.view.places def.number (Some (view_of def_now forests_now))) n ≡ Some (Some (view_of def_now forests_now))) (sym same_number)
           (slice_get-set_same sound.view.places def.number (Some (view_of def_now forests_now))
-          (omega (arith, low, range_length (IsTablePlaceSound before (with_table_page def (pages_of g old)) sound.view.owners) 0 16 sound.view.places sound.first.rule3.each)));
+          (omega (arith, low, range_length (IsTablePlaceSound shape (with_table_page def (pages_of g old)) sound.view.owners) 0 16 sound.view.places sound.first.rule3.each)));
       same = refl;
     }
 
     -- ---- between two changes
 
     -- what was said of the rows of each table is said of them now, where it is of this one's
-    each_table_between : (P : TableView → List PlacedRow → Type 0) → AllByRecursion (λ x. P x (rows_in_table before (with_table_page def (pages_of g old)) x.def x.map)) (tables_there sound.view.places)
-        → P (view_of def_now forests_now) (rows_in_table ext (pages_of g new) def_now forests_now.map)
-        → AllByRecursion (λ x. P x (rows_in_table ext (with_table_page def_now (pages_of g new)) x.def x.map)) (tables_there (slice_set sound.view.places def.number (Some (view_of def_now forests_now))))
+    each_table_between : (P : TableView → List PlacedRow → Type 0) → AllByRecursion (λ x. P x (rows_in_table shape (with_table_page def (pages_of g old)) x.def x.map)) (tables_there sound.view.places)
+        → P (view_of def_now forests_now) (rows_in_table shape (pages_of g new) def_now forests_now.map)
+        → AllByRecursion (λ x. P x (rows_in_table shape (with_table_page def_now (pages_of g new)) x.def x.map)) (tables_there (slice_set sound.view.places def.number (Some (view_of def_now forests_now))))
     unfolding pages_now
     each_table_between P were is =
-        each_table_now before ext (with_table_page def (pages_of g old)) pages_now sound.view sound.table def_now owners_now forests_now def.number sound.first sound.there changes_in_view
-        P were (subst (P (view_of def_now forests_now)) (sym (rows_with_table_page ext def_now (pages_of g new) low_now def_now forests_now.map)) is)
+        each_table_now shape (with_table_page def (pages_of g old)) pages_now sound.view sound.table def_now owners_now forests_now def.number sound.first sound.there changes_in_view
+        P were (subst (P (view_of def_now forests_now)) (sym (rows_with_table_page shape def_now (pages_of g new) low_now def_now forests_now.map)) is)
 
-    pub between_of_change : AreSoundIndexes before (with_table_page def (pages_of g old)) sound.view → AreNumbersSound before (with_table_page def (pages_of g old)) sound.view
-        → AreOtherKeysSound before (with_table_page def (pages_of g old)) sound.view def.number
-        → AreTableIndexesSound ext (pages_of g new) (view_of def_now forests_now) → AreRowNumbersSound def_now (rows_in_table ext (pages_of g new) def_now forests_now.map)
-        → IsSoundBetweenChanges ext def_now (pages_of g new)
+    pub between_of_change : AreSoundIndexes shape (with_table_page def (pages_of g old)) sound.view → AreNumbersSound shape (with_table_page def (pages_of g old)) sound.view
+        → AreOtherKeysSound shape (with_table_page def (pages_of g old)) sound.view def.number
+        → AreTableIndexesSound shape (pages_of g new) (view_of def_now forests_now) → AreRowNumbersSound def_now (rows_in_table shape (pages_of g new) def_now forests_now.map)
+        → IsSoundBetweenChanges shape def_now (pages_of g new)
     unfolding pages_now sound_of_change
     between_of_change indexed numbered others indexes_now numbers_now = record {
       sound = sound_of_change;
       rule11 = each_table_between (λ x rows. AllZip (IsSoundIndex x.def rows (pending_blocks x.map)) x.def.indexes x.indexes) indexed indexes_now;
       numbers = each_table_between (λ x rows. AreRowNumbersSound x.def rows) numbered numbers_now;
-      other_keys = subst (AreOtherKeysSound ext (with_table_page def_now (pages_of g new)) sound_of_change.view) (sym same_number)
+      other_keys = subst (AreOtherKeysSound shape (with_table_page def_now (pages_of g new)) sound_of_change.view) (sym same_number)
           (each_table_between (λ x rows. x.def.number ≢ def.number → AllByRecursion (IsUniqueSound rows) x.def.indexes) others (λ apart. absurd (apart same_number)));
     }
 
   -- the definition is as it was, or its next row number is another one
-  pub sound_of_changed_table : IsSoundWith ext def (pages_of g new)
+  pub sound_of_changed_table : IsSoundWith shape def (pages_of g new)
   sound_of_changed_table = sound_of_change def refl refl refl limits changes.stands
 
-  pub sound_with_next : (next : ℕ) → next < 18446744073709551616 → IsSoundWith ext (with_next def next) (pages_of g new)
-  sound_with_next next small = sound_of_change (with_next def next) refl refl refl (limits_next def.number def next small limits) (stands_next g ext new def next owners_now forests_now changes.stands)
+  pub sound_with_next : (next : ℕ) → next < 18446744073709551616 → IsSoundWith shape (with_next def next) (pages_of g new)
+  sound_with_next next small = sound_of_change (with_next def next) refl refl refl (limits_next def.number def next small limits) (stands_next g shape new def next owners_now forests_now changes.stands)
 
   -- the same between two changes, where rule 11 holds of the table now
-  pub between_with_definition : AreSoundIndexes before (with_table_page def (pages_of g old)) sound.view → AreNumbersSound before (with_table_page def (pages_of g old)) sound.view
-      → AreOtherKeysSound before (with_table_page def (pages_of g old)) sound.view def.number → AreTableIndexesSound ext (pages_of g new) (view_of def forests_now)
-      → AreRowNumbersSound def (rows_in_table ext (pages_of g new) def forests_now.map) → IsSoundBetweenChanges ext def (pages_of g new)
+  pub between_with_definition : AreSoundIndexes shape (with_table_page def (pages_of g old)) sound.view → AreNumbersSound shape (with_table_page def (pages_of g old)) sound.view
+      → AreOtherKeysSound shape (with_table_page def (pages_of g old)) sound.view def.number → AreTableIndexesSound shape (pages_of g new) (view_of def forests_now)
+      → AreRowNumbersSound def (rows_in_table shape (pages_of g new) def forests_now.map) → IsSoundBetweenChanges shape def (pages_of g new)
   between_with_definition = between_of_change def refl refl refl limits changes.stands
 
-  pub between_with_next : AreSoundIndexes before (with_table_page def (pages_of g old)) sound.view → AreNumbersSound before (with_table_page def (pages_of g old)) sound.view
-      → AreOtherKeysSound before (with_table_page def (pages_of g old)) sound.view def.number → AreTableIndexesSound ext (pages_of g new) (view_of def forests_now)
-      → (next : ℕ) → next < 18446744073709551616 → AreRowNumbersSound (with_next def next) (rows_in_table ext (pages_of g new) def forests_now.map) → IsSoundBetweenChanges ext (with_next def next) (pages_of g new)
+  pub between_with_next : AreSoundIndexes shape (with_table_page def (pages_of g old)) sound.view → AreNumbersSound shape (with_table_page def (pages_of g old)) sound.view
+      → AreOtherKeysSound shape (with_table_page def (pages_of g old)) sound.view def.number → AreTableIndexesSound shape (pages_of g new) (view_of def forests_now)
+      → (next : ℕ) → next < 18446744073709551616 → AreRowNumbersSound (with_next def next) (rows_in_table shape (pages_of g new) def forests_now.map) → IsSoundBetweenChanges shape (with_next def next) (pages_of g new)
   between_with_next indexed numbered others indexes_now next small numbers_now =
-      between_of_change (with_next def next) refl refl refl (limits_next def.number def next small limits) (stands_next g ext new def next owners_now forests_now changes.stands) indexed numbered others
-      (indexes_next ext (pages_of g new) def next forests_now indexes_now) numbers_now
+      between_of_change (with_next def next) refl refl refl (limits_next def.number def next small limits) (stands_next g shape new def next owners_now forests_now changes.stands) indexed numbered others
+      (indexes_next shape (pages_of g new) def next forests_now indexes_now) numbers_now
 
   -- as it does where the table has no record index
-  pub no_indexes_now : def.indexes ≡ [] → AreTableIndexesSound ext (pages_of g new) (view_of def forests_now)
-  no_indexes_now none = no_indexes_sound ext (pages_of g new) def forests_now none (no_index_trees g ext new def owners_now forests_now changes.stands limits.roots.one_each none)
+  pub no_indexes_now : def.indexes ≡ [] → AreTableIndexesSound shape (pages_of g new) (view_of def forests_now)
+  no_indexes_now none = no_indexes_sound shape (pages_of g new) def forests_now none (no_index_trees g shape new def owners_now forests_now changes.stands limits.roots.one_each none)

@@ -6,7 +6,7 @@ use Rattle.std.proofs.lemmas.Bool.Decides.{nat_tests}
 use Rattle.mdc_words.specs.ByteOrder.{Entry}
 use Rattle.mdc_ast.specs.declared.definition.TableDef.{TableDef}
 use Rattle.store_api.specs.Extents.{is_extent_size}
-use Rattle.extent_map.specs.declared.extents.Extents.{Extents}
+use Rattle.store_api.specs.declared.shape.Shape.{Shape}
 use Rattle.extent_map.specs.declared.kind.Kind.{Kind}
 use Rattle.entry_tree.specs.EntryBounds.{IsEntryOf}
 use Rattle.entry_tree.specs.Forest.{Forest, leaf_entries}
@@ -44,12 +44,12 @@ pub entry_rows : (line : BlockRow) → line.rows < 2 ^ 16 → (map_line (row_ent
 entry_rows line few = number_back 2 line.rows few
 
 -- a block map of a table that stands has the form of one
-states_of : (ext : Extents) (owners : List Kind) (def : TableDef) (lines : List MapLine) → AllByRecursion (IsMapLineSound ext owners def) lines → AllByRecursion (λ (line : MapLine). line.state ≤ 2) lines
-states_of ext owners def [] h = tt
-states_of ext owners def (line ∷ lines) h = (h.0.state, states_of ext owners def lines h.1)
+states_of : (shape : Shape) (owners : List Kind) (def : TableDef) (lines : List MapLine) → AllByRecursion (IsMapLineSound shape owners def) lines → AllByRecursion (λ (line : MapLine). line.state ≤ 2) lines
+states_of shape owners def [] h = tt
+states_of shape owners def (line ∷ lines) h = (h.0.state, states_of shape owners def lines h.1)
 
-pub map_form : (ext : Extents) (owners : List Kind) (def : TableDef) (map_tree : Forest) → IsBlockMapSound ext owners def map_tree → IsMapForm map_tree
-map_form ext owners def map_tree sound = record { states = states_of ext owners def (map_lines map_tree) sound.lines; once_each = sound.once_each }
+pub map_form : (shape : Shape) (owners : List Kind) (def : TableDef) (map_tree : Forest) → IsBlockMapSound shape owners def map_tree → IsMapForm map_tree
+map_form shape owners def map_tree sound = record { states = states_of shape owners def (map_lines map_tree) sound.lines; once_each = sound.once_each }
 
 -- ---- numbers
 
@@ -59,10 +59,10 @@ second_true true false c d is = absurd (cc)
 second_true false b c d is = absurd (cc)
 
 -- there are at most 65,536 extents, so that a block has a number of four bytes
-pub few_extents : (ext : Extents) → ext.cap ≤ 65536
-few_extents ext =
-    let is : nat_le ext.cap 65536 ≡ true = second_true (nat_le 4 ext.cap) (nat_le ext.cap 65536) (is_extent_size ext.extent_pages) (nat_le (ext.cap * ext.extent_pages) 262144) ext.within in
+pub few_extents : (shape : Shape) → shape.extents ≤ 65536
+few_extents shape =
+    let is : nat_le shape.extents 65536 ≡ true = second_true (nat_le 4 shape.extents) (nat_le shape.extents 65536) (is_extent_size shape.extent_pages) (nat_le (shape.extents * shape.extent_pages) 262144) shape.within in
     grind (arith, nat_tests, is)
 
-pub small_block : (ext : Extents) (block : ℕ) → block < ext.cap → block < 2 ^ 32
-small_block ext block low = omega (arith, low, few_extents ext)
+pub small_block : (shape : Shape) (block : ℕ) → block < shape.extents → block < 2 ^ 32
+small_block shape block low = omega (arith, low, few_extents shape)

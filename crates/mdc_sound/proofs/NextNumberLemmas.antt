@@ -4,7 +4,7 @@ use Rattle.std.specs.List.{AllByRecursion, AllZip}
 use Rattle.mdc_ast.specs.declared.definition.IndexDef.{IndexDef}
 use Rattle.mdc_ast.specs.declared.definition.TableDef.{TableDef}
 use Rattle.store_api.specs.declared.pages.Pages.{Ghosts}
-use Rattle.extent_map.specs.declared.extents.Extents.{Extents}
+use Rattle.store_api.specs.declared.shape.Shape.{Shape}
 use Rattle.extent_map.specs.declared.kind.Kind.{Kind}
 use Rattle.entry_tree.specs.Forest.{Forest}
 use Rattle.block_map.specs.MapLines.{map_lines, pending_blocks, used_blocks}
@@ -34,21 +34,21 @@ limits_next t def next small is = record {
   roots = is.roots;
 }
 
-module _ (ext : Extents) (pages : PageList) (def : TableDef) (next : ℕ) where
-  map_next : (owners : List Kind) (map_tree : Forest) → IsBlockMapSound ext owners def map_tree → IsBlockMapSound ext owners (with_next def next) map_tree
+module _ (shape : Shape) (pages : PageList) (def : TableDef) (next : ℕ) where
+  map_next : (owners : List Kind) (map_tree : Forest) → IsBlockMapSound shape owners def map_tree → IsBlockMapSound shape owners (with_next def next) map_tree
   map_next owners map_tree is = record {
     entries = is.entries;
-    lines = each_as (IsMapLineSound ext owners def) (IsMapLineSound ext owners (with_next def next)) (map_lines map_tree)
+    lines = each_as (IsMapLineSound shape owners def) (IsMapLineSound shape owners (with_next def next)) (map_lines map_tree)
         (λ line there at. record { state = at.state; within = at.within; owned = at.owned }) is.lines;
     once_each = is.once_each;
     all_named = is.all_named;
   }
 
-  rows_next : (blocks : List ℕ) → AllByRecursion (AreBlockRowsSound ext pages def) blocks → AllByRecursion (AreBlockRowsSound ext pages (with_next def next)) blocks
-  rows_next blocks all = each_as (AreBlockRowsSound ext pages def) (AreBlockRowsSound ext pages (with_next def next)) blocks
+  rows_next : (blocks : List ℕ) → AllByRecursion (AreBlockRowsSound shape pages def) blocks → AllByRecursion (AreBlockRowsSound shape pages (with_next def next)) blocks
+  rows_next blocks all = each_as (AreBlockRowsSound shape pages def) (AreBlockRowsSound shape pages (with_next def next)) blocks
       (λ block there at. record {
         forms = at.forms;
-        rows = each_as (λ (placed : PlacedRow). RowFits def placed.row) (λ (placed : PlacedRow). RowFits (with_next def next) placed.row) (rows_in_block ext pages def block)
+        rows = each_as (λ (placed : PlacedRow). RowFits def placed.row) (λ (placed : PlacedRow). RowFits (with_next def next) placed.row) (rows_in_block shape pages def block)
             (λ placed in_block fits. record { values = fits.values; generated = fits.generated }) at.rows;
       }) all
 
@@ -69,22 +69,22 @@ module _ (ext : Extents) (pages : PageList) (def : TableDef) (next : ℕ) where
   record_indexes_next rows pending (index ∷ indexes) [] all = absurd all
   record_indexes_next rows pending (index ∷ indexes) (tree ∷ trees) all = (record { has = all.0.has; only = all.0.only }, record_indexes_next rows pending indexes trees all.1)
 
-  pub indexes_next : (forests : TableForests) → AreTableIndexesSound ext pages (view_of def forests) → AreTableIndexesSound ext pages (view_of (with_next def next) forests)
-  indexes_next forests all = record_indexes_next (rows_in_table ext pages def forests.map) (pending_blocks forests.map) def.indexes forests.indexes all
+  pub indexes_next : (forests : TableForests) → AreTableIndexesSound shape pages (view_of def forests) → AreTableIndexesSound shape pages (view_of (with_next def next) forests)
+  indexes_next forests all = record_indexes_next (rows_in_table shape pages def forests.map) (pending_blocks forests.map) def.indexes forests.indexes all
 
-pub stands_next : {S : Type 0} (g : Ghosts S) (ext : Extents) (s : S) (def : TableDef) (next : ℕ) (owners : List Kind) (forests : TableForests) → StandsTable g ext s def owners forests
-    → StandsTable g ext s (with_next def next) owners forests
-stands_next g ext s def next owners forests st = record {
+pub stands_next : {S : Type 0} (g : Ghosts S) (shape : Shape) (s : S) (def : TableDef) (next : ℕ) (owners : List Kind) (forests : TableForests) → StandsTable g shape s def owners forests
+    → StandsTable g shape s (with_next def next) owners forests
+stands_next g shape s def next owners forests st = record {
   told = st.told;
   trees = st.trees;
-  map = map_next ext (pages_of g s) def next owners forests.map st.map;
-  rows = rows_next ext (pages_of g s) def next (used_blocks forests.map) st.rows;
-  used_counts = each_as (IsUsedCountSound ext (pages_of g s) def) (IsUsedCountSound ext (pages_of g s) (with_next def next)) (map_lines forests.map)
+  map = map_next shape (pages_of g s) def next owners forests.map st.map;
+  rows = rows_next shape (pages_of g s) def next (used_blocks forests.map) st.rows;
+  used_counts = each_as (IsUsedCountSound shape (pages_of g s) def) (IsUsedCountSound shape (pages_of g s) (with_next def next)) (map_lines forests.map)
       (λ line there at. record { some_row = at.some_row; counted = at.counted }) st.used_counts;
   idle_counts = st.idle_counts;
   cells = st.cells;
   indexes = record {
-    composite = index_next ext (pages_of g s) def next (rows_in_table ext (pages_of g s) def forests.map) (cell_parts def) forests.composite st.indexes.composite;
-    dims = dims_next ext (pages_of g s) def next (rows_in_table ext (pages_of g s) def forests.map) def.dims forests.dims st.indexes.dims;
+    composite = index_next shape (pages_of g s) def next (rows_in_table shape (pages_of g s) def forests.map) (cell_parts def) forests.composite st.indexes.composite;
+    dims = dims_next shape (pages_of g s) def next (rows_in_table shape (pages_of g s) def forests.map) def.dims forests.dims st.indexes.dims;
   };
 }

@@ -9,7 +9,7 @@ use Rattle.std.proofs.lemmas.List.Sums.{count_by-le-length, sum_by-cons}
 use Rattle.mdc_words.proofs.ListedLemmas.{length-listed}
 use Rattle.mdc_ast.specs.declared.definition.TableDef.{TableDef}
 use Rattle.mdc_ast.specs.declared.row.Row.{Row}
-use Rattle.extent_map.specs.declared.extents.Extents.{Extents}
+use Rattle.store_api.specs.declared.shape.Shape.{Shape}
 use Rattle.extent_map.proofs.ExtentsLemmas.{extent_limits}
 use Rattle.row_page.specs.RowPage.{count_rows, rows_of, slot_count, slot_row}
 use Rattle.row_page.proofs.RowPageLemmas.{slot_count-le}
@@ -20,24 +20,24 @@ use Rattle.mdc_sound.specs.TableRows.{PlacedRow, block_page, block_slots, rows_f
 -- ---- slots
 
 -- how many slots a block has
-pub length-block_slots : (ext : Extents) (pages : PageList) (def : TableDef) (block : ℕ) → length (block_slots ext pages def block) ≡ ext.extent_pages * slot_count def.columns
-length-block_slots ext pages def block =
-    length-flat_map (λ j. rows_of def.columns (block_page ext pages block j)) (range_with_len 0 ext.extent_pages)
-    ∙ each (range_with_len 0 ext.extent_pages) ∙ ap (λ (n : ℕ). n * slot_count def.columns) (length-range_with_len 0 ext.extent_pages)
+pub length-block_slots : (shape : Shape) (pages : PageList) (def : TableDef) (block : ℕ) → length (block_slots shape pages def block) ≡ shape.extent_pages * slot_count def.columns
+length-block_slots shape pages def block =
+    length-flat_map (λ j. rows_of def.columns (block_page shape pages block j)) (range_with_len 0 shape.extent_pages)
+    ∙ each (range_with_len 0 shape.extent_pages) ∙ ap (λ (n : ℕ). n * slot_count def.columns) (length-range_with_len 0 shape.extent_pages)
   where
-    each : (js : List ℕ) → sum_by (λ j. length (rows_of def.columns (block_page ext pages block j))) js ≡ length js * slot_count def.columns
+    each : (js : List ℕ) → sum_by (λ j. length (rows_of def.columns (block_page shape pages block j))) js ≡ length js * slot_count def.columns
     each [] = omega arith
     each (j ∷ js) =
-        omega (arith, sum_by-cons (λ k. length (rows_of def.columns (block_page ext pages block k))) j js, length-listed (slot_count def.columns) (slot_row def.columns (block_page ext pages block j)), each js)
+        omega (arith, sum_by-cons (λ k. length (rows_of def.columns (block_page shape pages block k))) j js, length-listed (slot_count def.columns) (slot_row def.columns (block_page shape pages block j)), each js)
 
 -- they are few enough that two bytes count them
-pub few_slots : (ext : Extents) (pages : PageList) (def : TableDef) (block : ℕ) (slots : List (Option Row)) → block_slots ext pages def block ≡ slots → length slots ≤ 12864
-few_slots ext pages def block slots are =
-    let most : ext.extent_pages * slot_count def.columns ≤ 32 * 402 = mul-le-mul (extent_limits ext).1 (slot_count-le def.columns) in
-    omega (arith, most, length-block_slots ext pages def block, ap length are)
+pub few_slots : (shape : Shape) (pages : PageList) (def : TableDef) (block : ℕ) (slots : List (Option Row)) → block_slots shape pages def block ≡ slots → length slots ≤ 12864
+few_slots shape pages def block slots are =
+    let most : shape.extent_pages * slot_count def.columns ≤ 32 * 402 = mul-le-mul (extent_limits shape).1 (slot_count-le def.columns) in
+    omega (arith, most, length-block_slots shape pages def block, ap length are)
 
-pub few_rows : (ext : Extents) (pages : PageList) (def : TableDef) (block : ℕ) (slots : List (Option Row)) → block_slots ext pages def block ≡ slots → count_rows slots < 2 ^ 16
-few_rows ext pages def block slots are = omega (arith, few_slots ext pages def block slots are, count_by-le-length is_some slots)
+pub few_rows : (shape : Shape) (pages : PageList) (def : TableDef) (block : ℕ) (slots : List (Option Row)) → block_slots shape pages def block ≡ slots → count_rows slots < 2 ^ 16
+few_rows shape pages def block slots are = omega (arith, few_slots shape pages def block slots are, count_by-le-length is_some slots)
 
 -- ---- the rows in them
 

@@ -11,10 +11,10 @@ use Rattle.mdc_ast.specs.declared.definition.TableDef.{TableDef}
 use Rattle.store_api.specs.Extents.{map_pages}
 use Rattle.store_api.specs.Frame.{HoldsPage, Touches}
 use Rattle.store_api.specs.StoreState.{zero_page}
+use Rattle.store_api.specs.declared.shape.Shape.{Shape}
 use Rattle.extent_map.specs.Kinds.{is_used_place, is_unused_place}
 use Rattle.extent_map.specs.Map.{IsSpacePage}
-use Rattle.extent_map.specs.Owners.{IsSameShape, IsUsedPage, extent_of, owner_of, place_in_extent}
-use Rattle.extent_map.specs.declared.extents.Extents.{Extents}
+use Rattle.extent_map.specs.Owners.{IsUsedPage, extent_of, owner_of, place_in_extent}
 use Rattle.extent_map.specs.declared.kind.Kind.{Kind}
 use Rattle.extent_map.specs.declared.kind.Kind.TheVariants.{Free, Block, Index}
 use Rattle.extent_map.proofs.HoldsMapLemmas.{on_map}
@@ -23,7 +23,7 @@ use Rattle.entry_tree.specs.Forest.Forest.{Nil, Leaf, Fork}
 use Rattle.entry_tree.specs.Standing.{IsIdlePage}
 use Rattle.entry_tree.proofs.ForestLemmas.{once_same}
 use Rattle.entry_tree.proofs.StandingLemmas.{extent_not_space, used_not_space}
-use Rattle.entry_tree.proofs.UsedPagesLemmas.{shape_back, used_not_idle, used_same}
+use Rattle.entry_tree.proofs.UsedPagesLemmas.{used_not_idle}
 use Rattle.table_page.specs.TablePage.{IsTablePageOf}
 use Rattle.table_page.proofs.TablePageLemmas.{no_blank_table}
 use Rattle.table_trees.specs.TableTrees.{TreePlace, tree_places}
@@ -53,14 +53,14 @@ index_of_used j Free used = absurd (cc)
 index_of_used j (Block t) used = absurd (cc)
 index_of_used j (Index places) used = tt
 
-idle_no_block : (ext : Extents) (owners : List Kind) (p t : ℕ) → IsIdlePage ext owners p → owner_of owners (extent_of ext p) ≡ Block t → ⊥
-idle_no_block ext owners p t idle is = elim idle.idle [
-  | inl unused ↦ unused_block (place_in_extent ext p) t (owner_of owners (extent_of ext p)) unused.unused is
+idle_no_block : (shape : Shape) (owners : List Kind) (p t : ℕ) → IsIdlePage shape owners p → owner_of owners (extent_of shape p) ≡ Block t → ⊥
+idle_no_block shape owners p t idle is = elim idle.idle [
+  | inl unused ↦ unused_block (place_in_extent shape p) t (owner_of owners (extent_of shape p)) unused.unused is
   | inr free ↦ let wrong = sym is ∙ free in absurd (cc)
 ]
 
-used_no_block : (ext : Extents) (owners : List Kind) (p t : ℕ) → IsUsedPage ext owners p → owner_of owners (extent_of ext p) ≡ Block t → ⊥
-used_no_block ext owners p t used is = used_block (place_in_extent ext p) t (owner_of owners (extent_of ext p)) used.used is
+used_no_block : (shape : Shape) (owners : List Kind) (p t : ℕ) → IsUsedPage shape owners p → owner_of owners (extent_of shape p) ≡ Block t → ⊥
+used_no_block shape owners p t used is = used_block (place_in_extent shape p) t (owner_of owners (extent_of shape p)) used.used is
 
 -- ---- names
 
@@ -99,77 +99,76 @@ root_in_tree root (Leaf page items next) is = let same : page ≡ root = cc in o
 root_in_tree root (Fork page seps kids next) is = let same : page ≡ root = cc in omega (arith, ap (once root) same, once_same root)
 
 -- the roots of trees whose pages are used lie in index extents
-roots_used : (ext : Extents) (pages : PageList) (owners : List Kind) (places : List TreePlace) (trees : List Forest) → AllZip (HasTree pages) places trees
-    → ((p : ℕ) → 0 < sum_by (times p) trees → IsUsedPage ext owners p) → AllByRecursion (λ place. IsIndexPage ext owners place.root) places
-roots_used ext pages owners [] trees has used = tt
-roots_used ext pages owners (place ∷ places) [] has used = absurd has
-roots_used ext pages owners (place ∷ places) (t ∷ trees) has used =
+roots_used : (shape : Shape) (pages : PageList) (owners : List Kind) (places : List TreePlace) (trees : List Forest) → AllZip (HasTree pages) places trees
+    → ((p : ℕ) → 0 < sum_by (times p) trees → IsUsedPage shape owners p) → AllByRecursion (λ place. IsIndexPage shape owners place.root) places
+roots_used shape pages owners [] trees has used = tt
+roots_used shape pages owners (place ∷ places) [] has used = absurd has
+roots_used shape pages owners (place ∷ places) (t ∷ trees) has used =
     let is_used = used place.root (omega (arith, root_in_tree place.root t has.0.is_tree.head, sum_by-cons (times place.root) t trees)) in (
-      record { page = is_used.page; index = index_of_used (place_in_extent ext place.root) (owner_of owners (extent_of ext place.root)) is_used.used },
-      roots_used ext pages owners places trees has.1 (λ p some. used p (omega (arith, some, sum_by-cons (times p) t trees))),
+      record { page = is_used.page; index = index_of_used (place_in_extent shape place.root) (owner_of owners (extent_of shape place.root)) is_used.used },
+      roots_used shape pages owners places trees has.1 (λ p some. used p (omega (arith, some, sum_by-cons (times p) t trees))),
     )
 
 -- ---- a change of one table
 
 -- the pages that are a table's own, or may become so: those of its trees and blocks, of the extent map with page 0, idle ones,
 -- and its table page
-abbrev pub IsPlaceSpace : Extents → List Kind → TableView → ℕ → ℕ → Type 0
-IsPlaceSpace ext owners table t p =
-    0 < sum_by (times p) (trees_of_table table) ⊎ (IsBlockPageOf ext owners t p ⊎ (IsSpacePage ext p ⊎ (IsIdlePage ext owners p ⊎ (p ≡ 1 + t))))
+abbrev pub IsPlaceSpace : Shape → List Kind → TableView → ℕ → ℕ → Type 0
+IsPlaceSpace shape owners table t p =
+    0 < sum_by (times p) (trees_of_table table) ⊎ (IsBlockPageOf shape owners t p ⊎ (IsSpacePage shape p ⊎ (IsIdlePage shape owners p ⊎ (p ≡ 1 + t))))
 
 -- The table in a place became another one that stands. The blocks and the used index pages of the others are as they were, and
 -- so is each page that isn't one of its own.
-pub record ChangesPlace (before ext : Extents) (old new : PageList) (owners : List Kind) (table : TableView) (def_now : TableDef) (owners_now : List Kind) (forests_now : TableForests) (t : ℕ) : Type 0 where
-  pub shape : IsSameShape before ext
-  pub stands : StandsTable told_pages ext new def_now owners_now forests_now
+pub record ChangesPlace (shape : Shape) (old new : PageList) (owners : List Kind) (table : TableView) (def_now : TableDef) (owners_now : List Kind) (forests_now : TableForests) (t : ℕ) : Type 0 where
+  pub stands : StandsTable told_pages shape new def_now owners_now forests_now
   pub defines : DefinesTable new t def_now
   pub name : def_now.name ≡ table.def.name
   pub indexes : def_now.indexes ≡ table.def.indexes
-  pub root : IsRootSound ext new
+  pub root : IsRootSound shape new
   pub others_blocks : (e u : ℕ) → u ≢ t → owner_of owners e ≡ Block u → owner_of owners_now e ≡ Block u
   pub no_others_blocks : (e u : ℕ) → u ≢ t → owner_of owners_now e ≡ Block u → owner_of owners e ≡ Block u
-  pub others_pages : (p : ℕ) → IsUsedPage before owners p → sum_by (times p) (trees_of_table table) ≡ 0 → IsUsedPage before owners_now p
-  pub used_pages : (p : ℕ) → IsUsedPage before owners_now p
-      → 0 < sum_by (times p) (forests_in_order forests_now) ⊎ (IsUsedPage before owners p × (sum_by (times p) (trees_of_table table) ≡ 0))
-  pub pages : (p : ℕ) → 0 < sum_by (times p) (forests_in_order forests_now) → 0 < sum_by (times p) (trees_of_table table) ⊎ IsIdlePage before owners p
-  pub touched : Touches told_pages (IsPlaceSpace before owners table t) old new
+  pub others_pages : (p : ℕ) → IsUsedPage shape owners p → sum_by (times p) (trees_of_table table) ≡ 0 → IsUsedPage shape owners_now p
+  pub used_pages : (p : ℕ) → IsUsedPage shape owners_now p
+      → 0 < sum_by (times p) (forests_in_order forests_now) ⊎ (IsUsedPage shape owners p × (sum_by (times p) (trees_of_table table) ≡ 0))
+  pub pages : (p : ℕ) → 0 < sum_by (times p) (forests_in_order forests_now) → 0 < sum_by (times p) (trees_of_table table) ⊎ IsIdlePage shape owners p
+  pub touched : Touches told_pages (IsPlaceSpace shape owners table t) old new
 
-module _ (before ext : Extents) (old new : PageList) (view : DatabaseView) (table : TableView) (def_now : TableDef) (owners_now : List Kind) (forests_now : TableForests) (t : ℕ)
-    (keeps : KeepFirstRules before old view) (there : slice_get view.places t ≡ Some (Some table))
-    (changes : ChangesPlace before ext old new view.owners table def_now owners_now forests_now t) where
+module _ (shape : Shape) (old new : PageList) (view : DatabaseView) (table : TableView) (def_now : TableDef) (owners_now : List Kind) (forests_now : TableForests) (t : ℕ)
+    (keeps : KeepFirstRules shape old view) (there : slice_get view.places t ≡ Some (Some table))
+    (changes : ChangesPlace shape old new view.owners table def_now owners_now forests_now t) where
   low : t < 16
-  low = (number_of_place before old view keeps t table there).0
+  low = (number_of_place shape old view keeps t table there).0
 
   -- a page of another table's trees, or blocks, isn't one of this one's own
   off_trees : (p u : ℕ) (other : TableView) → u ≢ t → slice_get view.places u ≡ Some (Some other) → 0 < sum_by (times p) (trees_of_table other)
-      → IsPlaceSpace before view.owners table t p → ⊥
+      → IsPlaceSpace shape view.owners table t p → ⊥
   off_trees p u other apart at some mine = go mine
     where
-      used : IsUsedPage before view.owners p
-      used = trees_used before old view keeps p u other at some
+      used : IsUsedPage shape view.owners p
+      used = trees_used shape old view keeps p u other at some
 
-      go : IsPlaceSpace before view.owners table t p → ⊥
-      go (inl l) = omega (arith, l, some, two_there_sum (λ x. sum_by (times p) (trees_of_table x)) view.places u t other table apart at there, times_once before old view keeps p)
-      go (inr (inl of)) = used_no_block before view.owners p t used of.block
-      go (inr (inr (inl space))) = used_not_space before view.owners p used space
-      go (inr (inr (inr (inl idle)))) = used_not_idle before view.owners p used idle
+      go : IsPlaceSpace shape view.owners table t p → ⊥
+      go (inl l) = omega (arith, l, some, two_there_sum (λ x. sum_by (times p) (trees_of_table x)) view.places u t other table apart at there, times_once shape old view keeps p)
+      go (inr (inl of)) = used_no_block shape view.owners p t used of.block
+      go (inr (inr (inl space))) = used_not_space shape view.owners p used space
+      go (inr (inr (inr (inl idle)))) = used_not_idle shape view.owners p used idle
       go (inr (inr (inr (inr only)))) = omega (arith, only, used.page.behind, low)
 
-  off_blocks : (p u : ℕ) → u ≢ t → IsBlockPageOf before view.owners u p → IsPlaceSpace before view.owners table t p → ⊥
+  off_blocks : (p u : ℕ) → u ≢ t → IsBlockPageOf shape view.owners u p → IsPlaceSpace shape view.owners table t p → ⊥
   off_blocks p u apart block mine = go mine
     where
-      go : IsPlaceSpace before view.owners table t p → ⊥
-      go (inl l) = used_no_block before view.owners p u (trees_used before old view keeps p t table there l) block.block
+      go : IsPlaceSpace shape view.owners table t p → ⊥
+      go (inl l) = used_no_block shape view.owners p u (trees_used shape old view keeps p t table there l) block.block
       go (inr (inl of)) = let kinds : Block u ≡ Block t = sym block.block ∙ of.block in let same : u ≡ t = cc in apart same
-      go (inr (inr (inl space))) = extent_not_space before p block.page space
-      go (inr (inr (inr (inl idle)))) = idle_no_block before view.owners p u idle block.block
+      go (inr (inr (inl space))) = extent_not_space shape p block.page space
+      go (inr (inr (inr (inl idle)))) = idle_no_block shape view.owners p u idle block.block
       go (inr (inr (inr (inr only)))) = omega (arith, only, block.page.behind, low)
 
-  off_table_pages : (u : ℕ) → u < 16 → u ≢ t → IsPlaceSpace before view.owners table t (1 + u) → ⊥
+  off_table_pages : (u : ℕ) → u < 16 → u ≢ t → IsPlaceSpace shape view.owners table t (1 + u) → ⊥
   off_table_pages u few apart mine = go mine
     where
-      go : IsPlaceSpace before view.owners table t (1 + u) → ⊥
-      go (inl l) = omega (arith, few, (trees_used before old view keeps (1 + u) t table there l).page.behind)
+      go : IsPlaceSpace shape view.owners table t (1 + u) → ⊥
+      go (inl l) = omega (arith, few, (trees_used shape old view keeps (1 + u) t table there l).page.behind)
       go (inr (inl of)) = omega (arith, few, of.page.behind)
       go (inr (inr (inl (inl zero_is)))) = omega (arith, zero_is)
       go (inr (inr (inl (inr on)))) = omega (arith, on.0, few)
@@ -178,14 +177,13 @@ module _ (before ext : Extents) (old new : PageList) (view : DatabaseView) (tabl
 
   -- ---- all tables stand
 
-  pub other_stands : (u : ℕ) (other : TableView) → u ≢ t → slice_get view.places u ≡ Some (Some other) → StandsTable told_pages ext new other.def owners_now (forests_of other)
+  pub other_stands : (u : ℕ) (other : TableView) → u ≢ t → slice_get view.places u ≡ Some (Some other) → StandsTable told_pages shape new other.def owners_now (forests_of other)
   other_stands u other apart at =
-      let number : other.def.number ≡ u = (number_of_place before old view keeps u other at).1 in
+      let number : other.def.number ≡ u = (number_of_place shape old view keeps u other at).1 in
       let differs : other.def.number ≢ t = λ same. apart (sym number ∙ same) in
-      stands_kept (IsPlaceSpace before view.owners table t) before ext old new other.def view.owners owners_now (forests_of other) (stands_of_rules before old view keeps u other at)
-      changes.shape changes.stands.trees.map changes.touched refl
+      stands_kept (IsPlaceSpace shape view.owners table t) shape old new other.def view.owners owners_now (forests_of other) (stands_of_rules shape old view keeps u other at) changes.stands.trees.map changes.touched refl
       (λ p some used. changes.others_pages p used
-      (omega (arith, some, two_there_sum (λ x. sum_by (times p) (trees_of_table x)) view.places u t other table apart at there, times_once before old view keeps p)))
+      (omega (arith, some, two_there_sum (λ x. sum_by (times p) (trees_of_table x)) view.places u t other table apart at there, times_once shape old view keeps p)))
       (λ e is. changes.others_blocks e other.def.number differs is) (λ e is. changes.no_others_blocks e other.def.number differs is)
       (λ p some mine. off_trees p u other apart at some mine) (λ p of mine. off_blocks p other.def.number differs of mine)
 
@@ -193,7 +191,7 @@ module _ (before ext : Extents) (old new : PageList) (view : DatabaseView) (tabl
   places_now = set view.places t (Some (view_of def_now forests_now))
 
   count_places : length view.places ≡ 16
-  count_places = range_length (IsTablePlaceSound before old view.owners) 0 16 view.places keeps.rule3.each
+  count_places = range_length (IsTablePlaceSound shape old view.owners) 0 16 view.places keeps.rule3.each
 
   now_there : slice_get places_now t ≡ Some (Some (view_of def_now forests_now))
   unfolding places_now
@@ -203,11 +201,11 @@ module _ (before ext : Extents) (old new : PageList) (view : DatabaseView) (tabl
   unfolding places_now
   other_there u apart = slice_get-set_other view.places t (Some (view_of def_now forests_now)) u apart
 
-  standing_now : (u : ℕ) (other : TableView) → slice_get places_now u ≡ Some (Some other) → StandsTable told_pages ext new other.def owners_now (forests_of other)
+  standing_now : (u : ℕ) (other : TableView) → slice_get places_now u ≡ Some (Some other) → StandsTable told_pages shape new other.def owners_now (forests_of other)
   standing_now u other at = elim (cases_eq u t) [
     | inl e ↦
         let same : Some (Some (view_of def_now forests_now)) ≡ Some (Some other) = sym now_there ∙ ap (slice_get places_now) (sym e) ∙ at in
-        subst (λ (x : TableView). StandsTable told_pages ext new x.def owners_now (forests_of x)) (same_table (view_of def_now forests_now) other same) changes.stands
+        subst (λ (x : TableView). StandsTable told_pages shape new x.def owners_now (forests_of x)) (same_table (view_of def_now forests_now) other same) changes.stands
     | inr apart ↦ other_stands u other apart (sym (other_there u apart) ∙ at)
   ]
 
@@ -229,28 +227,28 @@ module _ (before ext : Extents) (old new : PageList) (view : DatabaseView) (tabl
     | inl same ↦ subst (λ v. IsTableThere new v) (sym same) (low, λ blank. no_blank_table t def_now (subst (λ page. IsTablePageOf t def_now page) blank changes.defines))
     | inr apart ↦
         let was : owner_of view.owners e ≡ Block u = changes.no_others_blocks e u apart is in
-        let on : e / 512 < map_pages before.cap = on_map before.cap e (omega (arith, block_below view.owners e u was, keeps.rule2.count)) in
+        let on : e / 512 < map_pages shape.extents = on_map shape.extents e (omega (arith, block_below view.owners e u was, keeps.rule2.count)) in
         let there_then : IsTableThere old u = subst (λ kind. IsOwnerThere old kind) was ((keeps.rule2.each (e / 512) on).owned e refl) in
         (there_then.0, λ blank. there_then.1 (sym (table_page_kept u there_then.0 apart) ∙ blank))
   ]
 
-  rule2_now : IsMapSound ext new owners_now
+  rule2_now : IsMapSound shape new owners_now
   rule2_now = record {
     count = changes.stands.trees.map.count;
     each = λ i within. record { held = changes.stands.trees.map.pages i within; owned = λ e on. owner_there e (owner_of owners_now e) refl };
   }
 
-  place_now : (u : ℕ) (place : Option TableView) → slice_get places_now u ≡ Some place → IsTablePlaceSound ext new owners_now u place
+  place_now : (u : ℕ) (place : Option TableView) → slice_get places_now u ≡ Some place → IsTablePlaceSound shape new owners_now u place
   place_now u None at = elim (cases_eq u t) [
     | inl e ↦ let wrong : Some None ≡ Some (Some (view_of def_now forests_now)) = sym at ∙ ap (slice_get places_now) e ∙ now_there in absurd (cc)
     | inr apart ↦
-        let was = range_at (IsTablePlaceSound before old view.owners) 0 16 view.places u None keeps.rule3.each (sym (other_there u apart) ∙ at) in
+        let was = range_at (IsTablePlaceSound shape old view.owners) 0 16 view.places u None keeps.rule3.each (sym (other_there u apart) ∙ at) in
         let same : 0 + u ≡ u = omega arith in
         table_page_kept u was.0 apart ∙ subst (λ v. table_page_at old v ≡ zero_page) same was.1
   ]
   place_now u (Some other) at = (
     defines u other at,
-    roots_used ext new owners_now (tree_places other.def) (trees_of_table other) (standing_now u other at).trees.held (standing_now u other at).trees.used,
+    roots_used shape new owners_now (tree_places other.def) (trees_of_table other) (standing_now u other at).trees.held (standing_now u other at).trees.used,
   )
     where
       defines : (v : ℕ) (x : TableView) → slice_get places_now v ≡ Some (Some x) → DefinesTable new v x.def
@@ -260,17 +258,17 @@ module _ (before ext : Extents) (old new : PageList) (view : DatabaseView) (tabl
             let def : def_now ≡ x.def = ap (λ (y : TableView). y.def) (same_table (view_of def_now forests_now) x same) in
             subst (λ (w : ℕ). DefinesTable new w x.def) (sym e) (subst (λ d. DefinesTable new t d) def changes.defines)
         | inr apart ↦
-            let was = range_at (IsTablePlaceSound before old view.owners) 0 16 view.places v (Some x) keeps.rule3.each (sym (other_there v apart) ∙ is) in
+            let was = range_at (IsTablePlaceSound shape old view.owners) 0 16 view.places v (Some x) keeps.rule3.each (sym (other_there v apart) ∙ is) in
             let same : 0 + v ≡ v = omega arith in
             let then : DefinesTable old v x.def = subst (λ w. DefinesTable old w x.def) same was.1.0 in
             subst (λ page. IsTablePageOf v x.def page) (sym (table_page_kept v was.0 apart)) then
       ]
 
-  rule3_now : AreTablePagesSound ext new view_now
+  rule3_now : AreTablePagesSound shape new view_now
   unfolding view_now places_now
   rule3_now = record {
-    each = range_each (IsTablePlaceSound ext new owners_now) 0 16 places_now (length-set view.places t (Some (view_of def_now forests_now)) ∙ count_places)
-        (λ u place at. let same : u ≡ 0 + u = omega arith in subst (λ v. IsTablePlaceSound ext new owners_now v place) same (place_now u place at));
+    each = range_each (IsTablePlaceSound shape new owners_now) 0 16 places_now (length-set view.places t (Some (view_of def_now forests_now)) ∙ count_places)
+        (λ u place at. let same : u ≡ 0 + u = omega arith in subst (λ v. IsTablePlaceSound shape new owners_now v place) same (place_now u place at));
     tables_differ = pairs_along (λ (def : TableDef). def.name) (definitions_in view_now) (definitions_in view) (names_of_set view.places t table (view_of def_now forests_now) there changes.name) keeps.rule3.tables_differ;
     indexes_differ = subst (λ indexes. AllPairs (λ (a b : IndexDef). a.name ≢ b.name) indexes) (sym (indexes_of_set view.places t table (view_of def_now forests_now) there changes.indexes)) keeps.rule3.indexes_differ;
   }
@@ -286,51 +284,51 @@ module _ (before ext : Extents) (old new : PageList) (view : DatabaseView) (tabl
 
     mine_least : mine ≤ times_in_trees p view
     unfolding mine
-    mine_least = times_of_table before old view keeps p t table there
+    mine_least = times_of_table shape old view keeps p t table there
 
-    used_once : IsUsedPage before owners_now p → times_in_trees p view_now ≡ 1
+    used_once : IsUsedPage shape owners_now p → times_in_trees p view_now ≡ 1
     unfolding mine
     used_once used = elim (changes.used_pages p used) [
       | inl some ↦ elim (changes.pages p some) [
-        | inl l ↦ omega (arith, times_now p, l, mine_least, times_once before old view keeps p, some, changes.stands.trees.apart p)
+        | inl l ↦ omega (arith, times_now p, l, mine_least, times_once shape old view keeps p, some, changes.stands.trees.apart p)
         | inr idle ↦
-            let none = (keeps.rule5 p).others (λ was. used_not_idle before view.owners p was idle) in
+            let none = (keeps.rule5 p).others (λ was. used_not_idle shape view.owners p was idle) in
             omega (arith, times_now p, none, mine_least, some, changes.stands.trees.apart p)
       ]
       | inr was ↦ elim (cases_lt 0 (sum_by (times p) (forests_in_order forests_now))) [
         | inl some ↦ elim (changes.pages p some) [
           | inl l ↦ absurd (omega (arith, l, was.1))
-          | inr idle ↦ absurd (used_not_idle before view.owners p was.0 idle)
+          | inr idle ↦ absurd (used_not_idle shape view.owners p was.0 idle)
         ]
         | inr none ↦ omega (arith, times_now p, none, was.1, (keeps.rule5 p).used was.0)
       ]
     ]
 
-    unused_none : (IsUsedPage ext owners_now p → ⊥) → times_in_trees p view_now ≡ 0
+    unused_none : (IsUsedPage shape owners_now p → ⊥) → times_in_trees p view_now ≡ 0
     unfolding mine
     unused_none unused = elim (cases_lt 0 (sum_by (times p) (forests_in_order forests_now))) [
       | inl some ↦ absurd (unused (changes.stands.trees.used p some))
-      | inr none ↦ elim (used_or_not before view.owners p) [
+      | inr none ↦ elim (used_or_not shape view.owners p) [
         | inr idle ↦ omega (arith, times_now p, none, mine_least, (keeps.rule5 p).others idle)
         | inl used ↦ elim (cases_lt 0 mine) [
           | inl l ↦ omega (arith, times_now p, none, l, mine_least, (keeps.rule5 p).used used)
           | inr zero_is ↦
               let is_zero : sum_by (times p) (trees_of_table table) ≡ 0 = omega (arith, zero_is) in
-              absurd (unused (used_same ext before owners_now p (shape_back before ext changes.shape) (changes.others_pages p used is_zero)))
+              absurd (unused (changes.others_pages p used is_zero))
         ]
       ]
     ]
 
-  rule5_now : AreTreePagesSound ext view_now
+  rule5_now : AreTreePagesSound shape view_now
   unfolding view_now
   rule5_now p = record {
-    used = λ used. used_once p (used_same before ext owners_now p changes.shape used);
+    used = λ used. used_once p (used);
     others = λ unused. unused_none p unused;
   }
 
   -- ---- all ten
 
-  pub first_rules_now : KeepFirstRules ext new (record { owners = owners_now; places = set view.places t (Some (view_of def_now forests_now)) })
+  pub first_rules_now : KeepFirstRules shape new (record { owners = owners_now; places = set view.places t (Some (view_of def_now forests_now)) })
   unfolding view_now places_now
   first_rules_now = record {
     rule1 = changes.root;
@@ -338,38 +336,38 @@ module _ (before ext : Extents) (old new : PageList) (view : DatabaseView) (tabl
     rule3 = rule3_now;
     rule4 = each_there (λ x. AllZip (HasTree new) (tree_places x.def) (trees_of_table x)) places_now (λ u x at. (standing_now u x at).trees.held);
     rule5 = rule5_now;
-    rule6 = each_there (λ x. IsBlockMapSound ext owners_now x.def x.map) places_now (λ u x at. (standing_now u x at).map);
-    rule7 = each_there (λ x. AllByRecursion (AreBlockRowsSound ext new x.def) (used_blocks x.map)) places_now (λ u x at. (standing_now u x at).rows);
+    rule6 = each_there (λ x. IsBlockMapSound shape owners_now x.def x.map) places_now (λ u x at. (standing_now u x at).map);
+    rule7 = each_there (λ x. AllByRecursion (AreBlockRowsSound shape new x.def) (used_blocks x.map)) places_now (λ u x at. (standing_now u x at).rows);
     rule8 = record {
-      used = each_there (λ x. AllByRecursion (IsUsedCountSound ext new x.def) (map_lines x.map)) places_now (λ u x at. (standing_now u x at).used_counts);
+      used = each_there (λ x. AllByRecursion (IsUsedCountSound shape new x.def) (map_lines x.map)) places_now (λ u x at. (standing_now u x at).used_counts);
       idle = each_there (λ x. AllByRecursion IsIdleCountSound (map_lines x.map)) places_now (λ u x at. (standing_now u x at).idle_counts);
     };
-    rule9 = each_there (λ x. AllByRecursion (IsOfOneCell ext new x.def) (used_blocks x.map)) places_now (λ u x at. (standing_now u x at).cells);
-    rule10 = each_there (AreTableBlockIndexesSound ext new) places_now (λ u x at. (standing_now u x at).indexes);
+    rule9 = each_there (λ x. AllByRecursion (IsOfOneCell shape new x.def) (used_blocks x.map)) places_now (λ u x at. (standing_now u x at).cells);
+    rule10 = each_there (AreTableBlockIndexesSound shape new) places_now (λ u x at. (standing_now u x at).indexes);
   }
 
   -- ---- what is said of the rows of each table
 
   -- the rows of another table are as they were
-  pub other_rows : (u : ℕ) (other : TableView) → u ≢ t → slice_get view.places u ≡ Some (Some other) → rows_in_table ext new other.def other.map ≡ rows_in_table before old other.def other.map
+  pub other_rows : (u : ℕ) (other : TableView) → u ≢ t → slice_get view.places u ≡ Some (Some other) → rows_in_table shape new other.def other.map ≡ rows_in_table shape old other.def other.map
   other_rows u other apart at =
-      let number : other.def.number ≡ u = (number_of_place before old view keeps u other at).1 in
+      let number : other.def.number ≡ u = (number_of_place shape old view keeps u other at).1 in
       let differs : other.def.number ≢ t = λ same. apart (sym number ∙ same) in
-      let stood = stands_of_rules before old view keeps u other at in
-      table_rows_kept before ext old new other.def view.owners other.map changes.shape stood.map
-      (λ e is. block_kept (IsPlaceSpace before view.owners table t) before ext old new view.owners other.def.number e stood.trees.map changes.shape refl changes.touched
+      let stood = stands_of_rules shape old view keeps u other at in
+      table_rows_kept shape old new other.def view.owners other.map stood.map
+      (λ e is. block_kept (IsPlaceSpace shape view.owners table t) shape old new view.owners other.def.number e stood.trees.map refl changes.touched
       (λ p of mine. off_blocks p other.def.number differs of mine) (omega (arith, block_below view.owners e other.def.number is, stood.trees.map.count)) is)
 
   -- so what was said of the rows of each table is said of them now, where it is of the changed one's
-  pub each_table_now : (P : TableView → List PlacedRow → Type 0) → AllByRecursion (λ x. P x (rows_in_table before old x.def x.map)) (tables_there view.places)
-      → P (view_of def_now forests_now) (rows_in_table ext new def_now forests_now.map)
-      → AllByRecursion (λ x. P x (rows_in_table ext new x.def x.map)) (tables_there (set view.places t (Some (view_of def_now forests_now))))
+  pub each_table_now : (P : TableView → List PlacedRow → Type 0) → AllByRecursion (λ x. P x (rows_in_table shape old x.def x.map)) (tables_there view.places)
+      → P (view_of def_now forests_now) (rows_in_table shape new def_now forests_now.map)
+      → AllByRecursion (λ x. P x (rows_in_table shape new x.def x.map)) (tables_there (set view.places t (Some (view_of def_now forests_now))))
   unfolding places_now
-  each_table_now P were is = each_there (λ x. P x (rows_in_table ext new x.def x.map)) places_now (λ u other at. elim (cases_eq u t) [
+  each_table_now P were is = each_there (λ x. P x (rows_in_table shape new x.def x.map)) places_now (λ u other at. elim (cases_eq u t) [
     | inl e ↦
         let same : Some (Some (view_of def_now forests_now)) ≡ Some (Some other) = sym now_there ∙ ap (slice_get places_now) (sym e) ∙ at in
-        subst (λ (x : TableView). P x (rows_in_table ext new x.def x.map)) (same_table (view_of def_now forests_now) other same) is
+        subst (λ (x : TableView). P x (rows_in_table shape new x.def x.map)) (same_table (view_of def_now forests_now) other same) is
     | inr apart ↦
         let was = sym (other_there u apart) ∙ at in
-        subst (P other) (sym (other_rows u other apart was)) (there_at (λ x. P x (rows_in_table before old x.def x.map)) view.places u other was were)
+        subst (P other) (sym (other_rows u other apart was)) (there_at (λ x. P x (rows_in_table shape old x.def x.map)) view.places u other was were)
   ])

@@ -6,7 +6,7 @@ use Rattle.store_api.specs.Frame.{OnlyPage, Touches}
 use Rattle.store_api.specs.StoreState.{page_at}
 use Rattle.table_page.specs.TablePage.{table_page}
 use Rattle.store_api.specs.Extents.{first_page_of}
-use Rattle.extent_map.specs.declared.extents.Extents.{Extents}
+use Rattle.store_api.specs.declared.shape.Shape.{Shape}
 use Rattle.entry_tree.specs.Forest.{Forest}
 use Rattle.table_trees.specs.ToldPages.{PageList, told_pages}
 use Rattle.mdc_sound.specs.SoundDatabase.{KeepAllRules, IsSoundInParts, with_table_page}
@@ -14,8 +14,8 @@ use Rattle.mdc_sound.specs.SpaceRules.{DatabaseView}
 use Rattle.mdc_sound.specs.TableRows.{rows_in_table}
 use Rattle.mdc_sound.proofs.TableRowsLemmas.{rows_in_table-kept}
 
-pub parts_of_rules : (ext : Extents) (pages : PageList) (view : DatabaseView) → KeepAllRules ext pages view → IsSoundInParts ext pages view
-parts_of_rules ext pages view keeps = record {
+pub parts_of_rules : (shape : Shape) (pages : PageList) (view : DatabaseView) → KeepAllRules shape pages view → IsSoundInParts shape pages view
+parts_of_rules shape pages view keeps = record {
   space = record {
     root = keeps.first.rule1;
     extents = keeps.first.rule2;
@@ -36,8 +36,8 @@ parts_of_rules ext pages view keeps = record {
   indexes = keeps.rule11;
 }
 
-pub rules_of_parts : (ext : Extents) (pages : PageList) (view : DatabaseView) → IsSoundInParts ext pages view → KeepAllRules ext pages view
-rules_of_parts ext pages view sound = record {
+pub rules_of_parts : (shape : Shape) (pages : PageList) (view : DatabaseView) → IsSoundInParts shape pages view → KeepAllRules shape pages view
+rules_of_parts shape pages view sound = record {
   first = record {
     rule1 = sound.space.root;
     rule2 = sound.space.extents;
@@ -82,8 +82,8 @@ put_table_page def pages = record {
 }
 
 -- no block lies on a table page, so the rows of all tables are as they are
-pub rows_with_table_page : (ext : Extents) (def : TableDef) (pages : PageList) → def.number < 16 → (other : TableDef) (map_tree : Forest)
-    → rows_in_table ext (with_table_page def pages) other map_tree ≡ rows_in_table ext pages other map_tree
-rows_with_table_page ext def pages low other map_tree =
-    rows_in_table-kept ext ext pages (with_table_page def pages) other (record { cap = refl; extent_pages = refl }) map_tree
-    (λ block used. record { each = λ j within. page_at-with_table_page def pages (first_page_of ext.cap ext.extent_pages block + j) (λ e. omega (arith, e, low)) })
+pub rows_with_table_page : (shape : Shape) (def : TableDef) (pages : PageList) → def.number < 16 → (other : TableDef) (map_tree : Forest)
+    → rows_in_table shape (with_table_page def pages) other map_tree ≡ rows_in_table shape pages other map_tree
+rows_with_table_page shape def pages low other map_tree =
+    rows_in_table-kept shape pages (with_table_page def pages) other map_tree
+    (λ block used. record { each = λ j within. page_at-with_table_page def pages (first_page_of shape.extents shape.extent_pages block + j) (λ e. omega (arith, e, low)) })

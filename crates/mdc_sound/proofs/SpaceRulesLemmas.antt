@@ -6,9 +6,9 @@ use Rattle.std.proofs.lemmas.Bool.{cases_lt}
 use Rattle.std.proofs.lemmas.List.Sums.{sum_by-cons}
 use Rattle.std.proofs.lemmas.Option.{same_Some}
 use Rattle.store_api.specs.Extents.{first_count, first_page_of}
+use Rattle.store_api.specs.declared.shape.Shape.{Shape}
 use Rattle.extent_map.specs.Kinds.{is_used_place}
 use Rattle.extent_map.specs.Owners.{IsUsedPage, extent_of, owner_of, place_in_extent}
-use Rattle.extent_map.specs.declared.extents.Extents.{Extents}
 use Rattle.extent_map.specs.declared.kind.Kind.{Kind}
 use Rattle.mdc_sound.specs.SpaceRules.{tables_there}
 use Rattle.mdc_sound.specs.TableViews.{TableView}
@@ -105,16 +105,16 @@ range_each R a (suc n) (y ∷ ys) count each =
 -- ---- used pages
 
 -- a page is a used page of an index extent, or it isn't
-pub used_or_not : (ext : Extents) (owners : List Kind) (p : ℕ) → IsUsedPage ext owners p ⊎ (IsUsedPage ext owners p → ⊥)
-used_or_not ext owners p = elim (cases_lt p (first_count ext.cap)) [
+pub used_or_not : (shape : Shape) (owners : List Kind) (p : ℕ) → IsUsedPage shape owners p ⊎ (IsUsedPage shape owners p → ⊥)
+used_or_not shape owners p = elim (cases_lt p (first_count shape.extents)) [
   | inl before ↦ inr (λ used. omega (arith, before, used.page.behind))
-  | inr behind ↦ elim (cases_lt p (first_page_of ext.cap ext.extent_pages ext.cap)) [
-    | inl within ↦ go (is_used_place (place_in_extent ext p) (owner_of owners (extent_of ext p))) refl behind within
+  | inr behind ↦ elim (cases_lt p (first_page_of shape.extents shape.extent_pages shape.extents)) [
+    | inl within ↦ go (is_used_place (place_in_extent shape p) (owner_of owners (extent_of shape p))) refl behind within
     | inr past ↦ inr (λ used. omega (arith, past, used.page.within))
   ]
 ]
   where
-    go : (used : Bool) → is_used_place (place_in_extent ext p) (owner_of owners (extent_of ext p)) ≡ used → first_count ext.cap ≤ p → p < first_page_of ext.cap ext.extent_pages ext.cap
-        → IsUsedPage ext owners p ⊎ (IsUsedPage ext owners p → ⊥)
+    go : (used : Bool) → is_used_place (place_in_extent shape p) (owner_of owners (extent_of shape p)) ≡ used → first_count shape.extents ≤ p → p < first_page_of shape.extents shape.extent_pages shape.extents
+        → IsUsedPage shape owners p ⊎ (IsUsedPage shape owners p → ⊥)
     go true is behind within = inl (record { page = record { behind = behind; within = within }; used = is })
     go false is behind within = inr (λ used. let wrong : true ≡ false = sym used.used ∙ is in absurd (cc))

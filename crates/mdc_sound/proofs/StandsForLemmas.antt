@@ -6,7 +6,7 @@ use Rattle.std.proofs.lemmas.List.Sorted.{Contains-permutation, IsPermutation-sy
 use Rattle.mdc_ast.specs.declared.definition.TableDef.{TableDef}
 use Rattle.mdc_ast.specs.declared.row.Row.{Row}
 use Rattle.mdc_ast.specs.Database.{Database, PlainTable}
-use Rattle.extent_map.specs.declared.extents.Extents.{Extents}
+use Rattle.store_api.specs.declared.shape.Shape.{Shape}
 use Rattle.entry_tree.specs.Forest.{Forest}
 use Rattle.entry_tree.specs.HeldTrees.{nodes_in}
 use Rattle.entry_tree.proofs.ForestLemmas.{same_forest}
@@ -93,33 +93,33 @@ table_of : (a b : PlainTable) → a.def ≡ b.def → a.rows ≡ b.rows → a �
 unfolding table_with
 table_of a b def rows = ap (λ d. table_with d a.rows) def ∙ ap (λ r. table_with b.def r) rows
 
-one_table : (ext : Extents) (pages : PageList) (t : ℕ) (a b : PlainTable) → HoldsTable ext pages t a → HoldsTable ext pages t b → a ≡ b
-one_table ext pages t a b h k =
+one_table : (shape : Shape) (pages : PageList) (t : ℕ) (a b : PlainTable) → HoldsTable shape pages t a → HoldsTable shape pages t b → a ≡ b
+one_table shape pages t a b h k =
     let def : h.def ≡ k.def = one_definition t h.def k.def (table_page_at pages t) h.defines k.defines in
     let has : HasTree pages (map_place h.def) k.map_tree = subst (λ d. HasTree pages (map_place d) k.map_tree) (sym def) k.has_map in
     let trees : h.map_tree ≡ k.map_tree = one_tree_at pages (map_place h.def) h.map_tree k.map_tree h.has_map has in
-    let rows : rows_in_table ext pages h.def h.map_tree ≡ rows_in_table ext pages k.def k.map_tree =
-    ap (λ d. rows_in_table ext pages d h.map_tree) def ∙ ap (λ tree. rows_in_table ext pages k.def tree) trees in
+    let rows : rows_in_table shape pages h.def h.map_tree ≡ rows_in_table shape pages k.def k.map_tree =
+    ap (λ d. rows_in_table shape pages d h.map_tree) def ∙ ap (λ tree. rows_in_table shape pages k.def tree) trees in
     let same = subst (λ all. IsPermutation (map (λ placed. placed.row) all) a.rows) rows h.same_rows in
     table_of a b (h.def_is ∙ (ap rootless def ∙ sym k.def_is))
-    (one_order (map (λ placed. placed.row) (rows_in_table ext pages k.def k.map_tree)) a.rows b.rows same k.same_rows h.rising k.rising)
+    (one_order (map (λ placed. placed.row) (rows_in_table shape pages k.def k.map_tree)) a.rows b.rows same k.same_rows h.rising k.rising)
 
-one_place : (ext : Extents) (pages : PageList) (t : ℕ) (a b : Option PlainTable) → HoldsPlace ext pages t a → HoldsPlace ext pages t b → a ≡ b
-one_place ext pages t None None h k = refl
-one_place ext pages t None (Some b) h k = absurd (no_blank_table t k.def (subst (λ page. IsTablePageOf t k.def page) h k.defines))
-one_place ext pages t (Some a) None h k = absurd (no_blank_table t h.def (subst (λ page. IsTablePageOf t h.def page) k h.defines))
-one_place ext pages t (Some a) (Some b) h k = ap Some (one_table ext pages t a b h k)
+one_place : (shape : Shape) (pages : PageList) (t : ℕ) (a b : Option PlainTable) → HoldsPlace shape pages t a → HoldsPlace shape pages t b → a ≡ b
+one_place shape pages t None None h k = refl
+one_place shape pages t None (Some b) h k = absurd (no_blank_table t k.def (subst (λ page. IsTablePageOf t k.def page) h k.defines))
+one_place shape pages t (Some a) None h k = absurd (no_blank_table t h.def (subst (λ page. IsTablePageOf t h.def page) k h.defines))
+one_place shape pages t (Some a) (Some b) h k = ap Some (one_table shape pages t a b h k)
 
-same_places : (ext : Extents) (pages : PageList) (ts : List ℕ) (a b : Database) → AllZip (HoldsPlace ext pages) ts a → AllZip (HoldsPlace ext pages) ts b → a ≡ b
-same_places ext pages [] [] [] h k = refl
-same_places ext pages [] [] (y ∷ b) h k = absurd k
-same_places ext pages [] (x ∷ a) b h k = absurd h
-same_places ext pages (t ∷ ts) [] b h k = absurd h
-same_places ext pages (t ∷ ts) (x ∷ a) [] h k = absurd k
-same_places ext pages (t ∷ ts) (x ∷ a) (y ∷ b) h k =
-    let first : x ≡ y = one_place ext pages t x y h.0 k.0 in
-    let rest : a ≡ b = same_places ext pages ts a b h.1 k.1 in
+same_places : (shape : Shape) (pages : PageList) (ts : List ℕ) (a b : Database) → AllZip (HoldsPlace shape pages) ts a → AllZip (HoldsPlace shape pages) ts b → a ≡ b
+same_places shape pages [] [] [] h k = refl
+same_places shape pages [] [] (y ∷ b) h k = absurd k
+same_places shape pages [] (x ∷ a) b h k = absurd h
+same_places shape pages (t ∷ ts) [] b h k = absurd h
+same_places shape pages (t ∷ ts) (x ∷ a) [] h k = absurd k
+same_places shape pages (t ∷ ts) (x ∷ a) (y ∷ b) h k =
+    let first : x ≡ y = one_place shape pages t x y h.0 k.0 in
+    let rest : a ≡ b = same_places shape pages ts a b h.1 k.1 in
     cc (first, rest)
 
-pub one_database : (ext : Extents) (pages : PageList) (a b : Database) → PagesStandFor ext pages a → PagesStandFor ext pages b → a ≡ b
-one_database ext pages a b h k = same_places ext pages (range_with_len 0 16) a b h k
+pub one_database : (shape : Shape) (pages : PageList) (a b : Database) → PagesStandFor shape pages a → PagesStandFor shape pages b → a ≡ b
+one_database shape pages a b h k = same_places shape pages (range_with_len 0 16) a b h k

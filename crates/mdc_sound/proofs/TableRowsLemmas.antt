@@ -1,10 +1,9 @@
 -- The rows of blocks whose pages are as they were.
-use Rattle.std.proofs.Common.{◌≡◌, ◌<◌, ◌≤◌, ◌+◌, ℕ, zero, suc, List, [], ◌∷◌, refl, ap, arith, ◌∙◌}
+use Rattle.std.proofs.Common.{◌≡◌, ◌<◌, ◌≤◌, ◌+◌, ℕ, zero, suc, List, [], ◌∷◌, refl, ap, arith}
 use Rattle.std.specs.Prelude.{Contains, flat_map}
 use Rattle.std.specs.List.{range_with_len}
 use Rattle.mdc_ast.specs.declared.definition.TableDef.{TableDef}
-use Rattle.extent_map.specs.Owners.{IsSameShape}
-use Rattle.extent_map.specs.declared.extents.Extents.{Extents}
+use Rattle.store_api.specs.declared.shape.Shape.{Shape}
 use Rattle.row_page.specs.RowPage.{rows_of}
 use Rattle.entry_tree.specs.Forest.{Forest}
 use Rattle.table_trees.specs.ToldPages.{PageList}
@@ -30,20 +29,19 @@ flat_map_members f h (x ∷ xs) same =
     cc (first, rest)
 
 -- each page of a block is as it was
-pub record KeepsBlockPages (before ext : Extents) (old new : PageList) (block : ℕ) : Type 0 where
-  pub each : (j : ℕ) → j < before.extent_pages → block_page ext new block j ≡ block_page before old block j
+pub record KeepsBlockPages (shape : Shape) (old new : PageList) (block : ℕ) : Type 0 where
+  pub each : (j : ℕ) → j < shape.extent_pages → block_page shape new block j ≡ block_page shape old block j
 
-module _ (before ext : Extents) (old new : PageList) (def : TableDef) (shape : IsSameShape before ext) where
-  pub block_slots-kept : (block : ℕ) → KeepsBlockPages before ext old new block → block_slots ext new def block ≡ block_slots before old def block
+module _ (shape : Shape) (old new : PageList) (def : TableDef) where
+  pub block_slots-kept : (block : ℕ) → KeepsBlockPages shape old new block → block_slots shape new def block ≡ block_slots shape old def block
   block_slots-kept block kept =
-      ap (λ n. flat_map (λ j. rows_of def.columns (block_page ext new block j)) (range_with_len 0 n)) shape.extent_pages
-      ∙ flat_map_range (λ j. rows_of def.columns (block_page ext new block j)) (λ j. rows_of def.columns (block_page before old block j)) 0 before.extent_pages
+      flat_map_range (λ j. rows_of def.columns (block_page shape new block j)) (λ j. rows_of def.columns (block_page shape old block j)) 0 shape.extent_pages
       (λ j low high. ap (rows_of def.columns) (kept.each j (omega (arith, high))))
 
-  pub rows_in_block-kept : (block : ℕ) → KeepsBlockPages before ext old new block → rows_in_block ext new def block ≡ rows_in_block before old def block
+  pub rows_in_block-kept : (block : ℕ) → KeepsBlockPages shape old new block → rows_in_block shape new def block ≡ rows_in_block shape old def block
   rows_in_block-kept block kept = ap (rows_from_slot block 0) (block_slots-kept block kept)
 
-  pub rows_in_table-kept : (map_tree : Forest) → ((block : ℕ) → Contains (used_blocks map_tree) block → KeepsBlockPages before ext old new block)
-      → rows_in_table ext new def map_tree ≡ rows_in_table before old def map_tree
+  pub rows_in_table-kept : (map_tree : Forest) → ((block : ℕ) → Contains (used_blocks map_tree) block → KeepsBlockPages shape old new block)
+      → rows_in_table shape new def map_tree ≡ rows_in_table shape old def map_tree
   rows_in_table-kept map_tree kept =
-      flat_map_members (rows_in_block ext new def) (rows_in_block before old def) (used_blocks map_tree) (λ block used. rows_in_block-kept block (kept block used))
+      flat_map_members (rows_in_block shape new def) (rows_in_block shape old def) (used_blocks map_tree) (λ block used. rows_in_block-kept block (kept block used))

@@ -7,7 +7,7 @@ use Rattle.std.proofs.lemmas.List.Kept.{AllPairs-filter}
 use Rattle.std.proofs.lemmas.List.Sorted.{IsPermutation-append_comm, IsPermutation-append_left, IsPermutation-append_right, IsPermutation-refl, IsPermutation-trans}
 use Rattle.mdc_ast.specs.declared.definition.TableDef.{TableDef}
 use Rattle.mdc_ast.specs.declared.row.Row.{Row}
-use Rattle.extent_map.specs.declared.extents.Extents.{Extents}
+use Rattle.store_api.specs.declared.shape.Shape.{Shape}
 use Rattle.extent_map.specs.declared.kind.Kind.{Kind}
 use Rattle.entry_tree.specs.Forest.{Forest}
 use Rattle.table_trees.specs.ToldPages.{PageList}
@@ -62,64 +62,64 @@ perm_behind mine front back =
     subst (λ l. IsPermutation l (front ++ (mine ++ back))) (append_assoc mine front back)
     (subst (λ r. IsPermutation ((mine ++ front) ++ back) r) (append_assoc front mine back) (IsPermutation-append_left back (mine ++ front) (front ++ mine) (IsPermutation-append_comm mine front)))
 
-module _ (ext : Extents) (pages : PageList) (def : TableDef) where
+module _ (shape : Shape) (pages : PageList) (def : TableDef) where
   -- the spots in which these blocks alone have rows
   used_alone : List ℕ → List Spot
-  used_alone [] = replicate ext.cap OtherBlock
-  used_alone (u ∷ us) = set (used_alone us) u (UsedBlock (block_slots ext pages def u))
+  used_alone [] = replicate shape.extents OtherBlock
+  used_alone (u ∷ us) = set (used_alone us) u (UsedBlock (block_slots shape pages def u))
 
-  length-used_alone : (us : List ℕ) → length (used_alone us) ≡ ext.cap
+  length-used_alone : (us : List ℕ) → length (used_alone us) ≡ shape.extents
   unfolding used_alone
-  length-used_alone [] = length-replicate ext.cap OtherBlock
-  length-used_alone (u ∷ us) = length-set (used_alone us) u (UsedBlock (block_slots ext pages def u)) ∙ length-used_alone us
+  length-used_alone [] = length-replicate shape.extents OtherBlock
+  length-used_alone (u ∷ us) = length-set (used_alone us) u (UsedBlock (block_slots shape pages def u)) ∙ length-used_alone us
 
-  alone_apart : (us : List ℕ) (e : ℕ) → e < ext.cap → (Contains us e → ⊥) → get_or (used_alone us) e OtherBlock ≡ OtherBlock
+  alone_apart : (us : List ℕ) (e : ℕ) → e < shape.extents → (Contains us e → ⊥) → get_or (used_alone us) e OtherBlock ≡ OtherBlock
   unfolding used_alone
-  alone_apart [] e low apart = get_or-replicate ext.cap e OtherBlock OtherBlock low
+  alone_apart [] e low apart = get_or-replicate shape.extents e OtherBlock OtherBlock low
   alone_apart (u ∷ us) e low apart =
-      get_or-set_other (used_alone us) u e (UsedBlock (block_slots ext pages def u)) OtherBlock (λ same. apart (0, omega arith, sym same))
+      get_or-set_other (used_alone us) u e (UsedBlock (block_slots shape pages def u)) OtherBlock (λ same. apart (0, omega arith, sym same))
       ∙ alone_apart us e low (λ later. apart (contains_more e u us later))
 
-  alone_there : (us : List ℕ) (e : ℕ) → e < ext.cap → Contains us e → get_or (used_alone us) e OtherBlock ≡ UsedBlock (block_slots ext pages def e)
+  alone_there : (us : List ℕ) (e : ℕ) → e < shape.extents → Contains us e → get_or (used_alone us) e OtherBlock ≡ UsedBlock (block_slots shape pages def e)
   unfolding used_alone
   alone_there [] e low (k, less, at) = absurd (omega (arith, less))
   alone_there (u ∷ us) e low there = elim (cases_eq e u) [
     | inl same ↦
-        ap (λ n. get_or (set (used_alone us) u (UsedBlock (block_slots ext pages def u))) n OtherBlock) same
-        ∙ get_or-set_same (used_alone us) u (UsedBlock (block_slots ext pages def u)) OtherBlock (omega (arith, low, same, length-used_alone us))
-        ∙ ap (λ n. UsedBlock (block_slots ext pages def n)) (sym same)
+        ap (λ n. get_or (set (used_alone us) u (UsedBlock (block_slots shape pages def u))) n OtherBlock) same
+        ∙ get_or-set_same (used_alone us) u (UsedBlock (block_slots shape pages def u)) OtherBlock (omega (arith, low, same, length-used_alone us))
+        ∙ ap (λ n. UsedBlock (block_slots shape pages def n)) (sym same)
     | inr other ↦
-        get_or-set_other (used_alone us) u e (UsedBlock (block_slots ext pages def u)) OtherBlock other
+        get_or-set_other (used_alone us) u e (UsedBlock (block_slots shape pages def u)) OtherBlock other
         ∙ elim (contains_cases e u us there) [ inl here ↦ absurd (other (sym here)) | inr later ↦ alone_there us e low later ]
   ]
 
-  rows_alone : (us : List ℕ) → AllPairs (λ a b. a ≢ b) us → ((u : ℕ) → Contains us u → u < ext.cap) → IsPermutation (flat_map (rows_in_block ext pages def) us) (rows_from_spot 0 (used_alone us))
+  rows_alone : (us : List ℕ) → AllPairs (λ a b. a ≢ b) us → ((u : ℕ) → Contains us u → u < shape.extents) → IsPermutation (flat_map (rows_in_block shape pages def) us) (rows_from_spot 0 (used_alone us))
   unfolding used_alone
-  rows_alone [] differ low = subst (λ rows. IsPermutation [] rows) (sym (no_rows 0 ext.cap)) (IsPermutation-refl [])
+  rows_alone [] differ low = subst (λ rows. IsPermutation [] rows) (sym (no_rows 0 shape.extents)) (IsPermutation-refl [])
   rows_alone (u ∷ us) differ low =
-      let below : u < ext.cap = low u (0, omega arith, refl) in
-      let mine = rows_in_block ext pages def u in
+      let below : u < shape.extents = low u (0, omega arith, refl) in
+      let mine = rows_in_block shape pages def u in
       let cut = cut_rows 0 u u (used_alone us) OtherBlock OtherBlock (omega (arith, below, length-used_alone us)) (alone_apart us u below (first_differs u us differ)) (omega arith) in
       let rest = rows_alone us (rest_differs u us differ) (λ v later. low v (contains_more v u us later)) in
-      let rest_cut : IsPermutation (flat_map (rows_in_block ext pages def) us) (cut.front ++ cut.back) = subst (IsPermutation (flat_map (rows_in_block ext pages def) us)) cut.rows_are rest in
-      subst (IsPermutation (mine ++ flat_map (rows_in_block ext pages def) us)) (sym (cut.set_rows (UsedBlock (block_slots ext pages def u))))
-      (IsPermutation-trans (mine ++ flat_map (rows_in_block ext pages def) us) (mine ++ (cut.front ++ cut.back)) (cut.front ++ (mine ++ cut.back))
-      (IsPermutation-append_right mine (flat_map (rows_in_block ext pages def) us) (cut.front ++ cut.back) rest_cut) (perm_behind mine cut.front cut.back))
+      let rest_cut : IsPermutation (flat_map (rows_in_block shape pages def) us) (cut.front ++ cut.back) = subst (IsPermutation (flat_map (rows_in_block shape pages def) us)) cut.rows_are rest in
+      subst (IsPermutation (mine ++ flat_map (rows_in_block shape pages def) us)) (sym (cut.set_rows (UsedBlock (block_slots shape pages def u))))
+      (IsPermutation-trans (mine ++ flat_map (rows_in_block shape pages def) us) (mine ++ (cut.front ++ cut.back)) (cut.front ++ (mine ++ cut.back))
+      (IsPermutation-append_right mine (flat_map (rows_in_block shape pages def) us) (cut.front ++ cut.back) rest_cut) (perm_behind mine cut.front cut.back))
 
   -- the rows of all spots
-  module _ (owners : List Kind) (map_tree : Forest) (sound : IsBlockMapSound ext owners def map_tree) where
-    same_rows : (e : ℕ) → e < ext.cap → rows_in_spot e (get_or (used_alone (used_blocks map_tree)) e OtherBlock) ≡ rows_in_spot e (slice_index_or (table_spots ext pages def owners map_tree) e OtherBlock)
-    same_rows e low = go (shown ext pages def owners map_tree sound e OtherBlock low)
+  module _ (owners : List Kind) (map_tree : Forest) (sound : IsBlockMapSound shape owners def map_tree) where
+    same_rows : (e : ℕ) → e < shape.extents → rows_in_spot e (get_or (used_alone (used_blocks map_tree)) e OtherBlock) ≡ rows_in_spot e (slice_index_or (table_spots shape pages def owners map_tree) e OtherBlock)
+    same_rows e low = go (shown shape pages def owners map_tree sound e OtherBlock low)
       where
         -- an extent without rows is no Used block
-        none : (spot : Spot) → slice_index_or (table_spots ext pages def owners map_tree) e OtherBlock ≡ spot → rows_in_spot e spot ≡ [] → ((slots : List (Option Row)) → spot ≢ UsedBlock slots)
-            → rows_in_spot e (get_or (used_alone (used_blocks map_tree)) e OtherBlock) ≡ rows_in_spot e (slice_index_or (table_spots ext pages def owners map_tree) e OtherBlock)
+        none : (spot : Spot) → slice_index_or (table_spots shape pages def owners map_tree) e OtherBlock ≡ spot → rows_in_spot e spot ≡ [] → ((slots : List (Option Row)) → spot ≢ UsedBlock slots)
+            → rows_in_spot e (get_or (used_alone (used_blocks map_tree)) e OtherBlock) ≡ rows_in_spot e (slice_index_or (table_spots shape pages def owners map_tree) e OtherBlock)
         none spot is empty unused =
-            ap (rows_in_spot e) (alone_apart (used_blocks map_tree) e low (λ used. unused (block_slots ext pages def e) (sym is ∙ used_spot ext pages def owners map_tree e OtherBlock sound used)))
+            ap (rows_in_spot e) (alone_apart (used_blocks map_tree) e low (λ used. unused (block_slots shape pages def e) (sym is ∙ used_spot shape pages def owners map_tree e OtherBlock sound used)))
             ∙ sym (ap (rows_in_spot e) is ∙ empty)
 
-        go : ShownSpot ext pages def owners map_tree e (slice_index_or (table_spots ext pages def owners map_tree) e OtherBlock)
-            → rows_in_spot e (get_or (used_alone (used_blocks map_tree)) e OtherBlock) ≡ rows_in_spot e (slice_index_or (table_spots ext pages def owners map_tree) e OtherBlock)
+        go : ShownSpot shape pages def owners map_tree e (slice_index_or (table_spots shape pages def owners map_tree) e OtherBlock)
+            → rows_in_spot e (get_or (used_alone (used_blocks map_tree)) e OtherBlock) ≡ rows_in_spot e (slice_index_or (table_spots shape pages def owners map_tree) e OtherBlock)
         go (free_extent owner spot) = none FreeExtent spot refl (λ slots wrong. absurd (cc wrong))
         go (index_extent used owner spot) = none IndexExtent spot refl (λ slots wrong. absurd (cc wrong))
         go (other_block t other owner spot) = none OtherBlock spot refl (λ slots wrong. absurd (cc wrong))
@@ -127,11 +127,11 @@ module _ (ext : Extents) (pages : PageList) (def : TableDef) where
         go (used_block there spot) = ap (rows_in_spot e) (alone_there (used_blocks map_tree) e low there ∙ sym spot)
         go (pending_block there spot) = none PendingBlock spot refl (λ slots wrong. absurd (cc wrong))
 
-    pub rows_of_spots : IsPermutation (rows_in_table ext pages def map_tree) (rows_from_spot 0 (table_spots ext pages def owners map_tree))
+    pub rows_of_spots : IsPermutation (rows_in_table shape pages def map_tree) (rows_from_spot 0 (table_spots shape pages def owners map_tree))
     rows_of_spots =
         let us = used_blocks map_tree in
-        subst (IsPermutation (rows_in_table ext pages def map_tree))
-        (rows_agree 0 (used_alone us) (table_spots ext pages def owners map_tree) (length-used_alone us ∙ sym (length-spots ext pages def owners map_tree))
+        subst (IsPermutation (rows_in_table shape pages def map_tree))
+        (rows_agree 0 (used_alone us) (table_spots shape pages def owners map_tree) (length-used_alone us ∙ sym (length-spots shape pages def owners map_tree))
         (λ e n less is. let same : e ≡ n = omega (arith, is) in
-        subst (λ m. rows_in_spot m (get_or (used_alone us) e OtherBlock) ≡ rows_in_spot m (get_or (table_spots ext pages def owners map_tree) e OtherBlock)) same (same_rows e (omega (arith, less, length-used_alone us)))))
-        (rows_alone us (used_differ map_tree sound.once_each) (λ u used. (named_owned ext owners def map_tree 1 u sound used).0))
+        subst (λ m. rows_in_spot m (get_or (used_alone us) e OtherBlock) ≡ rows_in_spot m (get_or (table_spots shape pages def owners map_tree) e OtherBlock)) same (same_rows e (omega (arith, less, length-used_alone us)))))
+        (rows_alone us (used_differ map_tree sound.once_each) (λ u used. (named_owned shape owners def map_tree 1 u sound used).0))

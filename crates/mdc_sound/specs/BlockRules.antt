@@ -6,8 +6,8 @@ use Rattle.mdc_words.specs.ByteOrder.{Entry}
 use Rattle.mdc_ast.specs.declared.definition.IndexDef.{IndexDef}
 use Rattle.mdc_ast.specs.declared.definition.KeyPart.{KeyPart}
 use Rattle.mdc_ast.specs.declared.definition.TableDef.{TableDef}
-use Rattle.extent_map.specs.declared.extents.Extents.{Extents}
 use Rattle.mdc_ast.specs.ValidDatabase.{AreSameAtParts}
+use Rattle.store_api.specs.declared.shape.Shape.{Shape}
 use Rattle.key_codec.specs.Keys.{width_of_parts}
 use Rattle.node_page.specs.Node.{number_within}
 use Rattle.row_page.specs.RowPage.{IsRowPage, rows_of}
@@ -28,33 +28,33 @@ EachUsedBlock view P = EachTable view (λ table. AllByRecursion (P table.def) (u
 -- ---- 7: the row pages
 
 -- page j of a block is a row page of the table's columns
-abbrev pub IsBlockPageSound : Extents → PageList → TableDef → ℕ → ℕ → Type 0
-IsBlockPageSound ext pages def block j =
-    IsRowPage def.columns (block_page ext pages block j) (rows_of def.columns (block_page ext pages block j))
+abbrev pub IsBlockPageSound : Shape → PageList → TableDef → ℕ → ℕ → Type 0
+IsBlockPageSound shape pages def block j =
+    IsRowPage def.columns (block_page shape pages block j) (rows_of def.columns (block_page shape pages block j))
 
 -- the pages of a Used block are row pages, and its rows fit the definition
-pub record AreBlockRowsSound (ext : Extents) (pages : PageList) (def : TableDef) (block : ℕ) : Type 0 where
-  pub forms : (j : ℕ) → j < ext.extent_pages → IsBlockPageSound ext pages def block j
-  pub rows : AllByRecursion (λ placed. RowFits def placed.row) (rows_in_block ext pages def block)
+pub record AreBlockRowsSound (shape : Shape) (pages : PageList) (def : TableDef) (block : ℕ) : Type 0 where
+  pub forms : (j : ℕ) → j < shape.extent_pages → IsBlockPageSound shape pages def block j
+  pub rows : AllByRecursion (λ placed. RowFits def placed.row) (rows_in_block shape pages def block)
 
 -- so is each Used block
-abbrev pub AreRowPagesSound : Extents → PageList → DatabaseView → Type 0
-AreRowPagesSound ext pages view = EachUsedBlock view (AreBlockRowsSound ext pages)
+abbrev pub AreRowPagesSound : Shape → PageList → DatabaseView → Type 0
+AreRowPagesSound shape pages view = EachUsedBlock view (AreBlockRowsSound shape pages)
 
 -- ---- 8: the counts
 
 -- a Used block has a row at least, and as many as the block map says
-pub record IsUsedCountSound (ext : Extents) (pages : PageList) (def : TableDef) (line : MapLine) : Type 0 where
+pub record IsUsedCountSound (shape : Shape) (pages : PageList) (def : TableDef) (line : MapLine) : Type 0 where
   pub some_row : line.state ≡ 1 → 0 < line.rows
-  pub counted : line.state ≡ 1 → line.rows ≡ length (rows_in_block ext pages def line.block)
+  pub counted : line.state ≡ 1 → line.rows ≡ length (rows_in_block shape pages def line.block)
 
 -- a Free or Pending block has no row in the block map
 abbrev pub IsIdleCountSound : MapLine → Type 0
 IsIdleCountSound line = line.state ≢ 1 → line.rows ≡ 0
 
 -- each Used block is counted so
-abbrev pub AreUsedCountsSound : Extents → PageList → DatabaseView → Type 0
-AreUsedCountsSound ext pages view = EachTable view (λ table. AllByRecursion (IsUsedCountSound ext pages table.def) (map_lines table.map))
+abbrev pub AreUsedCountsSound : Shape → PageList → DatabaseView → Type 0
+AreUsedCountsSound shape pages view = EachTable view (λ table. AllByRecursion (IsUsedCountSound shape pages table.def) (map_lines table.map))
 
 -- and each other block so
 abbrev pub AreIdleCountsSound : DatabaseView → Type 0
@@ -63,12 +63,12 @@ AreIdleCountsSound view = EachTable view (λ table. AllByRecursion IsIdleCountSo
 -- ---- 9: one cell for each block
 
 -- all rows of a block are of one cell
-abbrev pub IsOfOneCell : Extents → PageList → TableDef → ℕ → Type 0
-IsOfOneCell ext pages def block = AllPairs (λ a b. AreOfOneCell def a.row.values b.row.values) (rows_in_block ext pages def block)
+abbrev pub IsOfOneCell : Shape → PageList → TableDef → ℕ → Type 0
+IsOfOneCell shape pages def block = AllPairs (λ a b. AreOfOneCell def a.row.values b.row.values) (rows_in_block shape pages def block)
 
 -- so is each Used block
-abbrev pub AreCellsSound : Extents → PageList → DatabaseView → Type 0
-AreCellsSound ext pages view = EachUsedBlock view (IsOfOneCell ext pages)
+abbrev pub AreCellsSound : Shape → PageList → DatabaseView → Type 0
+AreCellsSound shape pages view = EachUsedBlock view (IsOfOneCell shape pages)
 
 -- ---- 10: the block indexes
 
@@ -82,13 +82,13 @@ pub record IsBlockIndexSound (def : TableDef) (rows : List PlacedRow) (parts : L
   pub only : AllByRecursion (Contains (map (entry_of_block def parts) rows)) (leaf_entries index)
 
 -- the composite index and the index of each dimension have exactly the Used blocks, under the values of their cells
-pub record AreTableBlockIndexesSound (ext : Extents) (pages : PageList) (table : TableView) : Type 0 where
-  pub composite : IsBlockIndexSound table.def (rows_in_table ext pages table.def table.map) (cell_parts table.def) table.composite
-  pub dims : AllZip (λ dim index. IsBlockIndexSound table.def (rows_in_table ext pages table.def table.map) (rising_parts dim) index) table.def.dims table.dims
+pub record AreTableBlockIndexesSound (shape : Shape) (pages : PageList) (table : TableView) : Type 0 where
+  pub composite : IsBlockIndexSound table.def (rows_in_table shape pages table.def table.map) (cell_parts table.def) table.composite
+  pub dims : AllZip (λ dim index. IsBlockIndexSound table.def (rows_in_table shape pages table.def table.map) (rising_parts dim) index) table.def.dims table.dims
 
 -- so has each table
-abbrev pub AreBlockIndexesSound : Extents → PageList → DatabaseView → Type 0
-AreBlockIndexesSound ext pages view = EachTable view (AreTableBlockIndexesSound ext pages)
+abbrev pub AreBlockIndexesSound : Shape → PageList → DatabaseView → Type 0
+AreBlockIndexesSound shape pages view = EachTable view (AreTableBlockIndexesSound shape pages)
 
 -- ---- 11: the record indexes
 
@@ -106,13 +106,13 @@ pub record IsSoundIndex (def : TableDef) (rows : List PlacedRow) (pending : List
   pub only : AllByRecursion (λ entry. Contains (map (entry_of_row def index) rows) entry ⊎ Contains pending (block_in_entry def index.parts entry)) (leaf_entries tree)
 
 -- so is each record index of a table
-abbrev pub AreTableIndexesSound : Extents → PageList → TableView → Type 0
-AreTableIndexesSound ext pages table =
-    AllZip (IsSoundIndex table.def (rows_in_table ext pages table.def table.map) (pending_blocks table.map)) table.def.indexes table.indexes
+abbrev pub AreTableIndexesSound : Shape → PageList → TableView → Type 0
+AreTableIndexesSound shape pages table =
+    AllZip (IsSoundIndex table.def (rows_in_table shape pages table.def table.map) (pending_blocks table.map)) table.def.indexes table.indexes
 
 -- and of each table
-abbrev pub AreSoundIndexes : Extents → PageList → DatabaseView → Type 0
-AreSoundIndexes ext pages view = EachTable view (AreTableIndexesSound ext pages)
+abbrev pub AreSoundIndexes : Shape → PageList → DatabaseView → Type 0
+AreSoundIndexes shape pages view = EachTable view (AreTableIndexesSound shape pages)
 
 -- ---- 12: row numbers and unique keys
 
@@ -122,8 +122,8 @@ pub record AreRowNumbersSound (def : TableDef) (rows : List PlacedRow) : Type 0 
   pub differ : AllPairs (λ a b. a.row.number ≢ b.row.number) rows
 
 -- so are those of each table
-abbrev pub AreNumbersSound : Extents → PageList → DatabaseView → Type 0
-AreNumbersSound ext pages view = EachTable view (λ table. AreRowNumbersSound table.def (rows_in_table ext pages table.def table.map))
+abbrev pub AreNumbersSound : Shape → PageList → DatabaseView → Type 0
+AreNumbersSound shape pages view = EachTable view (λ table. AreRowNumbersSound table.def (rows_in_table shape pages table.def table.map))
 
 -- in a UNIQUE index no two rows have equal keys, where a null equals a null
 abbrev pub IsUniqueSound : List PlacedRow → IndexDef → Type 0
@@ -131,13 +131,13 @@ IsUniqueSound rows index =
     IsTrue index.unique → AllPairs (λ a b. AreSameAtParts index.parts a.row.values b.row.values → ⊥) rows
 
 -- so is each of a table
-abbrev pub AreTableKeysSound : Extents → PageList → TableView → Type 0
-AreTableKeysSound ext pages table = AllByRecursion (IsUniqueSound (rows_in_table ext pages table.def table.map)) table.def.indexes
+abbrev pub AreTableKeysSound : Shape → PageList → TableView → Type 0
+AreTableKeysSound shape pages table = AllByRecursion (IsUniqueSound (rows_in_table shape pages table.def table.map)) table.def.indexes
 
 -- and each of each table
-abbrev pub AreUniqueKeysSound : Extents → PageList → DatabaseView → Type 0
-AreUniqueKeysSound ext pages view = EachTable view (AreTableKeysSound ext pages)
+abbrev pub AreUniqueKeysSound : Shape → PageList → DatabaseView → Type 0
+AreUniqueKeysSound shape pages view = EachTable view (AreTableKeysSound shape pages)
 
 -- and each of each table but one
-abbrev pub AreOtherKeysSound : Extents → PageList → DatabaseView → ℕ → Type 0
-AreOtherKeysSound ext pages view t = EachTable view (λ table. table.def.number ≢ t → AreTableKeysSound ext pages table)
+abbrev pub AreOtherKeysSound : Shape → PageList → DatabaseView → ℕ → Type 0
+AreOtherKeysSound shape pages view t = EachTable view (λ table. table.def.number ≢ t → AreTableKeysSound shape pages table)

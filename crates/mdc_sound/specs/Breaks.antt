@@ -5,9 +5,9 @@ use Rattle.mdc_ast.specs.declared.definition.IndexDef.{IndexDef}
 use Rattle.mdc_ast.specs.declared.definition.TableDef.{TableDef}
 use Rattle.store_api.specs.Extents.{first_page_of, map_pages}
 use Rattle.store_api.specs.StoreState.{page_at, zero_page}
+use Rattle.store_api.specs.declared.shape.Shape.{Shape}
 use Rattle.extent_map.specs.Map.{HoldsMapPage}
 use Rattle.extent_map.specs.Owners.{IsExtentPage, IsUsedPage, extent_of, owner_of}
-use Rattle.extent_map.specs.declared.extents.Extents.{Extents}
 use Rattle.extent_map.specs.declared.kind.Kind.{Kind}
 use Rattle.extent_map.specs.declared.kind.Kind.TheVariants as kind
 use Rattle.row_page.specs.RowPage.{slot_count}
@@ -23,12 +23,12 @@ use Rattle.table_trees.specs.TableTrees.{TreePlace, cell_parts, composite_place,
 use Rattle.table_trees.specs.ToldPages.{HasTree, PageList, told_pages}
 
 -- so many pages are those before the extents and some number of whole extents
-abbrev pub IsWholeOf : Extents → ℕ → Type 0
-IsWholeOf ext n = (extents : ℕ) × (extents ≤ ext.cap) × (n ≡ first_page_of ext.cap ext.extent_pages extents)
+abbrev pub IsWholeOf : Shape → ℕ → Type 0
+IsWholeOf shape n = (extents : ℕ) × (extents ≤ shape.extents) × (n ≡ first_page_of shape.extents shape.extent_pages extents)
 
 -- the extent map shows the extent of a page, with these owners
-abbrev pub ShowsExtentOf : Extents → PageList → List Kind → ℕ → Type 0
-ShowsExtentOf ext pages owners p = IsExtentPage ext p × HoldsMapPage told_pages ext pages owners (extent_of ext p / 512)
+abbrev pub ShowsExtentOf : Shape → PageList → List Kind → ℕ → Type 0
+ShowsExtentOf shape pages owners p = IsExtentPage shape p × HoldsMapPage told_pages shape pages owners (extent_of shape p / 512)
 
 -- table t is defined so, and P holds of its block map, where that stands
 pub record ShowsTable (pages : PageList) (t : ℕ) (def : TableDef) (P : Forest → Type 0) : Type 0 where
@@ -57,77 +57,77 @@ pub record HasIndex (pages : PageList) (t : ℕ) (index : IndexDef) : Type 0 whe
   pub is_its : Contains def.indexes index
 
 -- a rule is broken at a page
-pub data BreaksRule (ext : Extents) (pages : PageList) : (rule page : ℕ) → Type 0 where
+pub data BreaksRule (shape : Shape) (pages : PageList) : (rule page : ℕ) → Type 0 where
   -- the root page states no count of whole extents, or has another form; and a page that it counts and that isn't there
-  root : ((n : ℕ) → IsWholeOf ext n → length pages ≤ n → page_at pages 0 ≡ stated_root n → ⊥) → BreaksRule ext pages 1 0
-  missing : (n p : ℕ) → IsWholeOf ext n → page_at pages 0 ≡ stated_root n → length pages ≤ p → p < n → BreaksRule ext pages 1 p
+  root : ((n : ℕ) → IsWholeOf shape n → length pages ≤ n → page_at pages 0 ≡ stated_root n → ⊥) → BreaksRule shape pages 1 0
+  missing : (n p : ℕ) → IsWholeOf shape n → page_at pages 0 ≡ stated_root n → length pages ≤ p → p < n → BreaksRule shape pages 1 p
   -- a page of the extent map, of which no owners can be said
-  map_page : (i : ℕ) → i < map_pages ext.cap → ((owners : List Kind) → IsMapPageSound ext pages owners i → ⊥) → BreaksRule ext pages 2 (17 + i)
+  map_page : (i : ℕ) → i < map_pages shape.extents → ((owners : List Kind) → IsMapPageSound shape pages owners i → ⊥) → BreaksRule shape pages 2 (17 + i)
   -- a table page that is neither zeros alone nor that of a definition
-  table : (t : ℕ) → t < 16 → table_page_at pages t ≢ zero_page → ((def : TableDef) → DefinesTable pages t def → ⊥) → BreaksRule ext pages 3 (1 + t)
+  table : (t : ℕ) → t < 16 → table_page_at pages t ≢ zero_page → ((def : TableDef) → DefinesTable pages t def → ⊥) → BreaksRule shape pages 3 (1 + t)
   -- a root that lies in no extent, and one that isn't a page of an index extent
   root_outside : (t : ℕ) (def : TableDef) (place : TreePlace) → t < 16 → DefinesTable pages t def → Contains (tree_places def) place
-      → (IsExtentPage ext place.root → ⊥) → BreaksRule ext pages 3 (1 + t)
+      → (IsExtentPage shape place.root → ⊥) → BreaksRule shape pages 3 (1 + t)
   root_no_index : (t : ℕ) (def : TableDef) (place : TreePlace) (owners : List Kind) → t < 16 → DefinesTable pages t def → Contains (tree_places def) place
-      → ShowsExtentOf ext pages owners place.root → (IsIndexPage ext owners place.root → ⊥) → BreaksRule ext pages 3 (1 + t)
+      → ShowsExtentOf shape pages owners place.root → (IsIndexPage shape owners place.root → ⊥) → BreaksRule shape pages 3 (1 + t)
   -- two tables, or two indexes of two tables, of one name: the lower page
-  table_name : (t u : ℕ) (a b : TableDef) → t < u → u < 16 → DefinesTable pages t a → DefinesTable pages u b → a.name ≡ b.name → BreaksRule ext pages 3 (1 + t)
-  index_name : (t u : ℕ) (i j : IndexDef) → t < u → HasIndex pages t i → HasIndex pages u j → i.name ≡ j.name → BreaksRule ext pages 3 (1 + t)
+  table_name : (t u : ℕ) (a b : TableDef) → t < u → u < 16 → DefinesTable pages t a → DefinesTable pages u b → a.name ≡ b.name → BreaksRule shape pages 3 (1 + t)
+  index_name : (t u : ℕ) (i j : IndexDef) → t < u → HasIndex pages t i → HasIndex pages u j → i.name ≡ j.name → BreaksRule shape pages 3 (1 + t)
   -- a root at which no tree stands
   tree : (t : ℕ) (def : TableDef) (place : TreePlace) → t < 16 → DefinesTable pages t def → Contains (tree_places def) place
-      → ((t : Forest) → HasTree pages place t → ⊥) → BreaksRule ext pages 4 place.root
+      → ((t : Forest) → HasTree pages place t → ⊥) → BreaksRule shape pages 4 place.root
   -- a page in two trees, a used index page in none, and a page of a tree that isn't a used index page
   shared : (t u i j p : ℕ) → ShowsTree pages t i (λ a. 0 < times p a) → ShowsTree pages u j (λ b. 0 < times p b) → (t ≢ u) ⊎ (i ≢ j)
-      → BreaksRule ext pages 5 p
-  in_none : (p : ℕ) (owners : List Kind) → ShowsExtentOf ext pages owners p → IsUsedPage ext owners p
-      → ((t i : ℕ) (place : TreePlace) (tree : Forest) → IsTreePlace pages t i place → HasTree pages place tree → times p tree ≡ 0) → BreaksRule ext pages 5 p
-  outside : (t i p : ℕ) → ShowsTree pages t i (λ tree. 0 < times p tree) → (IsExtentPage ext p → ⊥) → BreaksRule ext pages 5 p
-  not_used : (t i p : ℕ) (owners : List Kind) → ShowsTree pages t i (λ tree. 0 < times p tree) → ShowsExtentOf ext pages owners p
-      → (IsUsedPage ext owners p → ⊥) → BreaksRule ext pages 5 p
+      → BreaksRule shape pages 5 p
+  in_none : (p : ℕ) (owners : List Kind) → ShowsExtentOf shape pages owners p → IsUsedPage shape owners p
+      → ((t i : ℕ) (place : TreePlace) (tree : Forest) → IsTreePlace pages t i place → HasTree pages place tree → times p tree ≡ 0) → BreaksRule shape pages 5 p
+  outside : (t i p : ℕ) → ShowsTree pages t i (λ tree. 0 < times p tree) → (IsExtentPage shape p → ⊥) → BreaksRule shape pages 5 p
+  not_used : (t i p : ℕ) (owners : List Kind) → ShowsTree pages t i (λ tree. 0 < times p tree) → ShowsExtentOf shape pages owners p
+      → (IsUsedPage shape owners p → ⊥) → BreaksRule shape pages 5 p
   -- a block map with a state above 2, or that names a block twice; an entry of one that names no extent; one that names what is
   -- no block of the table, and a block of the table that isn't named
   map_form : (t : ℕ) (def : TableDef) → t < 16 → DefinesTable pages t def → ((map_tree : Forest) → HasTree pages (map_place def) map_tree → IsMapForm map_tree → ⊥)
-      → BreaksRule ext pages 6 def.roots.map
+      → BreaksRule shape pages 6 def.roots.map
   map_past : (t : ℕ) (def : TableDef) (line : MapLine) → ShowsTable pages t def (λ map_tree. Contains (map_lines map_tree) line)
-      → ext.cap ≤ line.block → BreaksRule ext pages 6 def.roots.map
+      → shape.extents ≤ line.block → BreaksRule shape pages 6 def.roots.map
   map_other : (t : ℕ) (def : TableDef) (line : MapLine) (owners : List Kind) → ShowsTable pages t def (λ map_tree. Contains (map_lines map_tree) line)
-      → line.block < ext.cap → HoldsMapPage told_pages ext pages owners (line.block / 512) → owner_of owners line.block ≢ kind.Block def.number
-      → BreaksRule ext pages 6 def.roots.map
-  map_lacks : (t e : ℕ) (def : TableDef) (owners : List Kind) → ShowsTable pages t def (λ map_tree. Contains (mapped_blocks map_tree) e → ⊥) → e < ext.cap
-      → HoldsMapPage told_pages ext pages owners (e / 512) → owner_of owners e ≡ kind.Block def.number → BreaksRule ext pages 6 def.roots.map
+      → line.block < shape.extents → HoldsMapPage told_pages shape pages owners (line.block / 512) → owner_of owners line.block ≢ kind.Block def.number
+      → BreaksRule shape pages 6 def.roots.map
+  map_lacks : (t e : ℕ) (def : TableDef) (owners : List Kind) → ShowsTable pages t def (λ map_tree. Contains (mapped_blocks map_tree) e → ⊥) → e < shape.extents
+      → HoldsMapPage told_pages shape pages owners (e / 512) → owner_of owners e ≡ kind.Block def.number → BreaksRule shape pages 6 def.roots.map
   -- a page of a Used block that is no row page, and one with a row that doesn't fit
   row_page : (t : ℕ) (def : TableDef) (block j : ℕ) → ShowsTable pages t def (λ map_tree. Contains (used_blocks map_tree) block)
-      → j < ext.extent_pages → (IsBlockPageSound ext pages def block j → ⊥) → BreaksRule ext pages 7 (first_page_of ext.cap ext.extent_pages block + j)
+      → j < shape.extent_pages → (IsBlockPageSound shape pages def block j → ⊥) → BreaksRule shape pages 7 (first_page_of shape.extents shape.extent_pages block + j)
   row : (t : ℕ) (def : TableDef) (block : ℕ) (placed : PlacedRow) → ShowsTable pages t def (λ map_tree. Contains (used_blocks map_tree) block)
-      → Contains (rows_in_block ext pages def block) placed → (RowFits def placed.row → ⊥)
-      → BreaksRule ext pages 7 (first_page_of ext.cap ext.extent_pages block + placed.rid.slot / slot_count def.columns)
+      → Contains (rows_in_block shape pages def block) placed → (RowFits def placed.row → ⊥)
+      → BreaksRule shape pages 7 (first_page_of shape.extents shape.extent_pages block + placed.rid.slot / slot_count def.columns)
   -- the first page of a block whose count isn't right
   used_count : (t : ℕ) (def : TableDef) (line : MapLine) → ShowsTable pages t def (λ map_tree. Contains (map_lines map_tree) line)
-      → (IsUsedCountSound ext pages def line → ⊥) → BreaksRule ext pages 8 (first_page_of ext.cap ext.extent_pages line.block)
+      → (IsUsedCountSound shape pages def line → ⊥) → BreaksRule shape pages 8 (first_page_of shape.extents shape.extent_pages line.block)
   idle_count : (t : ℕ) (def : TableDef) (line : MapLine) → ShowsTable pages t def (λ map_tree. Contains (map_lines map_tree) line)
-      → (IsIdleCountSound line → ⊥) → BreaksRule ext pages 8 (first_page_of ext.cap ext.extent_pages line.block)
+      → (IsIdleCountSound line → ⊥) → BreaksRule shape pages 8 (first_page_of shape.extents shape.extent_pages line.block)
   -- the first page of a block whose rows are of two cells
   cell : (t : ℕ) (def : TableDef) (block : ℕ) → ShowsTable pages t def (λ map_tree. Contains (used_blocks map_tree) block)
-      → (IsOfOneCell ext pages def block → ⊥) → BreaksRule ext pages 9 (first_page_of ext.cap ext.extent_pages block)
+      → (IsOfOneCell shape pages def block → ⊥) → BreaksRule shape pages 9 (first_page_of shape.extents shape.extent_pages block)
   -- the root of a block index, and of a record index
   composite : (t : ℕ) (def : TableDef) → t < 16 → DefinesTable pages t def
       → ((map_tree index : Forest) → HasTree pages (map_place def) map_tree → HasTree pages (composite_place def) index
-      → IsBlockIndexSound def (rows_in_table ext pages def map_tree) (cell_parts def) index → ⊥) → BreaksRule ext pages 10 def.roots.composite
+      → IsBlockIndexSound def (rows_in_table shape pages def map_tree) (cell_parts def) index → ⊥) → BreaksRule shape pages 10 def.roots.composite
   dimension : (t i root : ℕ) (def : TableDef) (dim : List ℕ) → t < 16 → DefinesTable pages t def
       → slice_get def.dims i ≡ Some dim → slice_get def.roots.dims i ≡ Some root
       → ((map_tree index : Forest) → HasTree pages (map_place def) map_tree → HasTree pages (dimension_place def dim root) index
-      → IsBlockIndexSound def (rows_in_table ext pages def map_tree) (rising_parts dim) index → ⊥) → BreaksRule ext pages 10 root
+      → IsBlockIndexSound def (rows_in_table shape pages def map_tree) (rising_parts dim) index → ⊥) → BreaksRule shape pages 10 root
   record_index : (t : ℕ) (def : TableDef) (index : IndexDef) → t < 16 → DefinesTable pages t def → Contains def.indexes index
       → ((map_tree tree : Forest) → HasTree pages (map_place def) map_tree → HasTree pages (record_place def index) tree
-      → IsSoundIndex def (rows_in_table ext pages def map_tree) (pending_blocks map_tree) index tree → ⊥) → BreaksRule ext pages 11 index.root
+      → IsSoundIndex def (rows_in_table shape pages def map_tree) (pending_blocks map_tree) index tree → ⊥) → BreaksRule shape pages 11 index.root
   -- the table page, for row numbers and for UNIQUE indexes
-  numbers : (t : ℕ) (def : TableDef) → ShowsTable pages t def (λ map_tree. AreRowNumbersSound def (rows_in_table ext pages def map_tree) → ⊥)
-      → BreaksRule ext pages 12 (1 + t)
+  numbers : (t : ℕ) (def : TableDef) → ShowsTable pages t def (λ map_tree. AreRowNumbersSound def (rows_in_table shape pages def map_tree) → ⊥)
+      → BreaksRule shape pages 12 (1 + t)
   unique : (t : ℕ) (def : TableDef) (index : IndexDef) → Contains def.indexes index
-      → ShowsTable pages t def (λ map_tree. IsUniqueSound (rows_in_table ext pages def map_tree) index → ⊥) → BreaksRule ext pages 12 (1 + t)
+      → ShowsTable pages t def (λ map_tree. IsUniqueSound (rows_in_table shape pages def map_tree) index → ⊥) → BreaksRule shape pages 12 (1 + t)
 
 -- of a database that isn't sound: the first rule that is broken, and the lowest page that breaks it
-pub record IsFirstBreak (ext : Extents) (pages : PageList) (rule page : ℕ) : Type 0 where
-  pub breaks : BreaksRule ext pages rule page
-  pub first : (other p : ℕ) → BreaksRule ext pages other p → rule ≤ other
-  pub lowest : (p : ℕ) → BreaksRule ext pages rule p → page ≤ p
+pub record IsFirstBreak (shape : Shape) (pages : PageList) (rule page : ℕ) : Type 0 where
+  pub breaks : BreaksRule shape pages rule page
+  pub first : (other p : ℕ) → BreaksRule shape pages other p → rule ≤ other
+  pub lowest : (p : ℕ) → BreaksRule shape pages rule p → page ≤ p

@@ -8,8 +8,8 @@ use Rattle.mdc_ast.specs.declared.definition.TableDef.{TableDef}
 use Rattle.mdc_ast.specs.declared.row.Row.{Row}
 use Rattle.mdc_ast.specs.declared.statement.RolloutMode.{RolloutMode}
 use Rattle.mdc_ast.specs.declared.statement.RolloutMode.TheVariants.{Deferred}
+use Rattle.store_api.specs.declared.shape.Shape.{Shape}
 use Rattle.extent_map.specs.Owners.{owner_of}
-use Rattle.extent_map.specs.declared.extents.Extents.{Extents}
 use Rattle.extent_map.specs.declared.kind.Kind.{Kind}
 use Rattle.extent_map.specs.declared.kind.Kind.TheVariants as kind
 use Rattle.row_page.specs.RowPage.{slot_count}
@@ -158,19 +158,19 @@ spot_of_state state slots =
     if state == 0 then FreeBlock else (if state == 1 then UsedBlock slots else (if state == 2 then PendingBlock else OtherBlock))
 
 -- an extent of this kind
-abbrev pub spot_of_kind : Extents → PageList → TableDef → Forest → ℕ → Kind → Spot
-spot_of_kind ext pages def map_tree e kind.Free = FreeExtent
-spot_of_kind ext pages def map_tree e (kind.Index used) = IndexExtent
-spot_of_kind ext pages def map_tree e (kind.Block t) =
-    if t == def.number then spot_of_state (mapped_state e (map_lines map_tree)) (block_slots ext pages def e) else OtherBlock
+abbrev pub spot_of_kind : Shape → PageList → TableDef → Forest → ℕ → Kind → Spot
+spot_of_kind shape pages def map_tree e kind.Free = FreeExtent
+spot_of_kind shape pages def map_tree e (kind.Index used) = IndexExtent
+spot_of_kind shape pages def map_tree e (kind.Block t) =
+    if t == def.number then spot_of_state (mapped_state e (map_lines map_tree)) (block_slots shape pages def e) else OtherBlock
 
 -- what each extent is to the table, where these are the owners and its block map
-abbrev pub table_spots : Extents → PageList → TableDef → List Kind → Forest → List Spot
-table_spots ext pages def owners map_tree = listed ext.cap (λ e. spot_of_kind ext pages def map_tree e (owner_of owners e))
+abbrev pub table_spots : Shape → PageList → TableDef → List Kind → Forest → List Spot
+table_spots shape pages def owners map_tree = listed shape.extents (λ e. spot_of_kind shape pages def map_tree e (owner_of owners e))
 
 -- how many slots a block has
-abbrev pub block_slot_count : Extents → TableDef → ℕ
-block_slot_count ext def = ext.extent_pages * slot_count def.columns
+abbrev pub block_slot_count : Shape → TableDef → ℕ
+block_slot_count shape def = shape.extent_pages * slot_count def.columns
 
 -- ---- the rows of spots
 

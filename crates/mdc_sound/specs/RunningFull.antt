@@ -8,8 +8,8 @@ use Rattle.mdc_ast.specs.declared.definition.IndexDef.{IndexDef}
 use Rattle.mdc_ast.specs.declared.definition.Roots.{Roots}
 use Rattle.mdc_ast.specs.declared.definition.TableDef.{TableDef}
 use Rattle.mdc_ast.specs.declared.row.Row.{Row}
+use Rattle.store_api.specs.declared.shape.Shape.{Shape}
 use Rattle.extent_map.specs.Map.{HoldsMap}
-use Rattle.extent_map.specs.declared.extents.Extents.{Extents}
 use Rattle.extent_map.specs.declared.kind.Kind.{Kind}
 use Rattle.key_codec.specs.Keys.{key_bytes}
 use Rattle.row_page.specs.RowPage.{count_rows}
@@ -110,10 +110,10 @@ pub data UpdatingChanges (def : TableDef) (n : ℕ) : List Spot → List (Placed
       (taking_changes def row rid (count_rows slots) ++ ClaimBlock def.number 0 ∷ [])
 
 -- The put of a row runs full: what it needs where placing puts it, or, where there is no spot for it, a block.
-pub data RowRunsFull (ext : Extents) (work : PageList) (def : TableDef) (spots : List Spot) (row : Row) : Type 0 where
-  placed : (rid : Rid) (mid : List Spot) → PutsRow def (block_slot_count ext def) spots row mid rid
-      → RunsFull ext work (block_changes def row rid.block (slice_index_or spots rid.block OtherBlock)) → RowRunsFull ext work def spots row
-  stuck : HasNoSpot def spots row → RunsFull ext work (ClaimBlock def.number 0 ∷ []) → RowRunsFull ext work def spots row
+pub data RowRunsFull (shape : Shape) (work : PageList) (def : TableDef) (spots : List Spot) (row : Row) : Type 0 where
+  placed : (rid : Rid) (mid : List Spot) → PutsRow def (block_slot_count shape def) spots row mid rid
+      → RunsFull shape work (block_changes def row rid.block (slice_index_or spots rid.block OtherBlock)) → RowRunsFull shape work def spots row
+  stuck : HasNoSpot def spots row → RunsFull shape work (ClaimBlock def.number 0 ∷ []) → RowRunsFull shape work def spots row
 
 -- the changes of a CREATE TABLE: its block map, its composite index and its dimension indexes are made
 abbrev pub creating_changes : TableDef → List SpaceChange
@@ -128,40 +128,40 @@ indexing_changes def index rows =
 -- ---- statements that run full
 
 -- the pages show a table with this definition, and its spots
-pub record ShowsTableSpots (ext : Extents) (pages : PageList) (def : TableDef) (spots : List Spot) : Type 0 where
+pub record ShowsTableSpots (shape : Shape) (pages : PageList) (def : TableDef) (spots : List Spot) : Type 0 where
   pub owners : List Kind
   pub map_tree : Forest
-  pub has_extents : HoldsMap told_pages ext pages owners
+  pub has_extents : HoldsMap told_pages shape pages owners
   pub has_map : HasTree pages (map_place def) map_tree
-  pub spots_are : spots ≡ table_spots ext pages def owners map_tree
+  pub spots_are : spots ≡ table_spots shape pages def owners map_tree
 
 -- an INSERT of these rows into a table runs full
-pub record InsertRunsFull (ext : Extents) (work : PageList) (def : TableDef) (rows : List Row) : Type 0 where
+pub record InsertRunsFull (shape : Shape) (work : PageList) (def : TableDef) (rows : List Row) : Type 0 where
   pub spots : List Spot
   pub changes : List SpaceChange
-  pub shows : ShowsTableSpots ext work def spots
-  pub inserting : InsertingChanges def (block_slot_count ext def) spots rows changes
-  pub full : RunsFull ext work changes
+  pub shows : ShowsTableSpots shape work def spots
+  pub inserting : InsertingChanges def (block_slot_count shape def) spots rows changes
+  pub full : RunsFull shape work changes
 
 -- an UPDATE of these rows of a table, by rising row number, each to another, runs full
-pub record UpdateRunsFull (ext : Extents) (work : PageList) (def : TableDef) (rows : List (PlacedRow × Row)) : Type 0 where
+pub record UpdateRunsFull (shape : Shape) (work : PageList) (def : TableDef) (rows : List (PlacedRow × Row)) : Type 0 where
   pub spots : List Spot
   pub changes : List SpaceChange
-  pub shows : ShowsTableSpots ext work def spots
+  pub shows : ShowsTableSpots shape work def spots
   pub rising : AllPairs (λ a b. a.0.row.number < b.0.row.number) rows
-  pub updating : UpdatingChanges def (block_slot_count ext def) spots rows changes
-  pub full : RunsFull ext work changes
+  pub updating : UpdatingChanges def (block_slot_count shape def) spots rows changes
+  pub full : RunsFull shape work changes
 
 -- a CREATE TABLE runs full, whatever roots its trees would have had
-abbrev pub CreateRunsFull : Extents → PageList → TableDef → Type 0
-CreateRunsFull ext work def = (roots : Roots) × RunsFull ext work (creating_changes (record def { roots = roots }))
+abbrev pub CreateRunsFull : Shape → PageList → TableDef → Type 0
+CreateRunsFull shape work def = (roots : Roots) × RunsFull shape work (creating_changes (record def { roots = roots }))
 
 -- a CREATE INDEX on a table runs full: the rows of its Used blocks are entered by rising row number
-pub record IndexRunsFull (ext : Extents) (work : PageList) (def : TableDef) (index : IndexDef) : Type 0 where
+pub record IndexRunsFull (shape : Shape) (work : PageList) (def : TableDef) (index : IndexDef) : Type 0 where
   pub root : ℕ
   pub spots : List Spot
   pub rows : List PlacedRow
-  pub shows : ShowsTableSpots ext work def spots
+  pub shows : ShowsTableSpots shape work def spots
   pub same_rows : IsPermutation rows (rows_from_spot 0 spots)
   pub rising : AllPairs (λ a b. a.row.number < b.row.number) rows
-  pub full : RunsFull ext work (indexing_changes def (record index { root = root }) rows)
+  pub full : RunsFull shape work (indexing_changes def (record index { root = root }) rows)

@@ -6,9 +6,9 @@ use Rattle.mdc_ast.specs.declared.definition.IndexDef.{IndexDef}
 use Rattle.mdc_ast.specs.declared.definition.TableDef.{TableDef}
 use Rattle.store_api.specs.Extents.{map_pages}
 use Rattle.store_api.specs.StoreState.{page_at, zero_page}
+use Rattle.store_api.specs.declared.shape.Shape.{Shape}
 use Rattle.extent_map.specs.Map.{HoldsMapPage, IsWholeCount}
 use Rattle.extent_map.specs.Owners.{IsExtentPage, IsUsedPage, extent_of, owner_of}
-use Rattle.extent_map.specs.declared.extents.Extents.{Extents}
 use Rattle.extent_map.specs.declared.kind.Kind.{Kind}
 use Rattle.extent_map.specs.declared.kind.Kind.TheVariants.{Free, Block, Index}
 use Rattle.node_page.specs.Node.{filled_page}
@@ -41,8 +41,8 @@ abbrev pub stated_root : ℕ → List ℕ
 stated_root count = filled_page ((82 ∷ 79 ∷ 79 ∷ 84 ∷ []) ++ big_bytes 4 1 ++ big_bytes 4 count)
 
 -- The root page states how many pages there are, which some number of whole extents make.
-pub record IsRootSound (ext : Extents) (pages : PageList) : Type 0 where
-  pub count : IsWholeCount told_pages ext pages
+pub record IsRootSound (shape : Shape) (pages : PageList) : Type 0 where
+  pub count : IsWholeCount told_pages shape pages
   pub root : page_at pages 0 ≡ stated_root (length pages)
 
 -- ---- 2: the extent map
@@ -55,14 +55,14 @@ IsOwnerThere pages (Index used) = Unit {0}
 
 -- Page i of the extent map has an entry of its form for each extent; a block is one of a table that is there, and an extent
 -- in use lies within the count.
-pub record IsMapPageSound (ext : Extents) (pages : PageList) (owners : List Kind) (i : ℕ) : Type 0 where
-  pub held : HoldsMapPage told_pages ext pages owners i
+pub record IsMapPageSound (shape : Shape) (pages : PageList) (owners : List Kind) (i : ℕ) : Type 0 where
+  pub held : HoldsMapPage told_pages shape pages owners i
   pub owned : (e : ℕ) → e / 512 ≡ i → IsOwnerThere pages (owner_of owners e)
 
 -- each extent is of the kind that the extent map says
-pub record IsMapSound (ext : Extents) (pages : PageList) (owners : List Kind) : Type 0 where
-  pub count : length owners ≡ ext.cap
-  pub each : (i : ℕ) → i < map_pages ext.cap → IsMapPageSound ext pages owners i
+pub record IsMapSound (shape : Shape) (pages : PageList) (owners : List Kind) : Type 0 where
+  pub count : length owners ≡ shape.extents
+  pub each : (i : ℕ) → i < map_pages shape.extents → IsMapPageSound shape pages owners i
 
 -- ---- 3: the table pages
 
@@ -73,18 +73,18 @@ IsIndexKind (Block t) = ⊥
 IsIndexKind (Index used) = Unit {0}
 
 -- a page of an index extent
-pub record IsIndexPage (ext : Extents) (owners : List Kind) (p : ℕ) : Type 0 where
-  pub page : IsExtentPage ext p
-  pub index : IsIndexKind (owner_of owners (extent_of ext p))
+pub record IsIndexPage (shape : Shape) (owners : List Kind) (p : ℕ) : Type 0 where
+  pub page : IsExtentPage shape p
+  pub index : IsIndexKind (owner_of owners (extent_of shape p))
 
 -- each root of a definition is a page of an index extent
-abbrev pub AreRootsInIndexes : Extents → List Kind → TableDef → Type 0
-AreRootsInIndexes ext owners def = AllByRecursion (λ place. IsIndexPage ext owners place.root) (tree_places def)
+abbrev pub AreRootsInIndexes : Shape → List Kind → TableDef → Type 0
+AreRootsInIndexes shape owners def = AllByRecursion (λ place. IsIndexPage shape owners place.root) (tree_places def)
 
 -- table page t has zeros alone, or is that of a definition whose roots are pages of index extents
-abbrev pub IsTablePlaceSound : Extents → PageList → List Kind → ℕ → Option TableView → Type 0
-IsTablePlaceSound ext pages owners t None = table_page_at pages t ≡ zero_page
-IsTablePlaceSound ext pages owners t (Some table) = DefinesTable pages t table.def × AreRootsInIndexes ext owners table.def
+abbrev pub IsTablePlaceSound : Shape → PageList → List Kind → ℕ → Option TableView → Type 0
+IsTablePlaceSound shape pages owners t None = table_page_at pages t ≡ zero_page
+IsTablePlaceSound shape pages owners t (Some table) = DefinesTable pages t table.def × AreRootsInIndexes shape owners table.def
 
 -- the definitions of the tables
 abbrev pub definitions_in : DatabaseView → List TableDef
@@ -95,8 +95,8 @@ abbrev pub indexes_in : DatabaseView → List IndexDef
 indexes_in view = flat_map (λ def. def.indexes) (definitions_in view)
 
 -- each table page is sound, and no two tables and no two indexes have one name
-pub record AreTablePagesSound (ext : Extents) (pages : PageList) (view : DatabaseView) : Type 0 where
-  pub each : AllZip (IsTablePlaceSound ext pages view.owners) (range_with_len 0 16) view.places
+pub record AreTablePagesSound (shape : Shape) (pages : PageList) (view : DatabaseView) : Type 0 where
+  pub each : AllZip (IsTablePlaceSound shape pages view.owners) (range_with_len 0 16) view.places
   pub tables_differ : AllPairs (λ a b. a.name ≢ b.name) (definitions_in view)
   pub indexes_differ : AllPairs (λ a b. a.name ≢ b.name) (indexes_in view)
 
@@ -113,29 +113,29 @@ abbrev pub times_in_trees : ℕ → DatabaseView → ℕ
 times_in_trees p view = sum_by (λ table. sum_by (times p) (trees_of_table table)) (tables_there view.places)
 
 -- a used index page is in one tree, once, and any other page in none
-pub record IsTreePageSound (ext : Extents) (view : DatabaseView) (p : ℕ) : Type 0 where
-  pub used : IsUsedPage ext view.owners p → times_in_trees p view ≡ 1
-  pub others : (IsUsedPage ext view.owners p → ⊥) → times_in_trees p view ≡ 0
+pub record IsTreePageSound (shape : Shape) (view : DatabaseView) (p : ℕ) : Type 0 where
+  pub used : IsUsedPage shape view.owners p → times_in_trees p view ≡ 1
+  pub others : (IsUsedPage shape view.owners p → ⊥) → times_in_trees p view ≡ 0
 
 -- each page is so
-abbrev pub AreTreePagesSound : Extents → DatabaseView → Type 0
-AreTreePagesSound ext view = (p : ℕ) → IsTreePageSound ext view p
+abbrev pub AreTreePagesSound : Shape → DatabaseView → Type 0
+AreTreePagesSound shape view = (p : ℕ) → IsTreePageSound shape view p
 
 -- ---- 6: the block maps
 
 -- an entry of a block map has a state, and names an extent that is a block of the table
-pub record IsMapLineSound (ext : Extents) (owners : List Kind) (def : TableDef) (line : MapLine) : Type 0 where
+pub record IsMapLineSound (shape : Shape) (owners : List Kind) (def : TableDef) (line : MapLine) : Type 0 where
   pub state : line.state ≤ 2
-  pub within : line.block < ext.cap
+  pub within : line.block < shape.extents
   pub owned : owner_of owners line.block ≡ Block def.number
 
 -- The block map names each block of the table, once, and nothing else. Its entries are bytes, as those of any page are.
-pub record IsBlockMapSound (ext : Extents) (owners : List Kind) (def : TableDef) (map_tree : Forest) : Type 0 where
+pub record IsBlockMapSound (shape : Shape) (owners : List Kind) (def : TableDef) (map_tree : Forest) : Type 0 where
   pub entries : AreMapEntries map_tree
-  pub lines : AllByRecursion (IsMapLineSound ext owners def) (map_lines map_tree)
+  pub lines : AllByRecursion (IsMapLineSound shape owners def) (map_lines map_tree)
   pub once_each : AllPairs (λ a b. a ≢ b) (mapped_blocks map_tree)
-  pub all_named : (e : ℕ) → e < ext.cap → owner_of owners e ≡ Block def.number → Contains (mapped_blocks map_tree) e
+  pub all_named : (e : ℕ) → e < shape.extents → owner_of owners e ≡ Block def.number → Contains (mapped_blocks map_tree) e
 
 -- each block map is so
-abbrev pub AreBlockMapsSound : Extents → DatabaseView → Type 0
-AreBlockMapsSound ext view = EachTable view (λ table. IsBlockMapSound ext view.owners table.def table.map)
+abbrev pub AreBlockMapsSound : Shape → DatabaseView → Type 0
+AreBlockMapsSound shape view = EachTable view (λ table. IsBlockMapSound shape view.owners table.def table.map)

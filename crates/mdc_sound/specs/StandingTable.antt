@@ -11,11 +11,12 @@ use Rattle.store_api.specs.Extents.{first_page_of}
 use Rattle.store_api.specs.StoreState.{page_at}
 use Rattle.store_api.specs.declared.fault.Damage.{Damage}
 use Rattle.store_api.specs.declared.pages.Pages.{Ghosts}
+use Rattle.store_api.specs.declared.shape.Shape.{Shape}
 use Rattle.extent_map.specs.Map.{HoldsMap, IsMapPage, IsSpacePage}
-use Rattle.extent_map.specs.Owners.{AreRightNotes, HasNoFree, IsExtentPage, IsSameShape, IsUsedPage, extent_of, owner_of}
-use Rattle.extent_map.specs.declared.extents.Extents.{Extents}
+use Rattle.extent_map.specs.Owners.{AreRightNotes, HasNoFree, IsExtentPage, IsUsedPage, extent_of, owner_of}
 use Rattle.extent_map.specs.declared.kind.Kind.{Kind}
 use Rattle.extent_map.specs.declared.kind.Kind.TheVariants.{Block}
+use Rattle.extent_map.specs.declared.space_notes.SpaceNotes.{SpaceNotes}
 use Rattle.key_codec.specs.Keys.{key_bytes}
 use Rattle.entry_tree.specs.Forest.{Forest, times}
 use Rattle.entry_tree.specs.Standing.{IsIdlePage}
@@ -52,94 +53,92 @@ pages_of g s = (g.state s).work
 
 -- The store tells the table: its trees stand among the extents, its block map names exactly its blocks, its Used blocks hold
 -- rows that fit and are of one cell each, all is counted right, and its block indexes have exactly the Used blocks.
-pub record StandsTable {S : Type 0} (g : Ghosts S) (ext : Extents) (s : S) (def : TableDef) (owners : List Kind) (forests : TableForests) : Type 0 where
+pub record StandsTable {S : Type 0} (g : Ghosts S) (shape : Shape) (s : S) (def : TableDef) (owners : List Kind) (forests : TableForests) : Type 0 where
   pub told : IsTrue (g.state s).is_told
-  pub trees : StandTrees g ext s owners (tree_places def) (forests_in_order forests)
-  pub map : IsBlockMapSound ext owners def forests.map
-  pub rows : AllByRecursion (AreBlockRowsSound ext (pages_of g s) def) (used_blocks forests.map)
-  pub used_counts : AllByRecursion (IsUsedCountSound ext (pages_of g s) def) (map_lines forests.map)
+  pub trees : StandTrees g shape s owners (tree_places def) (forests_in_order forests)
+  pub map : IsBlockMapSound shape owners def forests.map
+  pub rows : AllByRecursion (AreBlockRowsSound shape (pages_of g s) def) (used_blocks forests.map)
+  pub used_counts : AllByRecursion (IsUsedCountSound shape (pages_of g s) def) (map_lines forests.map)
   pub idle_counts : AllByRecursion IsIdleCountSound (map_lines forests.map)
-  pub cells : AllByRecursion (IsOfOneCell ext (pages_of g s) def) (used_blocks forests.map)
-  pub indexes : AreTableBlockIndexesSound ext (pages_of g s) (view_of def forests)
+  pub cells : AllByRecursion (IsOfOneCell shape (pages_of g s) def) (used_blocks forests.map)
+  pub indexes : AreTableBlockIndexesSound shape (pages_of g s) (view_of def forests)
 
 -- what each extent is to the table, in these pages
-abbrev pub spots_of : {S : Type 0} → Ghosts S → Extents → S → TableDef → List Kind → TableForests → List Spot
-spots_of g ext s def owners forests = table_spots ext (pages_of g s) def owners forests.map
+abbrev pub spots_of : {S : Type 0} → Ghosts S → Shape → S → TableDef → List Kind → TableForests → List Spot
+spots_of g shape s def owners forests = table_spots shape (pages_of g s) def owners forests.map
 
 -- ---- what calls on it make of it
 
--- Calls on a table made it another one that stands, in extents of the same shape. The blocks of other tables and the used index
--- pages outside its trees are as they were, and its trees, those of its record indexes too, took only pages that were theirs or
--- idle.
-pub record ChangesTable {S : Type 0} (g : Ghosts S) (before ext : Extents) (old new : S) (def : TableDef)
+-- Calls on a table made it another one that stands. The blocks of other tables and the used index pages outside its trees are
+-- as they were, and its trees, those of its record indexes too, took only pages that were theirs or idle.
+pub record ChangesTable {S : Type 0} (g : Ghosts S) (shape : Shape) (before noted : SpaceNotes) (old new : S) (def : TableDef)
     (owners : List Kind) (forests : TableForests) (owners_now : List Kind) (forests_now : TableForests) : Type 0 where
-  pub stands : StandsTable g ext new def owners_now forests_now
-  pub shape : IsSameShape before ext
+  pub stands : StandsTable g shape new def owners_now forests_now
   pub others_blocks : (e t : ℕ) → t ≢ def.number → owner_of owners e ≡ Block t → owner_of owners_now e ≡ Block t
   pub no_others_blocks : (e t : ℕ) → t ≢ def.number → owner_of owners_now e ≡ Block t → owner_of owners e ≡ Block t
-  pub others_pages : (p : ℕ) → IsUsedPage before owners p → sum_by (times p) (forests_in_order forests) ≡ 0 → IsUsedPage before owners_now p
-  pub used_pages : (p : ℕ) → IsUsedPage before owners_now p
-      → 0 < sum_by (times p) (forests_in_order forests_now) ⊎ (IsUsedPage before owners p × (sum_by (times p) (forests_in_order forests) ≡ 0))
-  pub pages : (p : ℕ) → 0 < sum_by (times p) (forests_in_order forests_now) → 0 < sum_by (times p) (forests_in_order forests) ⊎ IsIdlePage before owners p
-  pub grows : GrowsPages g before old new
-  pub notes : AreRightNotes before owners → AreRightNotes ext owners_now
+  pub others_pages : (p : ℕ) → IsUsedPage shape owners p → sum_by (times p) (forests_in_order forests) ≡ 0 → IsUsedPage shape owners_now p
+  pub used_pages : (p : ℕ) → IsUsedPage shape owners_now p
+      → 0 < sum_by (times p) (forests_in_order forests_now) ⊎ (IsUsedPage shape owners p × (sum_by (times p) (forests_in_order forests) ≡ 0))
+  pub pages : (p : ℕ) → 0 < sum_by (times p) (forests_in_order forests_now) → 0 < sum_by (times p) (forests_in_order forests) ⊎ IsIdlePage shape owners p
+  pub grows : GrowsPages g shape old new
+  pub notes : AreRightNotes shape before owners → AreRightNotes shape noted owners_now
 
 -- ---- which pages they touch
 
 -- a page of a block of this table
-pub record IsBlockPageOf (ext : Extents) (owners : List Kind) (t p : ℕ) : Type 0 where
-  pub page : IsExtentPage ext p
-  pub block : owner_of owners (extent_of ext p) ≡ Block t
+pub record IsBlockPageOf (shape : Shape) (owners : List Kind) (t p : ℕ) : Type 0 where
+  pub page : IsExtentPage shape p
+  pub block : owner_of owners (extent_of shape p) ≡ Block t
 
 -- a page of one block
-abbrev pub IsPageOfBlock : Extents → ℕ → ℕ → Type 0
-IsPageOfBlock ext block p = IsExtentPage ext p × (extent_of ext p ≡ block)
+abbrev pub IsPageOfBlock : Shape → ℕ → ℕ → Type 0
+IsPageOfBlock shape block p = IsExtentPage shape p × (extent_of shape p ≡ block)
 
 -- a page of one block, which is the table's
-pub record IsPageOfOwnBlock (ext : Extents) (owners : List Kind) (t block p : ℕ) : Type 0 where
-  pub page : IsPageOfBlock ext block p
+pub record IsPageOfOwnBlock (shape : Shape) (owners : List Kind) (t block p : ℕ) : Type 0 where
+  pub page : IsPageOfBlock shape block p
   pub own : owner_of owners block ≡ Block t
 
 -- The pages that a call on a table's rows may change and bring to hand, where the table was told to stand: those of its trees
 -- and its blocks, those of the extent map with page 0, and idle ones.
-abbrev pub IsTableSpace : {S : Type 0} → Ghosts S → Extents → S → TableDef → ℕ → Type 0
-IsTableSpace g ext s def p =
-    (owners : List Kind) (forests : TableForests) → StandsTable g ext s def owners forests
-    → 0 < sum_by (times p) (forests_in_order forests) ⊎ (IsBlockPageOf ext owners def.number p ⊎ (IsSpacePage ext p ⊎ IsIdlePage ext owners p))
+abbrev pub IsTableSpace : {S : Type 0} → Ghosts S → Shape → S → TableDef → ℕ → Type 0
+IsTableSpace g shape s def p =
+    (owners : List Kind) (forests : TableForests) → StandsTable g shape s def owners forests
+    → 0 < sum_by (times p) (forests_in_order forests) ⊎ (IsBlockPageOf shape owners def.number p ⊎ (IsSpacePage shape p ⊎ IsIdlePage shape owners p))
 
 -- the same of a call that claims nothing
-abbrev pub IsTableOrMapPage : {S : Type 0} → Ghosts S → Extents → S → TableDef → ℕ → Type 0
-IsTableOrMapPage g ext s def p =
-    (owners : List Kind) (forests : TableForests) → StandsTable g ext s def owners forests
-    → 0 < sum_by (times p) (forests_in_order forests) ⊎ (IsBlockPageOf ext owners def.number p ⊎ IsMapPage ext p)
+abbrev pub IsTableOrMapPage : {S : Type 0} → Ghosts S → Shape → S → TableDef → ℕ → Type 0
+IsTableOrMapPage g shape s def p =
+    (owners : List Kind) (forests : TableForests) → StandsTable g shape s def owners forests
+    → 0 < sum_by (times p) (forests_in_order forests) ⊎ (IsBlockPageOf shape owners def.number p ⊎ IsMapPage shape p)
 
 -- the pages of the table's blocks, but of those that may change, are as they were
-pub record KeepsBlocksBut {S : Type 0} (g : Ghosts S) (ext : Extents) (old new : S) (def : TableDef) (owners : List Kind) (May : ℕ → Type 0) : Type 0 where
-  pub stay : (p : ℕ) → IsBlockPageOf ext owners def.number p → (May (extent_of ext p) → ⊥) → page_at (pages_of g new) p ≡ page_at (pages_of g old) p
+pub record KeepsBlocksBut {S : Type 0} (g : Ghosts S) (shape : Shape) (old new : S) (def : TableDef) (owners : List Kind) (May : ℕ → Type 0) : Type 0 where
+  pub stay : (p : ℕ) → IsBlockPageOf shape owners def.number p → (May (extent_of shape p) → ⊥) → page_at (pages_of g new) p ≡ page_at (pages_of g old) p
 
 -- The pages that a call on one block of a table may change, where the table was told to stand: those of its trees and of the
 -- block, those of the extent map with page 0, and idle ones.
-abbrev pub IsSpaceOfBlock : {S : Type 0} → Ghosts S → Extents → S → TableDef → ℕ → ℕ → Type 0
-IsSpaceOfBlock g ext s def block p =
-    (owners : List Kind) (forests : TableForests) → StandsTable g ext s def owners forests
-    → 0 < sum_by (times p) (forests_in_order forests) ⊎ (IsPageOfOwnBlock ext owners def.number block p ⊎ (IsSpacePage ext p ⊎ IsIdlePage ext owners p))
+abbrev pub IsSpaceOfBlock : {S : Type 0} → Ghosts S → Shape → S → TableDef → ℕ → ℕ → Type 0
+IsSpaceOfBlock g shape s def block p =
+    (owners : List Kind) (forests : TableForests) → StandsTable g shape s def owners forests
+    → 0 < sum_by (times p) (forests_in_order forests) ⊎ (IsPageOfOwnBlock shape owners def.number block p ⊎ (IsSpacePage shape p ⊎ IsIdlePage shape owners p))
 
 -- the same of a call that claims nothing
-abbrev pub IsBlockOrMapPage : {S : Type 0} → Ghosts S → Extents → S → TableDef → ℕ → ℕ → Type 0
-IsBlockOrMapPage g ext s def block p =
-    (owners : List Kind) (forests : TableForests) → StandsTable g ext s def owners forests
-    → 0 < sum_by (times p) (forests_in_order forests) ⊎ (IsPageOfOwnBlock ext owners def.number block p ⊎ IsMapPage ext p)
+abbrev pub IsBlockOrMapPage : {S : Type 0} → Ghosts S → Shape → S → TableDef → ℕ → ℕ → Type 0
+IsBlockOrMapPage g shape s def block p =
+    (owners : List Kind) (forests : TableForests) → StandsTable g shape s def owners forests
+    → 0 < sum_by (times p) (forests_in_order forests) ⊎ (IsPageOfOwnBlock shape owners def.number block p ⊎ IsMapPage shape p)
 
 -- and of one that claims a block, which changes none that there is
-abbrev pub IsTreeSpaceOfTable : {S : Type 0} → Ghosts S → Extents → S → TableDef → ℕ → Type 0
-IsTreeSpaceOfTable g ext s def p =
-    (owners : List Kind) (forests : TableForests) → StandsTable g ext s def owners forests
-    → 0 < sum_by (times p) (forests_in_order forests) ⊎ (IsSpacePage ext p ⊎ IsIdlePage ext owners p)
+abbrev pub IsTreeSpaceOfTable : {S : Type 0} → Ghosts S → Shape → S → TableDef → ℕ → Type 0
+IsTreeSpaceOfTable g shape s def p =
+    (owners : List Kind) (forests : TableForests) → StandsTable g shape s def owners forests
+    → 0 < sum_by (times p) (forests_in_order forests) ⊎ (IsSpacePage shape p ⊎ IsIdlePage shape owners p)
 
 -- the pages of a table's own trees, where it was told to stand
-abbrev pub IsTableTreePage : {S : Type 0} → Ghosts S → Extents → S → TableDef → ℕ → Type 0
-IsTableTreePage g ext s def p =
-    (owners : List Kind) (forests : TableForests) → StandsTable g ext s def owners forests → 0 < sum_by (times p) (forests_in_order forests)
+abbrev pub IsTableTreePage : {S : Type 0} → Ghosts S → Shape → S → TableDef → ℕ → Type 0
+IsTableTreePage g shape s def p =
+    (owners : List Kind) (forests : TableForests) → StandsTable g shape s def owners forests → 0 < sum_by (times p) (forests_in_order forests)
 
 -- ---- damage and full files
 
@@ -150,32 +149,32 @@ roots_in places = map (λ place. place.root) places
 -- What damage met by a call on a table names: the count of pages, a page of the extent map, a root by the rules on trees, block
 -- maps, block indexes and record indexes, a page of a tree that isn't a used one, a row page, or the first page of a block whose
 -- count isn't right or whose rows aren't of its cell.
-pub data NamesTablePart (ext : Extents) (def : TableDef) (damage : Damage) : Type 0 where
-  count : damage.rule ≡ 1 → damage.page ≡ 0 → NamesTablePart ext def damage
-  map_page : damage.rule ≡ 2 → IsMapPage ext damage.page → NamesTablePart ext def damage
-  tree : damage.rule ≡ 4 → Contains (roots_in (tree_places def)) damage.page → NamesTablePart ext def damage
-  tree_page : damage.rule ≡ 5 → NamesTablePart ext def damage
-  block_map : damage.rule ≡ 6 → damage.page ≡ def.roots.map → NamesTablePart ext def damage
-  row_page : (block : ℕ) → damage.rule ≡ 7 → IsPageOfBlock ext block damage.page → NamesTablePart ext def damage
-  row_count : (block : ℕ) → damage.rule ≡ 8 → damage.page ≡ first_page_of ext.cap ext.extent_pages block → NamesTablePart ext def damage
-  row_cell : (block : ℕ) → damage.rule ≡ 9 → damage.page ≡ first_page_of ext.cap ext.extent_pages block → NamesTablePart ext def damage
-  block_index : damage.rule ≡ 10 → Contains (roots_in (block_index_places def)) damage.page → NamesTablePart ext def damage
-  record_index : damage.rule ≡ 11 → Contains (roots_in (record_places def)) damage.page → NamesTablePart ext def damage
+pub data NamesTablePart (shape : Shape) (def : TableDef) (damage : Damage) : Type 0 where
+  count : damage.rule ≡ 1 → damage.page ≡ 0 → NamesTablePart shape def damage
+  map_page : damage.rule ≡ 2 → IsMapPage shape damage.page → NamesTablePart shape def damage
+  tree : damage.rule ≡ 4 → Contains (roots_in (tree_places def)) damage.page → NamesTablePart shape def damage
+  tree_page : damage.rule ≡ 5 → NamesTablePart shape def damage
+  block_map : damage.rule ≡ 6 → damage.page ≡ def.roots.map → NamesTablePart shape def damage
+  row_page : (block : ℕ) → damage.rule ≡ 7 → IsPageOfBlock shape block damage.page → NamesTablePart shape def damage
+  row_count : (block : ℕ) → damage.rule ≡ 8 → damage.page ≡ first_page_of shape.extents shape.extent_pages block → NamesTablePart shape def damage
+  row_cell : (block : ℕ) → damage.rule ≡ 9 → damage.page ≡ first_page_of shape.extents shape.extent_pages block → NamesTablePart shape def damage
+  block_index : damage.rule ≡ 10 → Contains (roots_in (block_index_places def)) damage.page → NamesTablePart shape def damage
+  record_index : damage.rule ≡ 11 → Contains (roots_in (record_places def)) damage.page → NamesTablePart shape def damage
 
 -- the damage is such a part's, and the table wasn't told to stand
-pub record BreaksTable {S : Type 0} (g : Ghosts S) (ext : Extents) (s : S) (def : TableDef) (damage : Damage) : Type 0 where
-  pub names : NamesTablePart ext def damage
-  pub broken : (owners : List Kind) (forests : TableForests) → StandsTable g ext s def owners forests → ⊥
+pub record BreaksTable {S : Type 0} (g : Ghosts S) (shape : Shape) (s : S) (def : TableDef) (damage : Damage) : Type 0 where
+  pub names : NamesTablePart shape def damage
+  pub broken : (owners : List Kind) (forests : TableForests) → StandsTable g shape s def owners forests → ⊥
 
 -- the same of a call that expects more of a table than that it stands
-pub record BreaksExpected {S : Type 0} (g : Ghosts S) (ext : Extents) (s : S) (def : TableDef) (Expected : List Kind → TableForests → Type 0) (damage : Damage) : Type 0 where
-  pub names : NamesTablePart ext def damage
-  pub broken : (owners : List Kind) (forests : TableForests) → StandsTable g ext s def owners forests → Expected owners forests → ⊥
+pub record BreaksExpected {S : Type 0} (g : Ghosts S) (shape : Shape) (s : S) (def : TableDef) (Expected : List Kind → TableForests → Type 0) (damage : Damage) : Type 0 where
+  pub names : NamesTablePart shape def damage
+  pub broken : (owners : List Kind) (forests : TableForests) → StandsTable g shape s def owners forests → Expected owners forests → ⊥
 
 -- the extent map is told now with no free extent
-pub record MeetsNoFree {S : Type 0} (g : Ghosts S) (ext : Extents) (s : S) : Type 0 where
+pub record MeetsNoFree {S : Type 0} (g : Ghosts S) (shape : Shape) (s : S) : Type 0 where
   pub owners : List Kind
-  pub map : HoldsMap g ext s owners
+  pub map : HoldsMap g shape s owners
   pub none_free : HasNoFree owners
 
 -- ---- rows put and taken out
@@ -199,48 +198,48 @@ pub record AreRightRooms (def : TableDef) (room_of : Entry → RoomNote) (spots 
   pub of_cell : (key : Entry) → IsTrue (room_of key).is_of_cell → HoldsKey def key (slice_index_or spots (room_of key).from OtherBlock)
 
 -- the table is told to stand, and the notes in memory are right
-pub record IsReadyTable {S : Type 0} (g : Ghosts S) (ext : Extents) (room_of : Entry → RoomNote) (s : S) (def : TableDef) (owners : List Kind) (forests : TableForests) : Type 0 where
-  pub stands : StandsTable g ext s def owners forests
-  pub notes : AreRightNotes ext owners
-  pub rooms : AreRightRooms def room_of (spots_of g ext s def owners forests)
+pub record IsReadyTable {S : Type 0} (g : Ghosts S) (shape : Shape) (noted : SpaceNotes) (room_of : Entry → RoomNote) (s : S) (def : TableDef) (owners : List Kind) (forests : TableForests) : Type 0 where
+  pub stands : StandsTable g shape s def owners forests
+  pub notes : AreRightNotes shape noted owners
+  pub rooms : AreRightRooms def room_of (spots_of g shape s def owners forests)
 
 -- A row was put where placing says, after which trees may have taken free extents. The table stands, its record indexes have the
 -- trees that they had, and the notes are right.
-pub record PlacesRow {S : Type 0} (g : Ghosts S) (before ext : Extents) (room_of : Entry → RoomNote) (old new : S) (def : TableDef)
+pub record PlacesRow {S : Type 0} (g : Ghosts S) (shape : Shape) (before noted : SpaceNotes) (room_of : Entry → RoomNote) (old new : S) (def : TableDef)
     (owners : List Kind) (forests : TableForests) (row : Row) (rid : Rid) : Type 0 where
   pub owners_now : List Kind
   pub forests_now : TableForests
-  pub changes : ChangesTable g before ext old new def owners forests owners_now forests_now
+  pub changes : ChangesTable g shape before noted old new def owners forests owners_now forests_now
   pub records : forests_now.indexes ≡ forests.indexes
-  pub rooms : AreRightRooms def room_of (spots_of g ext new def owners_now forests_now)
+  pub rooms : AreRightRooms def room_of (spots_of g shape new def owners_now forests_now)
   pub mid : List Spot
-  pub puts : PutsRow def (block_slot_count before def) (spots_of g before old def owners forests) row mid rid
-  pub claims : SpotsAfterClaims mid (spots_of g ext new def owners_now forests_now)
+  pub puts : PutsRow def (block_slot_count shape def) (spots_of g shape old def owners forests) row mid rid
+  pub claims : SpotsAfterClaims mid (spots_of g shape new def owners_now forests_now)
 
 -- The row in a place was taken out, after which trees may have given extents back. The table stands, its record indexes have the
 -- trees that they had, and the notes are right.
-pub record TakesRowOut {S : Type 0} (g : Ghosts S) (before ext : Extents) (room_of : Entry → RoomNote) (old new : S) (def : TableDef)
+pub record TakesRowOut {S : Type 0} (g : Ghosts S) (shape : Shape) (before noted : SpaceNotes) (room_of : Entry → RoomNote) (old new : S) (def : TableDef)
     (owners : List Kind) (forests : TableForests) (row : Row) (rid : Rid) : Type 0 where
   pub owners_now : List Kind
   pub forests_now : TableForests
-  pub changes : ChangesTable g before ext old new def owners forests owners_now forests_now
+  pub changes : ChangesTable g shape before noted old new def owners forests owners_now forests_now
   pub records : forests_now.indexes ≡ forests.indexes
-  pub rooms : AreRightRooms def room_of (spots_of g ext new def owners_now forests_now)
+  pub rooms : AreRightRooms def room_of (spots_of g shape new def owners_now forests_now)
   pub mid : List Spot
-  pub takes : TakesRow (spots_of g before old def owners forests) rid row mid
-  pub returns : SpotsAfterReturns mid (spots_of g ext new def owners_now forests_now)
+  pub takes : TakesRow (spots_of g shape old def owners forests) rid row mid
+  pub returns : SpotsAfterReturns mid (spots_of g shape new def owners_now forests_now)
 
 -- The row in a place became another of the same cell, in its place. All trees are those that there were, and so are the owners.
-pub record OverwritesRow {S : Type 0} (g : Ghosts S) (before ext : Extents) (room_of : Entry → RoomNote) (old new : S) (def : TableDef)
+pub record OverwritesRow {S : Type 0} (g : Ghosts S) (shape : Shape) (before noted : SpaceNotes) (room_of : Entry → RoomNote) (old new : S) (def : TableDef)
     (owners : List Kind) (forests : TableForests) (row other : Row) (rid : Rid) : Type 0 where
-  pub changes : ChangesTable g before ext old new def owners forests owners forests
-  pub rooms : AreRightRooms def room_of (spots_of g ext new def owners forests)
+  pub changes : ChangesTable g shape before noted old new def owners forests owners forests
+  pub rooms : AreRightRooms def room_of (spots_of g shape new def owners forests)
   pub slots : List (Option Row)
-  pub lay : IsRowAt (spots_of g before old def owners forests) rid row slots
-  pub spots : spots_of g ext new def owners forests ≡ slice_set (spots_of g before old def owners forests) rid.block (UsedBlock (slice_set slots rid.slot (Some other)))
+  pub lay : IsRowAt (spots_of g shape old def owners forests) rid row slots
+  pub spots : spots_of g shape new def owners forests ≡ slice_set (spots_of g shape old def owners forests) rid.block (UsedBlock (slice_set slots rid.slot (Some other)))
 
 -- a row lies in a place of a table that stands
-pub record HasRowAt {S : Type 0} (g : Ghosts S) (ext : Extents) (s : S) (def : TableDef) (rid : Rid) (owners : List Kind) (forests : TableForests) : Type 0 where
+pub record HasRowAt {S : Type 0} (g : Ghosts S) (shape : Shape) (s : S) (def : TableDef) (rid : Rid) (owners : List Kind) (forests : TableForests) : Type 0 where
   pub row : Row
   pub slots : List (Option Row)
-  pub lies : IsRowAt (spots_of g ext s def owners forests) rid row slots
+  pub lies : IsRowAt (spots_of g shape s def owners forests) rid row slots

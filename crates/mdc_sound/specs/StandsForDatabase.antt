@@ -6,7 +6,7 @@ use Rattle.mdc_ast.specs.declared.definition.TableDef.{TableDef}
 use Rattle.mdc_ast.specs.declared.row.Row.{Row}
 use Rattle.mdc_ast.specs.Database.{Database, PlainTable}
 use Rattle.store_api.specs.StoreState.{zero_page}
-use Rattle.extent_map.specs.declared.extents.Extents.{Extents}
+use Rattle.store_api.specs.declared.shape.Shape.{Shape}
 use Rattle.entry_tree.specs.Forest.{Forest}
 use Rattle.mdc_sound.specs.TablePages.{DefinesTable, table_page_at}
 use Rattle.mdc_sound.specs.TableRows.{rows_in_table}
@@ -23,23 +23,23 @@ rootless def = record def { roots = record { map = 0; composite = 0; dims = [] }
 
 -- Table t of these pages is this plain table: its page defines it, and its rows are those in the filled slots of its Used
 -- blocks, by rising row number.
-pub record HoldsTable (ext : Extents) (pages : PageList) (t : ℕ) (table : PlainTable) : Type 0 where
+pub record HoldsTable (shape : Shape) (pages : PageList) (t : ℕ) (table : PlainTable) : Type 0 where
   pub def : TableDef
   pub map_tree : Forest
   pub defines : DefinesTable pages t def
   pub has_map : HasTree pages (map_place def) map_tree
   pub def_is : table.def ≡ rootless def
-  pub same_rows : IsPermutation (map (λ placed. placed.row) (rows_in_table ext pages def map_tree)) table.rows
+  pub same_rows : IsPermutation (map (λ placed. placed.row) (rows_in_table shape pages def map_tree)) table.rows
   pub rising : AllPairs (λ a b. a.number < b.number) table.rows
 
 -- table page t has what stands in this place: zeros alone for no table
-abbrev pub HoldsPlace : Extents → PageList → ℕ → Option PlainTable → Type 0
-HoldsPlace ext pages t None = table_page_at pages t ≡ zero_page
-HoldsPlace ext pages t (Some table) = HoldsTable ext pages t table
+abbrev pub HoldsPlace : Shape → PageList → ℕ → Option PlainTable → Type 0
+HoldsPlace shape pages t None = table_page_at pages t ≡ zero_page
+HoldsPlace shape pages t (Some table) = HoldsTable shape pages t table
 
 -- the pages stand for this database, whose 16 places are their table pages
-abbrev pub PagesStandFor : Extents → PageList → Database → Type 0
-PagesStandFor ext pages db = AllZip (HoldsPlace ext pages) (range_with_len 0 16) db
+abbrev pub PagesStandFor : Shape → PageList → Database → Type 0
+PagesStandFor shape pages db = AllZip (HoldsPlace shape pages) (range_with_len 0 16) db
 
 -- ---- one row more, less, or another, in the words of plain tables
 

@@ -6,7 +6,7 @@ use Rattle.mdc_ast.specs.declared.definition.TableDef.{TableDef}
 use Rattle.mdc_ast.specs.declared.row.Row.{Row}
 use Rattle.store_api.specs.Extents.{first_page_of}
 use Rattle.store_api.specs.StoreState.{page_at}
-use Rattle.extent_map.specs.declared.extents.Extents.{Extents}
+use Rattle.store_api.specs.declared.shape.Shape.{Shape}
 use Rattle.row_page.specs.RowPage.{rows_of}
 use Rattle.entry_tree.specs.Forest.{Forest}
 use Rattle.table_trees.specs.ToldPages.{PageList}
@@ -25,17 +25,17 @@ rows_from_slot block slot (Some row ∷ slots) =
     record { rid = record { block = block; slot = slot }; row = row } ∷ rows_from_slot block (slot + 1) slots
 
 -- a page of a block
-abbrev pub block_page : Extents → PageList → ℕ → ℕ → List ℕ
-block_page ext pages block j = page_at pages (first_page_of ext.cap ext.extent_pages block + j)
+abbrev pub block_page : Shape → PageList → ℕ → ℕ → List ℕ
+block_page shape pages block j = page_at pages (first_page_of shape.extents shape.extent_pages block + j)
 
 -- the slots of a block: those of its pages, one page behind the other
-abbrev pub block_slots : Extents → PageList → TableDef → ℕ → List (Option Row)
-block_slots ext pages def block = flat_map (λ j. rows_of def.columns (block_page ext pages block j)) (range_with_len 0 ext.extent_pages)
+abbrev pub block_slots : Shape → PageList → TableDef → ℕ → List (Option Row)
+block_slots shape pages def block = flat_map (λ j. rows_of def.columns (block_page shape pages block j)) (range_with_len 0 shape.extent_pages)
 
 -- the rows of a block, by rising slot
-abbrev pub rows_in_block : Extents → PageList → TableDef → ℕ → List PlacedRow
-rows_in_block ext pages def block = rows_from_slot block 0 (block_slots ext pages def block)
+abbrev pub rows_in_block : Shape → PageList → TableDef → ℕ → List PlacedRow
+rows_in_block shape pages def block = rows_from_slot block 0 (block_slots shape pages def block)
 
 -- the rows of a table: those in its Used blocks
-abbrev pub rows_in_table : Extents → PageList → TableDef → Forest → List PlacedRow
-rows_in_table ext pages def map_tree = flat_map (rows_in_block ext pages def) (used_blocks map_tree)
+abbrev pub rows_in_table : Shape → PageList → TableDef → Forest → List PlacedRow
+rows_in_table shape pages def map_tree = flat_map (rows_in_block shape pages def) (used_blocks map_tree)

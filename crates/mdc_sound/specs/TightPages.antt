@@ -7,7 +7,7 @@ use Rattle.mdc_words.specs.ByteOrder.{Entry}
 use Rattle.mdc_ast.specs.declared.definition.TableDef.{TableDef}
 use Rattle.mdc_ast.specs.declared.row.Row.{Row}
 use Rattle.mdc_ast.specs.Database.{Database, PlainTable}
-use Rattle.extent_map.specs.declared.extents.Extents.{Extents}
+use Rattle.store_api.specs.declared.shape.Shape.{Shape}
 use Rattle.key_codec.specs.Keys.{key_bytes, width_of_parts}
 use Rattle.node_page.specs.Node.{Node, leaf_room}
 use Rattle.node_page.specs.Node.Node.{LeafNode, InnerNode, NoNode}
@@ -42,16 +42,16 @@ HaveRoomOnce def spots =
     (row : Row) (e f : ℕ) → HasRoomFor def row (slice_index_or spots e OtherBlock) → HasRoomFor def row (slice_index_or spots f OtherBlock) → e ≡ f
 
 -- a table is tight: its blocks, of which none is Free or Pending, and its trees
-pub record IsTightTable (ext : Extents) (pages : PageList) (view : DatabaseView) (table : TableView) : Type 0 where
-  pub room : HaveRoomOnce table.def (table_spots ext pages table.def view.owners table.map)
+pub record IsTightTable (shape : Shape) (pages : PageList) (view : DatabaseView) (table : TableView) : Type 0 where
+  pub room : HaveRoomOnce table.def (table_spots shape pages table.def view.owners table.map)
   pub none_free : free_blocks table.map ≡ []
   pub none_pending : pending_blocks table.map ≡ []
   pub trees : AllZip (λ place tree. IsHalfFullTree place.width tree) (tree_places table.def) (trees_of_table table)
 
 -- the pages that show this are tight: each table is, and fewer index pages are unused than an extent has
-pub record AreTightPages (ext : Extents) (pages : PageList) (view : DatabaseView) : Type 0 where
-  pub tables : EachTable view (IsTightTable ext pages view)
-  pub few_unused : unused_index_pages ext view.owners < ext.extent_pages
+pub record AreTightPages (shape : Shape) (pages : PageList) (view : DatabaseView) : Type 0 where
+  pub tables : EachTable view (IsTightTable shape pages view)
+  pub few_unused : unused_index_pages shape view.owners < shape.extent_pages
 
 -- ---- need
 
@@ -90,11 +90,11 @@ sum_of_tables f (None ∷ db) = sum_of_tables f db
 sum_of_tables f (Some table ∷ db) = f table + sum_of_tables f db
 
 -- the blocks that a table needs
-abbrev pub table_blocks : Extents → PlainTable → ℕ
-table_blocks ext table = blocks_needed (block_slot_count ext table.def) table
+abbrev pub table_blocks : Shape → PlainTable → ℕ
+table_blocks shape table = blocks_needed (block_slot_count shape table.def) table
 
 -- how many extents a database needs: its blocks, and its index pages divided by the pages of an extent, rounded up
-abbrev pub need : Extents → Database → ℕ
-need ext db =
-    sum_of_tables (table_blocks ext) db
-    + div_ceil (sum_of_tables (λ table. index_pages_needed (table_blocks ext table) table) db) ext.extent_pages
+abbrev pub need : Shape → Database → ℕ
+need shape db =
+    sum_of_tables (table_blocks shape) db
+    + div_ceil (sum_of_tables (λ table. index_pages_needed (table_blocks shape table) table) db) shape.extent_pages

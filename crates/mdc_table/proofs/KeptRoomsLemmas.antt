@@ -15,7 +15,7 @@ use Rattle.mdc_ast.specs.declared.definition.TableDef.{TableDef}
 use Rattle.mdc_ast.specs.declared.row.Row.{Row}
 use Rattle.row_page.specs.RowPage.{count_rows}
 use Rattle.store_api.specs.declared.pages.Pages.{Ghosts}
-use Rattle.extent_map.specs.declared.extents.Extents.{Extents}
+use Rattle.store_api.specs.declared.shape.Shape.{Shape}
 use Rattle.extent_map.specs.declared.kind.Kind.{Kind}
 use Rattle.mdc_ast.specs.TableLimits.{IsTableDef}
 use Rattle.block_map.specs.MapLines.{used_blocks}
@@ -193,28 +193,28 @@ module _ (After : Spot → Spot → Type 0) (keeps : KeepsUsed After) (old new :
 
 -- ---- the rows of a Used block
 
-module _ {S : Type 0} {g : Ghosts S} (ext : Extents) (s : S) (def : TableDef) (owners : List Kind) (forests : TableForests) (st : StandsTable g ext s def owners forests) where
+module _ {S : Type 0} {g : Ghosts S} (shape : Shape) (s : S) (def : TableDef) (owners : List Kind) (forests : TableForests) (st : StandsTable g shape s def owners forests) where
   -- they fit
-  pub row_fits : (block : ℕ) (slots : List (Option Row)) (row : Row) → slice_index_or (spots_of g ext s def owners forests) block OtherBlock ≡ UsedBlock slots → Contains slots (Some row) → RowFits def row
+  pub row_fits : (block : ℕ) (slots : List (Option Row)) (row : Row) → slice_index_or (spots_of g shape s def owners forests) block OtherBlock ≡ UsedBlock slots → Contains slots (Some row) → RowFits def row
   row_fits block slots row is there =
-      let spot = used_of_spot ext (pages_of g s) def owners forests.map st.map block slots is in
-      let at : IsPlaced block row (rows_in_block ext (pages_of g s) def block) =
-      placed_in_slot block 0 (block_slots ext (pages_of g s) def block) row (subst (λ (all : List (Option Row)). Contains all (Some row)) spot.1 there) in
-      let sound = each_of (AreBlockRowsSound ext (pages_of g s) def) (used_blocks forests.map) block st.rows spot.0 in
-      subst (RowFits def) at.row_is (each_of (λ (placed : PlacedRow). RowFits def placed.row) (rows_in_block ext (pages_of g s) def block) at.placed sound.rows at.there)
+      let spot = used_of_spot shape (pages_of g s) def owners forests.map st.map block slots is in
+      let at : IsPlaced block row (rows_in_block shape (pages_of g s) def block) =
+      placed_in_slot block 0 (block_slots shape (pages_of g s) def block) row (subst (λ (all : List (Option Row)). Contains all (Some row)) spot.1 there) in
+      let sound = each_of (AreBlockRowsSound shape (pages_of g s) def) (used_blocks forests.map) block st.rows spot.0 in
+      subst (RowFits def) at.row_is (each_of (λ (placed : PlacedRow). RowFits def placed.row) (rows_in_block shape (pages_of g s) def block) at.placed sound.rows at.there)
 
   -- and are of one cell
-  same_cell : (block : ℕ) (slots : List (Option Row)) (a b : Row) → slice_index_or (spots_of g ext s def owners forests) block OtherBlock ≡ UsedBlock slots → Contains slots (Some a) → Contains slots (Some b)
+  same_cell : (block : ℕ) (slots : List (Option Row)) (a b : Row) → slice_index_or (spots_of g shape s def owners forests) block OtherBlock ≡ UsedBlock slots → Contains slots (Some a) → Contains slots (Some b)
       → AreOfOneCell def a.values b.values
   same_cell block slots a b is a_there b_there =
-      let spot = used_of_spot ext (pages_of g s) def owners forests.map st.map block slots is in
-      let at_a : IsPlaced block a (rows_in_block ext (pages_of g s) def block) =
-      placed_in_slot block 0 (block_slots ext (pages_of g s) def block) a (subst (λ (all : List (Option Row)). Contains all (Some a)) spot.1 a_there) in
-      let at_b : IsPlaced block b (rows_in_block ext (pages_of g s) def block) =
-      placed_in_slot block 0 (block_slots ext (pages_of g s) def block) b (subst (λ (all : List (Option Row)). Contains all (Some b)) spot.1 b_there) in
-      let pairs = each_of (IsOfOneCell ext (pages_of g s) def) (used_blocks forests.map) block st.cells spot.0 in
+      let spot = used_of_spot shape (pages_of g s) def owners forests.map st.map block slots is in
+      let at_a : IsPlaced block a (rows_in_block shape (pages_of g s) def block) =
+      placed_in_slot block 0 (block_slots shape (pages_of g s) def block) a (subst (λ (all : List (Option Row)). Contains all (Some a)) spot.1 a_there) in
+      let at_b : IsPlaced block b (rows_in_block shape (pages_of g s) def block) =
+      placed_in_slot block 0 (block_slots shape (pages_of g s) def block) b (subst (λ (all : List (Option Row)). Contains all (Some b)) spot.1 b_there) in
+      let pairs = each_of (IsOfOneCell shape (pages_of g s) def) (used_blocks forests.map) block st.cells spot.0 in
       let one : AreOfOneCell def at_a.placed.row.values at_b.placed.row.values =
-      any_two (λ (x y : PlacedRow). AreOfOneCell def x.row.values y.row.values) (rows_in_block ext (pages_of g s) def block) at_a.placed at_b.placed (λ x. refl) (λ x y e. sym e) pairs at_a.there at_b.there in
+      any_two (λ (x y : PlacedRow). AreOfOneCell def x.row.values y.row.values) (rows_in_block shape (pages_of g s) def block) at_a.placed at_b.placed (λ x. refl) (λ x y e. sym e) pairs at_a.there at_b.there in
       subst (λ (x : Row). AreOfOneCell def x.values b.values) at_a.row_is (subst (λ (y : Row). AreOfOneCell def at_a.placed.row.values y.values) at_b.row_is one)
 
 -- ---- the notes
@@ -262,60 +262,60 @@ none_below def from spots row block right low room =
     let same = cell_key_of-same def other.values row.values r.2.0.2 in
     right.full block other r.0 r.1 r.2.0.1 (subst (λ (key : Entry). block < (from key).from) (sym same) low) r.2.1
 
-module _ {S : Type 0} {g : Ghosts S} (before ext : Extents) (old new : S) (def : TableDef) (owners owners_now : List Kind) (forests forests_now : TableForests)
-    (st : StandsTable g before old def owners forests) (now_st : StandsTable g ext new def owners_now forests_now) (from : Entry → RoomNote) (right : AreRightRooms def from (spots_of g before old def owners forests)) where
+module _ {S : Type 0} {g : Ghosts S} (shape : Shape) (old new : S) (def : TableDef) (owners owners_now : List Kind) (forests forests_now : TableForests)
+    (st : StandsTable g shape old def owners forests) (now_st : StandsTable g shape new def owners_now forests_now) (from : Entry → RoomNote) (right : AreRightRooms def from (spots_of g shape old def owners forests)) where
   -- a row was put into a block of its cell, below which none has room
   pub rooms_noted : (now : Entry → RoomNote) (row : Row) (block : ℕ) (slots : List (Option Row)) → IsTableDef def.number def → RowFits def row
-      → AllZip AfterClaims (slice_set (spots_of g before old def owners forests) block (UsedBlock slots)) (spots_of g ext new def owners_now forests_now) → Contains slots (Some row)
-      → ((b : ℕ) → b < block → HasRoomFor def row (slice_index_or (spots_of g before old def owners forests) b OtherBlock) → ⊥)
-      → ((key : Entry) → HoldsKey def key (slice_index_or (spots_of g before old def owners forests) block OtherBlock) → HoldsKey def key (UsedBlock slots))
-      → block < length (spots_of g before old def owners forests)
+      → AllZip AfterClaims (slice_set (spots_of g shape old def owners forests) block (UsedBlock slots)) (spots_of g shape new def owners_now forests_now) → Contains slots (Some row)
+      → ((b : ℕ) → b < block → HasRoomFor def row (slice_index_or (spots_of g shape old def owners forests) b OtherBlock) → ⊥)
+      → ((key : Entry) → HoldsKey def key (slice_index_or (spots_of g shape old def owners forests) block OtherBlock) → HoldsKey def key (UsedBlock slots))
+      → block < length (spots_of g shape old def owners forests)
       → SaysNoMore (now (cell_key_of def row.values)) (found_at block) → ((other : Entry) → other ≢ cell_key_of def row.values → SaysNoMore (now other) (from other))
-      → AreRightRooms def now (spots_of g ext new def owners_now forests_now)
+      → AreRightRooms def now (spots_of g shape new def owners_now forests_now)
   rooms_noted now row block slots defined fits turned has none holds within says others = record { full = full; of_cell = of_cell }
     where
       noted : (now (cell_key_of def row.values)).from ≤ block
       noted = no_higher (now (cell_key_of def row.values)) (found_at block) says
 
-      still : (key : Entry) (b : ℕ) → HoldsKey def key (slice_index_or (spots_of g before old def owners forests) b OtherBlock) → HoldsKey def key (slice_index_or (spots_of g ext new def owners_now forests_now) b OtherBlock)
+      still : (key : Entry) (b : ℕ) → HoldsKey def key (slice_index_or (spots_of g shape old def owners forests) b OtherBlock) → HoldsKey def key (slice_index_or (spots_of g shape new def owners_now forests_now) b OtherBlock)
       still key b was = elim (cases_eq b block) [
         | inl same ↦
-            let there = holds key (subst (λ (n : ℕ). HoldsKey def key (slice_index_or (spots_of g before old def owners forests) n OtherBlock)) same was) in
-            subst (λ (n : ℕ). HoldsKey def key (slice_index_or (spots_of g ext new def owners_now forests_now) n OtherBlock)) (sym same)
-            (holds_there AfterClaims claims_keep (spots_of g before old def owners forests) (spots_of g ext new def owners_now forests_now) block (UsedBlock slots) turned def key within there)
-        | inr other ↦ holds_elsewhere AfterClaims claims_keep (spots_of g before old def owners forests) (spots_of g ext new def owners_now forests_now) block (UsedBlock slots) turned def key b other was
+            let there = holds key (subst (λ (n : ℕ). HoldsKey def key (slice_index_or (spots_of g shape old def owners forests) n OtherBlock)) same was) in
+            subst (λ (n : ℕ). HoldsKey def key (slice_index_or (spots_of g shape new def owners_now forests_now) n OtherBlock)) (sym same)
+            (holds_there AfterClaims claims_keep (spots_of g shape old def owners forests) (spots_of g shape new def owners_now forests_now) block (UsedBlock slots) turned def key within there)
+        | inr other ↦ holds_elsewhere AfterClaims claims_keep (spots_of g shape old def owners forests) (spots_of g shape new def owners_now forests_now) block (UsedBlock slots) turned def key b other was
       ]
 
-      of_cell : (key : Entry) → IsTrue (now key).is_of_cell → HoldsKey def key (slice_index_or (spots_of g ext new def owners_now forests_now) (now key).from OtherBlock)
+      of_cell : (key : Entry) → IsTrue (now key).is_of_cell → HoldsKey def key (slice_index_or (spots_of g shape new def owners_now forests_now) (now key).from OtherBlock)
       of_cell key known = elim (key_cases key (cell_key_of def row.values)) [
         | inl same ↦
             let at : now (cell_key_of def row.values) ≡ found_at block = same_where_known (now (cell_key_of def row.values)) (found_at block) says (subst (λ (k : Entry). IsTrue (now k).is_of_cell) same known) in
             let from_is : (now key).from ≡ block = ap (λ (k : Entry). (now k).from) same ∙ ap (λ (n : RoomNote). n.from) at in
-            subst (λ (n : ℕ). HoldsKey def key (slice_index_or (spots_of g ext new def owners_now forests_now) n OtherBlock)) (sym from_is)
-            (holds_there AfterClaims claims_keep (spots_of g before old def owners forests) (spots_of g ext new def owners_now forests_now) block (UsedBlock slots) turned def key within (row, has, sym same))
+            subst (λ (n : ℕ). HoldsKey def key (slice_index_or (spots_of g shape new def owners_now forests_now) n OtherBlock)) (sym from_is)
+            (holds_there AfterClaims claims_keep (spots_of g shape old def owners forests) (spots_of g shape new def owners_now forests_now) block (UsedBlock slots) turned def key within (row, has, sym same))
         | inr differ ↦
             let at : now key ≡ from key = same_where_known (now key) (from key) (others key differ) known in
             let was = right.of_cell key (subst (λ (n : RoomNote). IsTrue n.is_of_cell) at known) in
-            subst (λ (n : RoomNote). HoldsKey def key (slice_index_or (spots_of g ext new def owners_now forests_now) n.from OtherBlock)) (sym at) (still key (from key).from was)
+            subst (λ (n : RoomNote). HoldsKey def key (slice_index_or (spots_of g shape new def owners_now forests_now) n.from OtherBlock)) (sym at) (still key (from key).from was)
       ]
 
-      full : (b : ℕ) (r : Row) (all : List (Option Row)) → slice_index_or (spots_of g ext new def owners_now forests_now) b OtherBlock ≡ UsedBlock all → Contains all (Some r)
+      full : (b : ℕ) (r : Row) (all : List (Option Row)) → slice_index_or (spots_of g shape new def owners_now forests_now) b OtherBlock ≡ UsedBlock all → Contains all (Some r)
           → b < (now (cell_key_of def r.values)).from → Contains all None → ⊥
       full b r all is there low empty = elim (cases_eq b block) [
         | inl same ↦
-            let here : slice_index_or (spots_of g ext new def owners_now forests_now) block OtherBlock ≡ UsedBlock all =
-            subst (λ (n : ℕ). slice_index_or (spots_of g ext new def owners_now forests_now) n OtherBlock ≡ UsedBlock all) same is in
-            let e = used_there AfterClaims claims_keep (spots_of g before old def owners forests) (spots_of g ext new def owners_now forests_now) block (UsedBlock slots) turned all here in
+            let here : slice_index_or (spots_of g shape new def owners_now forests_now) block OtherBlock ≡ UsedBlock all =
+            subst (λ (n : ℕ). slice_index_or (spots_of g shape new def owners_now forests_now) n OtherBlock ≡ UsedBlock all) same is in
+            let e = used_there AfterClaims claims_keep (spots_of g shape old def owners forests) (spots_of g shape new def owners_now forests_now) block (UsedBlock slots) turned all here in
             let slots_are : slots ≡ all = cc (e) in
-            let one = same_cell ext new def owners_now forests_now now_st block all r row here there (subst (λ (xs : List (Option Row)). Contains xs (Some row)) slots_are has) in
+            let one = same_cell shape new def owners_now forests_now now_st block all r row here there (subst (λ (xs : List (Option Row)). Contains xs (Some row)) slots_are has) in
             let below : b < (now (cell_key_of def row.values)).from = subst (λ (key : Entry). b < (now key).from) (cell_key_of-same def r.values row.values one) low in
             omega (arith, same, below, noted)
         | inr other ↦
-            let was = used_elsewhere AfterClaims claims_keep (spots_of g before old def owners forests) (spots_of g ext new def owners_now forests_now) block (UsedBlock slots) turned b all other is in
+            let was = used_elsewhere AfterClaims claims_keep (spots_of g shape old def owners forests) (spots_of g shape new def owners_now forests_now) block (UsedBlock slots) turned b all other is in
             elim (key_cases (cell_key_of def r.values) (cell_key_of def row.values)) [
               | inl key ↦
                   let below : b < (now (cell_key_of def row.values)).from = subst (λ (k : Entry). b < (now k).from) key low in
-                  let fit = row_fits before old def owners forests st b all r was there in
+                  let fit = row_fits shape old def owners forests st b all r was there in
                   let one = one_cell def r.values row.values (has_block_indexes def.number def defined).composite.key fit.values fits.values key in
                   none b (omega (arith, below, noted)) (subst (HasRoomFor def row) (sym was) ((r, there, one), empty))
               | inr differ ↦ right.full b r all was there (omega (arith, low, no_higher (now (cell_key_of def r.values)) (from (cell_key_of def r.values)) (others (cell_key_of def r.values) differ))) empty
@@ -323,9 +323,9 @@ module _ {S : Type 0} {g : Ghosts S} (before ext : Extents) (old new : S) (def :
       ]
 
   -- a row was taken out
-  pub rooms_lowered : (now : Entry → RoomNote) (rid : Rid) (row : Row) (slots : List (Option Row)) → IsRowAt (spots_of g before old def owners forests) rid row slots
-      → AllZip AfterReturns (slice_set (spots_of g before old def owners forests) rid.block (left_with (slice_set slots rid.slot None))) (spots_of g ext new def owners_now forests_now)
-      → LowersNoteOf def row rid.block from now → AreRightRooms def now (spots_of g ext new def owners_now forests_now)
+  pub rooms_lowered : (now : Entry → RoomNote) (rid : Rid) (row : Row) (slots : List (Option Row)) → IsRowAt (spots_of g shape old def owners forests) rid row slots
+      → AllZip AfterReturns (slice_set (spots_of g shape old def owners forests) rid.block (left_with (slice_set slots rid.slot None))) (spots_of g shape new def owners_now forests_now)
+      → LowersNoteOf def row rid.block from now → AreRightRooms def now (spots_of g shape new def owners_now forests_now)
   rooms_lowered now rid row slots lies turned lowers = record { full = full; of_cell = of_cell }
     where
       says : SaysNoMore (now (cell_key_of def row.values)) (lowered_to rid.block (from (cell_key_of def row.values)))
@@ -362,98 +362,98 @@ module _ {S : Type 0} {g : Ghosts S} (before ext : Extents) (old new : S) (def :
               at,
               λ e.
                   let was = right.of_cell key (subst (λ (n : RoomNote). IsTrue n.is_of_cell) at known) in
-                  let there : HoldsKey def key (slice_index_or (spots_of g before old def owners forests) rid.block OtherBlock) =
-                  subst (λ (n : ℕ). HoldsKey def key (slice_index_or (spots_of g before old def owners forests) n OtherBlock)) e was in
+                  let there : HoldsKey def key (slice_index_or (spots_of g shape old def owners forests) rid.block OtherBlock) =
+                  subst (λ (n : ℕ). HoldsKey def key (slice_index_or (spots_of g shape old def owners forests) n OtherBlock)) e was in
                   let holds : HoldsKey def key (UsedBlock slots) = subst (HoldsKey def key) (lies.block OtherBlock) there in
-                  let one = same_cell before old def owners forests st rid.block slots holds.0 row (lies.block OtherBlock) holds.1 (in_slot slots rid.slot row lies.slot) in
+                  let one = same_cell shape old def owners forests st rid.block slots holds.0 row (lies.block OtherBlock) holds.1 (in_slot slots rid.slot row lies.slot) in
                   differ (sym holds.2 ∙ cell_key_of-same def holds.0.values row.values one),
             )
       ]
 
-      of_cell : (key : Entry) → IsTrue (now key).is_of_cell → HoldsKey def key (slice_index_or (spots_of g ext new def owners_now forests_now) (now key).from OtherBlock)
+      of_cell : (key : Entry) → IsTrue (now key).is_of_cell → HoldsKey def key (slice_index_or (spots_of g shape new def owners_now forests_now) (now key).from OtherBlock)
       of_cell key known =
           let same = known_as key known in
           let was = right.of_cell key (subst (λ (n : RoomNote). IsTrue n.is_of_cell) same.0 known) in
-          subst (λ (n : RoomNote). HoldsKey def key (slice_index_or (spots_of g ext new def owners_now forests_now) n.from OtherBlock)) (sym same.0)
-          (holds_elsewhere AfterReturns returns_keep (spots_of g before old def owners forests) (spots_of g ext new def owners_now forests_now) rid.block (left_with (slice_set slots rid.slot None)) turned def key (from key).from same.1 was)
+          subst (λ (n : RoomNote). HoldsKey def key (slice_index_or (spots_of g shape new def owners_now forests_now) n.from OtherBlock)) (sym same.0)
+          (holds_elsewhere AfterReturns returns_keep (spots_of g shape old def owners forests) (spots_of g shape new def owners_now forests_now) rid.block (left_with (slice_set slots rid.slot None)) turned def key (from key).from same.1 was)
 
       left : Spot
       left = left_with (slice_set slots rid.slot None)
 
-      full : (b : ℕ) (r : Row) (all : List (Option Row)) → slice_index_or (spots_of g ext new def owners_now forests_now) b OtherBlock ≡ UsedBlock all → Contains all (Some r)
+      full : (b : ℕ) (r : Row) (all : List (Option Row)) → slice_index_or (spots_of g shape new def owners_now forests_now) b OtherBlock ≡ UsedBlock all → Contains all (Some r)
           → b < (now (cell_key_of def r.values)).from → Contains all None → ⊥
       full b r all is there low empty = elim (cases_eq b rid.block) [
         | inl same ↦
-            let here : slice_index_or (spots_of g ext new def owners_now forests_now) rid.block OtherBlock ≡ UsedBlock all =
-            subst (λ (n : ℕ). slice_index_or (spots_of g ext new def owners_now forests_now) n OtherBlock ≡ UsedBlock all) same is in
-            let e = used_there AfterReturns returns_keep (spots_of g before old def owners forests) (spots_of g ext new def owners_now forests_now) rid.block (left_with (slice_set slots rid.slot None)) turned all here in
+            let here : slice_index_or (spots_of g shape new def owners_now forests_now) rid.block OtherBlock ≡ UsedBlock all =
+            subst (λ (n : ℕ). slice_index_or (spots_of g shape new def owners_now forests_now) n OtherBlock ≡ UsedBlock all) same is in
+            let e = used_there AfterReturns returns_keep (spots_of g shape old def owners forests) (spots_of g shape new def owners_now forests_now) rid.block (left_with (slice_set slots rid.slot None)) turned all here in
             let slots_are = slots_left (slice_set slots rid.slot None) all e in
             let in_now : Contains (slice_set slots rid.slot None) (Some r) = subst (λ (xs : List (Option Row)). Contains xs (Some r)) (sym slots_are) there in
             let in_old : Contains slots (Some r) = elim (of_set slots rid.slot None (Some r) in_now) [ inl wrong ↦ absurd (cc (wrong)) | inr c ↦ c ] in
-            let one = same_cell before old def owners forests st rid.block slots r row (lies.block OtherBlock) in_old (in_slot slots rid.slot row lies.slot) in
+            let one = same_cell shape old def owners forests st rid.block slots r row (lies.block OtherBlock) in_old (in_slot slots rid.slot row lies.slot) in
             let below : b < (now (cell_key_of def row.values)).from = subst (λ (key : Entry). b < (now key).from) (cell_key_of-same def r.values row.values one) low in
             omega (arith, same, below, lowered)
         | inr other ↦
-            let was = used_elsewhere AfterReturns returns_keep (spots_of g before old def owners forests) (spots_of g ext new def owners_now forests_now) rid.block (left_with (slice_set slots rid.slot None)) turned b all other is in
+            let was = used_elsewhere AfterReturns returns_keep (spots_of g shape old def owners forests) (spots_of g shape new def owners_now forests_now) rid.block (left_with (slice_set slots rid.slot None)) turned b all other is in
             right.full b r all was there (omega (arith, low, kept (cell_key_of def r.values))) empty
       ]
 
   -- the rows of a block changed within their cell, and it has room only if it had: the notes are right as they were
-  rooms_kept : (After : Spot → Spot → Type 0) → KeepsUsed After → (block : ℕ) (slots left : List (Option Row)) → slice_index_or (spots_of g before old def owners forests) block OtherBlock ≡ UsedBlock slots
-      → AllZip After (slice_set (spots_of g before old def owners forests) block (UsedBlock left)) (spots_of g ext new def owners_now forests_now)
+  rooms_kept : (After : Spot → Spot → Type 0) → KeepsUsed After → (block : ℕ) (slots left : List (Option Row)) → slice_index_or (spots_of g shape old def owners forests) block OtherBlock ≡ UsedBlock slots
+      → AllZip After (slice_set (spots_of g shape old def owners forests) block (UsedBlock left)) (spots_of g shape new def owners_now forests_now)
       → (row other : Row) → Contains slots (Some row) → Contains left (Some other) → AreOfOneCell def row.values other.values → (Contains left None → Contains slots None)
-      → AreRightRooms def from (spots_of g ext new def owners_now forests_now)
+      → AreRightRooms def from (spots_of g shape new def owners_now forests_now)
   rooms_kept After keeps block slots left was turned row other row_there other_there one less = record { full = full; of_cell = of_cell }
     where
-      of_cell : (key : Entry) → IsTrue (from key).is_of_cell → HoldsKey def key (slice_index_or (spots_of g ext new def owners_now forests_now) (from key).from OtherBlock)
+      of_cell : (key : Entry) → IsTrue (from key).is_of_cell → HoldsKey def key (slice_index_or (spots_of g shape new def owners_now forests_now) (from key).from OtherBlock)
       of_cell key known = elim (cases_eq (from key).from block) [
         | inl same ↦
-            let there : HoldsKey def key (slice_index_or (spots_of g before old def owners forests) block OtherBlock) =
-            subst (λ (n : ℕ). HoldsKey def key (slice_index_or (spots_of g before old def owners forests) n OtherBlock)) same (right.of_cell key known) in
+            let there : HoldsKey def key (slice_index_or (spots_of g shape old def owners forests) block OtherBlock) =
+            subst (λ (n : ℕ). HoldsKey def key (slice_index_or (spots_of g shape old def owners forests) n OtherBlock)) same (right.of_cell key known) in
             let holds : HoldsKey def key (UsedBlock slots) = subst (HoldsKey def key) was there in
-            let both = same_cell before old def owners forests st block slots row holds.0 was row_there holds.1 in
+            let both = same_cell shape old def owners forests st block slots row holds.0 was row_there holds.1 in
             let key_is : cell_key_of def other.values ≡ key = sym (cell_key_of-same def row.values other.values one) ∙ cell_key_of-same def row.values holds.0.values both ∙ holds.2 in
-            subst (λ (n : ℕ). HoldsKey def key (slice_index_or (spots_of g ext new def owners_now forests_now) n OtherBlock)) (sym same)
-            (holds_there After keeps (spots_of g before old def owners forests) (spots_of g ext new def owners_now forests_now) block (UsedBlock left) turned def key
-            (used_below (spots_of g before old def owners forests) block slots was) (other, other_there, key_is))
+            subst (λ (n : ℕ). HoldsKey def key (slice_index_or (spots_of g shape new def owners_now forests_now) n OtherBlock)) (sym same)
+            (holds_there After keeps (spots_of g shape old def owners forests) (spots_of g shape new def owners_now forests_now) block (UsedBlock left) turned def key
+            (used_below (spots_of g shape old def owners forests) block slots was) (other, other_there, key_is))
         | inr differ ↦
-            holds_elsewhere After keeps (spots_of g before old def owners forests) (spots_of g ext new def owners_now forests_now) block (UsedBlock left) turned def key (from key).from
+            holds_elsewhere After keeps (spots_of g shape old def owners forests) (spots_of g shape new def owners_now forests_now) block (UsedBlock left) turned def key (from key).from
             differ (right.of_cell key known)
       ]
 
-      full : (b : ℕ) (r : Row) (all : List (Option Row)) → slice_index_or (spots_of g ext new def owners_now forests_now) b OtherBlock ≡ UsedBlock all → Contains all (Some r)
+      full : (b : ℕ) (r : Row) (all : List (Option Row)) → slice_index_or (spots_of g shape new def owners_now forests_now) b OtherBlock ≡ UsedBlock all → Contains all (Some r)
           → b < (from (cell_key_of def r.values)).from → Contains all None → ⊥
       full b r all is there low empty = elim (cases_eq b block) [
         | inl same ↦
-            let here : slice_index_or (spots_of g ext new def owners_now forests_now) block OtherBlock ≡ UsedBlock all =
-            subst (λ (n : ℕ). slice_index_or (spots_of g ext new def owners_now forests_now) n OtherBlock ≡ UsedBlock all) same is in
-            let e = used_there After keeps (spots_of g before old def owners forests) (spots_of g ext new def owners_now forests_now) block (UsedBlock left) turned all here in
+            let here : slice_index_or (spots_of g shape new def owners_now forests_now) block OtherBlock ≡ UsedBlock all =
+            subst (λ (n : ℕ). slice_index_or (spots_of g shape new def owners_now forests_now) n OtherBlock ≡ UsedBlock all) same is in
+            let e = used_there After keeps (spots_of g shape old def owners forests) (spots_of g shape new def owners_now forests_now) block (UsedBlock left) turned all here in
             let slots_are : left ≡ all = cc (e) in
-            let both = same_cell ext new def owners_now forests_now now_st block all r other here there (subst (λ (xs : List (Option Row)). Contains xs (Some other)) slots_are other_there) in
+            let both = same_cell shape new def owners_now forests_now now_st block all r other here there (subst (λ (xs : List (Option Row)). Contains xs (Some other)) slots_are other_there) in
             let key = cell_key_of-same def r.values row.values (both ∙ sym one) in
             let below : block < (from (cell_key_of def row.values)).from = subst (λ (n : ℕ). n < (from (cell_key_of def row.values)).from) same (subst (λ (k : Entry). b < (from k).from) key low) in
             right.full block row slots was row_there below (less (subst (λ (xs : List (Option Row)). Contains xs None) (sym slots_are) empty))
         | inr differ ↦
-            let before_it = used_elsewhere After keeps (spots_of g before old def owners forests) (spots_of g ext new def owners_now forests_now) block (UsedBlock left) turned b all differ is in
+            let before_it = used_elsewhere After keeps (spots_of g shape old def owners forests) (spots_of g shape new def owners_now forests_now) block (UsedBlock left) turned b all differ is in
             right.full b r all before_it there low empty
       ]
 
   -- a row was taken out of a block that had room before, and others are left in it
-  pub rooms_left : (rid : Rid) (row : Row) (slots : List (Option Row)) → IsRowAt (spots_of g before old def owners forests) rid row slots
-      → AllZip AfterReturns (slice_set (spots_of g before old def owners forests) rid.block (left_with (slice_set slots rid.slot None))) (spots_of g ext new def owners_now forests_now)
-      → Contains slots None → 0 < count_rows (slice_set slots rid.slot None) → AreRightRooms def from (spots_of g ext new def owners_now forests_now)
+  pub rooms_left : (rid : Rid) (row : Row) (slots : List (Option Row)) → IsRowAt (spots_of g shape old def owners forests) rid row slots
+      → AllZip AfterReturns (slice_set (spots_of g shape old def owners forests) rid.block (left_with (slice_set slots rid.slot None))) (spots_of g shape new def owners_now forests_now)
+      → Contains slots None → 0 < count_rows (slice_set slots rid.slot None) → AreRightRooms def from (spots_of g shape new def owners_now forests_now)
   rooms_left rid row slots lies turned empty others =
       let left = slice_set slots rid.slot None in
       let other = some_row left others in
       let was_there : Contains slots (Some other.0) = elim (of_set slots rid.slot None (Some other.0) other.1) [ inl wrong ↦ absurd (cc (wrong)) | inr c ↦ c ] in
       rooms_kept AfterReturns returns_keep rid.block slots left (lies.block OtherBlock)
-      (subst (λ (spot : Spot). AllZip AfterReturns (slice_set (spots_of g before old def owners forests) rid.block spot) (spots_of g ext new def owners_now forests_now)) (left_used left others) turned)
+      (subst (λ (spot : Spot). AllZip AfterReturns (slice_set (spots_of g shape old def owners forests) rid.block spot) (spots_of g shape new def owners_now forests_now)) (left_used left others) turned)
       other.0 other.0 was_there other.1 refl (λ still. empty)
 
   -- a row became another of its cell
-  pub rooms_overwritten : (rid : Rid) (row now : Row) (slots : List (Option Row)) → IsRowAt (spots_of g before old def owners forests) rid row slots → AreOfOneCell def row.values now.values
-      → AllZip SameSpot (slice_set (spots_of g before old def owners forests) rid.block (UsedBlock (slice_set slots rid.slot (Some now)))) (spots_of g ext new def owners_now forests_now)
-      → AreRightRooms def from (spots_of g ext new def owners_now forests_now)
+  pub rooms_overwritten : (rid : Rid) (row now : Row) (slots : List (Option Row)) → IsRowAt (spots_of g shape old def owners forests) rid row slots → AreOfOneCell def row.values now.values
+      → AllZip SameSpot (slice_set (spots_of g shape old def owners forests) rid.block (UsedBlock (slice_set slots rid.slot (Some now)))) (spots_of g shape new def owners_now forests_now)
+      → AreRightRooms def from (spots_of g shape new def owners_now forests_now)
   rooms_overwritten rid row now slots lies one turned =
       rooms_kept SameSpot same_keeps rid.block slots (slice_set slots rid.slot (Some now)) (lies.block OtherBlock) turned
       row now (in_slot slots rid.slot row lies.slot) (in_set slots rid.slot (Some now) (filled_below slots rid.slot row lies.slot)) one

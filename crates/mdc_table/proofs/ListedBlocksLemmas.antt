@@ -10,8 +10,8 @@ use Rattle.store_api.specs.RunsOverPages.{RunsOverPages}
 use Rattle.store_api.specs.declared.fault.Damage.{Damage}
 use Rattle.store_api.specs.declared.fault.StoreFault.{StoreFault}
 use Rattle.store_api.specs.declared.pages.Pages.{Ghosts}
+use Rattle.store_api.specs.declared.shape.Shape.{Shape}
 use Rattle.store_api.proofs.RunsOverPagesLemmas.{runs_wider}
-use Rattle.extent_map.specs.declared.extents.Extents.{Extents}
 use Rattle.extent_map.specs.declared.kind.Kind.{Kind}
 use Rattle.entry_tree.specs.Forest.{Forest, leaf_entries}
 use Rattle.entry_tree.specs.HeldTrees.{HoldsTree, IsTreePage}
@@ -95,11 +95,11 @@ in_given_cell def (Some cell) rows one its =
     each_in (IsInCell (cell_places def) cell) rows (λ other within. is ∙ same_of_any (λ (placed : PlacedRow). cell_values def placed.row.values) rows one placed other there within)
 
 -- all was as listed
-pub seen_listed : (ext : Extents) (def : TableDef) (listed : ListedBlock) (pages : PageList) (count : ℕ) (in_cell : Bool) → count ≡ listed.rows → not in_cell ≡ false → HasSeenRows ext pages def listed.block count
-    → (IsTrue in_cell ↔ AreInCell (cell_places def) listed.cell (rows_in_block ext pages def listed.block)) → HasSeenBlock ext pages def listed
-seen_listed ext def listed pages count in_cell equal are rows known = record { rows = subst (HasSeenRows ext pages def listed.block) equal rows; cell = known.0 (not_false in_cell are) }
+pub seen_listed : (shape : Shape) (def : TableDef) (listed : ListedBlock) (pages : PageList) (count : ℕ) (in_cell : Bool) → count ≡ listed.rows → not in_cell ≡ false → HasSeenRows shape pages def listed.block count
+    → (IsTrue in_cell ↔ AreInCell (cell_places def) listed.cell (rows_in_block shape pages def listed.block)) → HasSeenBlock shape pages def listed
+seen_listed shape def listed pages count in_cell equal are rows known = record { rows = subst (HasSeenRows shape pages def listed.block) equal rows; cell = known.0 (not_false in_cell are) }
 
-module _ {S : Type 0} {g : Ghosts S} (ext : Extents) (s : S) (def : TableDef) where
+module _ {S : Type 0} {g : Ghosts S} (shape : Shape) (s : S) (def : TableDef) where
   -- so it is in the map of the table
   pub line_of_table : (tree : Tree) (block : ℕ) (row : BlockRow) → tree.root ≡ def.roots.map → tree.width ≡ 7 → block < 2 ^ 32 → row.rows < 2 ^ 16 → row.state ≡ state.Used
       → ((t : Forest) → HoldsTree g s tree t → FindsBlock t block (Some row))
@@ -109,21 +109,21 @@ module _ {S : Type 0} {g : Ghosts S} (ext : Extents) (s : S) (def : TableDef) wh
 
   -- the block map doesn't have it as a Used one
   pub breaks_unmapped : (tree : Tree) (block : ℕ) (found : Option BlockRow) → tree.root ≡ def.roots.map → tree.width ≡ 7 → ((t : Forest) → HoldsTree g s tree t → FindsBlock t block found) → found ≡ None
-      → BreaksExpected g ext s def (HasUsedBlock block) (record { page = def.roots.map; rule = 6 })
+      → BreaksExpected g shape s def (HasUsedBlock block) (record { page = def.roots.map; rule = 6 })
   breaks_unmapped tree block found root width finds none = record {
     names = NamesTablePart.block_map refl refl;
     broken = λ owners forests st has.
-        used_is_mapped ext s def owners forests st block has.used
+        used_is_mapped shape s def owners forests st block has.used
         (subst (FindsBlock forests.map block) none
         (finds forests.map (holds_map s def tree forests.map root width st.trees.held.0)));
   }
 
   pub breaks_unused : (tree : Tree) (block : ℕ) (found : Option BlockRow) (row : BlockRow) → tree.root ≡ def.roots.map → tree.width ≡ 7 → ((t : Forest) → HoldsTree g s tree t → FindsBlock t block found) → found ≡ Some row
-      → (row.state ≡ state.Used → ⊥) → BreaksExpected g ext s def (HasUsedBlock block) (record { page = def.roots.map; rule = 6 })
+      → (row.state ≡ state.Used → ⊥) → BreaksExpected g shape s def (HasUsedBlock block) (record { page = def.roots.map; rule = 6 })
   breaks_unused tree block found row root width finds is other = record {
     names = NamesTablePart.block_map refl refl;
     broken = λ owners forests st has.
-        other (used_is_used ext s def owners forests st block row has.used
+        other (used_is_used shape s def owners forests st block row has.used
         (subst (FindsBlock forests.map block) is
         (finds forests.map (holds_map s def tree forests.map root width st.trees.held.0))));
   }
@@ -131,39 +131,39 @@ module _ {S : Type 0} {g : Ghosts S} (ext : Extents) (s : S) (def : TableDef) wh
   -- ---- blocks that were read
 
   module _ (listed : ListedBlock) where
-    block_there : (owners : List Kind) (forests : TableForests) → IsListedSo g ext s def listed owners forests → HasUsedBlock listed.block owners forests
+    block_there : (owners : List Kind) (forests : TableForests) → IsListedSo g shape s def listed owners forests → HasUsedBlock listed.block owners forests
     block_there owners forests so = record { used = used_of_listed forests.map (used_line_of listed) refl so.line }
 
     -- a fault of the rows of the block
-    pub breaks_rows_of_listed : (damage : Damage) → listed.block < ext.cap → BreaksRows g ext s def listed.block damage → BreaksExpected g ext s def (IsListedSo g ext s def listed) damage
+    pub breaks_rows_of_listed : (damage : Damage) → listed.block < shape.extents → BreaksRows g shape s def listed.block damage → BreaksExpected g shape s def (IsListedSo g shape s def listed) damage
     breaks_rows_of_listed damage low b =
-        let breaks = breaks_rows_of_used ext s def listed.block damage low b in
+        let breaks = breaks_rows_of_used shape s def listed.block damage low b in
         record { names = breaks.names; broken = λ owners forests st so. breaks.broken owners forests st (block_there owners forests so) }
 
     -- no extent of this number
-    pub breaks_past_listed : ext.cap ≤ listed.block → BreaksExpected g ext s def (IsListedSo g ext s def listed) (record { page = def.roots.map; rule = 6 })
+    pub breaks_past_listed : shape.extents ≤ listed.block → BreaksExpected g shape s def (IsListedSo g shape s def listed) (record { page = def.roots.map; rule = 6 })
     breaks_past_listed past =
-        let breaks = breaks_past ext s def listed.block past in
+        let breaks = breaks_past shape s def listed.block past in
         record { names = breaks.names; broken = λ owners forests st so. breaks.broken owners forests st (block_there owners forests so) }
 
     -- other rows than its line says
-    pub breaks_count : (count : ℕ) → (IsTrue (g.state s).is_told → HasSeenRows ext (pages_of g s) def listed.block count) → (count ≡ listed.rows → ⊥)
-        → BreaksExpected g ext s def (IsListedSo g ext s def listed) (record { page = first_page_of ext.cap ext.extent_pages listed.block; rule = 8 })
+    pub breaks_count : (count : ℕ) → (IsTrue (g.state s).is_told → HasSeenRows shape (pages_of g s) def listed.block count) → (count ≡ listed.rows → ⊥)
+        → BreaksExpected g shape s def (IsListedSo g shape s def listed) (record { page = first_page_of shape.extents shape.extent_pages listed.block; rule = 8 })
     breaks_count count seen other = record {
       names = NamesTablePart.row_count listed.block refl refl;
       broken = λ owners forests st so.
-          let sound = each_of (IsUsedCountSound ext (pages_of g s) def) (map_lines forests.map) (used_line_of listed) st.used_counts so.line in
+          let sound = each_of (IsUsedCountSound shape (pages_of g s) def) (map_lines forests.map) (used_line_of listed) st.used_counts so.line in
           other ((seen st.told).counted ∙ sym (sound.counted refl));
     }
 
     -- a row of another cell
-    pub breaks_cell : (in_cell : Bool) → (IsTrue (g.state s).is_told → IsTrue in_cell ↔ AreInCell (cell_places def) listed.cell (rows_in_block ext (pages_of g s) def listed.block)) → not in_cell ≡ true
-        → BreaksExpected g ext s def (IsListedSo g ext s def listed) (record { page = first_page_of ext.cap ext.extent_pages listed.block; rule = 9 })
+    pub breaks_cell : (in_cell : Bool) → (IsTrue (g.state s).is_told → IsTrue in_cell ↔ AreInCell (cell_places def) listed.cell (rows_in_block shape (pages_of g s) def listed.block)) → not in_cell ≡ true
+        → BreaksExpected g shape s def (IsListedSo g shape s def listed) (record { page = first_page_of shape.extents shape.extent_pages listed.block; rule = 9 })
     breaks_cell in_cell known strays = record {
       names = NamesTablePart.row_cell listed.block refl refl;
       broken = λ owners forests st so.
-          let one = each_of (IsOfOneCell ext (pages_of g s) def) (used_blocks forests.map) listed.block st.cells (block_there owners forests so).used in
-          let all : IsTrue in_cell = (known st.told).1 (in_given_cell def listed.cell (rows_in_block ext (pages_of g s) def listed.block) one so.cell) in
+          let one = each_of (IsOfOneCell shape (pages_of g s) def) (used_blocks forests.map) listed.block st.cells (block_there owners forests so).used in
+          let all : IsTrue in_cell = (known st.told).1 (in_given_cell def listed.cell (rows_in_block shape (pages_of g s) def listed.block) one so.cell) in
           let none = not_true in_cell strays in
           absurd cc;
     }
@@ -172,16 +172,16 @@ module _ {S : Type 0} {g : Ghosts S} (ext : Extents) (s : S) (def : TableDef) wh
 
 module _ {S : Type 0} {g : Ghosts S} where
   -- a call on the block map
-  pub runs_on_line : {old new : S} {fault : Option StoreFault} (ext : Extents) (def : TableDef) (tree : Tree) (block : ℕ) → tree.root ≡ def.roots.map → tree.width ≡ 7
+  pub runs_on_line : {old new : S} {fault : Option StoreFault} (shape : Shape) (def : TableDef) (tree : Tree) (block : ℕ) → tree.root ≡ def.roots.map → tree.width ≡ 7
       → RunsOverPages g NoPage (IsTreePage g old tree) (BreaksMapTree g old tree AnyMap) old new fault
-      → RunsOverPages g NoPage (IsTreePageAt g old (map_place def)) (BreaksExpected g ext old def (HasUsedBlock block)) old new fault
-  runs_on_line {fault = fault} ext def tree block root width run =
-      runs_wider (runs_on_map {fault = fault} ext def tree root width run) (λ p there none. absurd none) (λ p is. is)
+      → RunsOverPages g NoPage (IsTreePageAt g old (map_place def)) (BreaksExpected g shape old def (HasUsedBlock block)) old new fault
+  runs_on_line {fault = fault} shape def tree block root width run =
+      runs_wider (runs_on_map {fault = fault} shape def tree root width run) (λ p there none. absurd none) (λ p is. is)
       (λ damage b. record { names = b.names; broken = λ owners forests st has. b.broken owners forests st })
 
   -- a call on the rows of a block
-  pub runs_on_listed : {old new : S} {fault : Option StoreFault} (ext : Extents) (def : TableDef) (listed : ListedBlock) → listed.block < ext.cap
-      → RunsOverPages g NoPage (IsPageOfBlock ext listed.block) (BreaksRows g ext old def listed.block) old new fault
-      → RunsOverPages g NoPage (IsPageOfBlock ext listed.block) (BreaksExpected g ext old def (IsListedSo g ext old def listed)) old new fault
-  runs_on_listed {old} ext def listed low run =
-      runs_wider run (λ p there none. absurd none) (λ p is. is) (λ damage b. breaks_rows_of_listed ext old def listed damage low b)
+  pub runs_on_listed : {old new : S} {fault : Option StoreFault} (shape : Shape) (def : TableDef) (listed : ListedBlock) → listed.block < shape.extents
+      → RunsOverPages g NoPage (IsPageOfBlock shape listed.block) (BreaksRows g shape old def listed.block) old new fault
+      → RunsOverPages g NoPage (IsPageOfBlock shape listed.block) (BreaksExpected g shape old def (IsListedSo g shape old def listed)) old new fault
+  runs_on_listed {old} shape def listed low run =
+      runs_wider run (λ p there none. absurd none) (λ p is. is) (λ damage b. breaks_rows_of_listed shape old def listed damage low b)

@@ -9,9 +9,10 @@ use Rattle.mdc_values.specs.declared.rid.Rid.{Rid}
 use Rattle.mdc_ast.specs.declared.definition.TableDef.{TableDef}
 use Rattle.mdc_ast.specs.declared.row.Row.{Row}
 use Rattle.store_api.specs.declared.pages.Pages.{Ghosts}
+use Rattle.store_api.specs.declared.shape.Shape.{Shape}
 use Rattle.extent_map.specs.Owners.{HasNoFree}
-use Rattle.extent_map.specs.declared.extents.Extents.{Extents}
 use Rattle.extent_map.specs.declared.kind.Kind.{Kind}
+use Rattle.extent_map.specs.declared.space_notes.SpaceNotes.{SpaceNotes}
 use Rattle.extent_map.proofs.GrowthLemmas.{growth_along}
 use Rattle.mdc_ast.specs.TableLimits.{IsTableDef}
 use Rattle.block_map.specs.BlockMaps.{HasRow}
@@ -97,18 +98,17 @@ known_is note known = go note.from note.is_of_cell known
 
 -- ---- one call more, behind calls that left the work as it was
 
-module _ {S : Type 0} {g : Ghosts S} (before ext : Extents) (old mid new : S) (def : TableDef) (owners : List Kind) (forests : TableForests) (told : (g.state mid).is_told ≡ (g.state old).is_told)
+module _ {S : Type 0} {g : Ghosts S} (shape : Shape) (before noted : SpaceNotes) (old mid new : S) (def : TableDef) (owners : List Kind) (forests : TableForests) (told : (g.state mid).is_told ≡ (g.state old).is_told)
     (same : (g.state mid).work ≡ (g.state old).work) where
-  grows_along : GrowsPages g before mid new → GrowsPages g before old new
+  grows_along : GrowsPages g shape mid new → GrowsPages g shape old new
   grows_along grows = record {
     stated = growth_along told same grows.stated;
     whole = λ is. grows.whole (record { extents = is.extents; within = is.within; count = ap length same ∙ is.count });
   }
 
-  pub changes_along : (owners_now : List Kind) (forests_now : TableForests) → ChangesTable g before ext mid new def owners forests owners_now forests_now → ChangesTable g before ext old new def owners forests owners_now forests_now
+  pub changes_along : (owners_now : List Kind) (forests_now : TableForests) → ChangesTable g shape before noted mid new def owners forests owners_now forests_now → ChangesTable g shape before noted old new def owners forests owners_now forests_now
   changes_along owners_now forests_now changes = record {
     stands = changes.stands;
-    shape = changes.shape;
     others_blocks = changes.others_blocks;
     no_others_blocks = changes.no_others_blocks;
     others_pages = changes.others_pages;
@@ -118,12 +118,12 @@ module _ {S : Type 0} {g : Ghosts S} (before ext : Extents) (old mid new : S) (d
     notes = changes.notes;
   }
 
-  pub turns_along : (After : Spot → Spot → Type 0) (block : ℕ) (spot : Spot) (owners_now : List Kind) (forests_now : TableForests) → TurnsSpot g After before ext mid new def block spot owners forests owners_now forests_now
-      → TurnsSpot g After before ext old new def block spot owners forests owners_now forests_now
+  pub turns_along : (After : Spot → Spot → Type 0) (block : ℕ) (spot : Spot) (owners_now : List Kind) (forests_now : TableForests) → TurnsSpot g After shape before noted mid new def block spot owners forests owners_now forests_now
+      → TurnsSpot g After shape before noted old new def block spot owners forests owners_now forests_now
   turns_along After block spot owners_now forests_now turns = record {
     changes = changes_along owners_now forests_now turns.changes;
     records = turns.records;
-    spots = subst (λ (pages : PageList). AllZip After (slice_set (table_spots before pages def owners forests.map) block spot) (spots_of g ext new def owners_now forests_now)) same turns.spots;
+    spots = subst (λ (pages : PageList). AllZip After (slice_set (table_spots shape pages def owners forests.map) block spot) (spots_of g shape new def owners_now forests_now)) same turns.spots;
   }
 
 -- ---- what was found
@@ -137,28 +137,28 @@ none_before def from spots row block below lowest b low room = elim (cases_lt b 
 ]
 
 -- what putting a row there expects
-pub room_at : {S : Type 0} {g : Ghosts S} (ext : Extents) (old mid : S) (def : TableDef) (owners : List Kind) (forests : TableForests) (row : Row) (from : ℕ) (found : BlockRow) → (g.state mid).work ≡ (g.state old).work
-    → IsFirstRoom def (spots_of g ext old def owners forests) forests.map row from found → HasRoomAt g ext mid def (record { block = found.block; state = state.Used; rows = found.rows }) row owners forests
-room_at ext old mid def owners forests row from found same first = record {
+pub room_at : {S : Type 0} {g : Ghosts S} (shape : Shape) (old mid : S) (def : TableDef) (owners : List Kind) (forests : TableForests) (row : Row) (from : ℕ) (found : BlockRow) → (g.state mid).work ≡ (g.state old).work
+    → IsFirstRoom def (spots_of g shape old def owners forests) forests.map row from found → HasRoomAt g shape mid def (record { block = found.block; state = state.Used; rows = found.rows }) row owners forests
+room_at shape old mid def owners forests row from found same first = record {
   line_there = subst (λ (s : BlockState). HasRow (record { block = found.block; state = s; rows = found.rows }) forests.map) first.used first.mapped;
-  room = subst (λ (pages : PageList). HasRoomFor def row (slice_index_or (table_spots ext pages def owners forests.map) found.block OtherBlock)) (sym same) first.room;
+  room = subst (λ (pages : PageList). HasRoomFor def row (slice_index_or (table_spots shape pages def owners forests.map) found.block OtherBlock)) (sym same) first.room;
 }
 
-module _ {S : Type 0} {g : Ghosts S} (ext : Extents) (old mid new : S) (def : TableDef) (owners : List Kind) (forests : TableForests) (row : Row) (from now : Entry → RoomNote)
+module _ {S : Type 0} {g : Ghosts S} (shape : Shape) (noted : SpaceNotes) (old mid new : S) (def : TableDef) (owners : List Kind) (forests : TableForests) (row : Row) (from now : Entry → RoomNote)
     (defined : IsTableDef def.number def) (fits : RowFits def row) (told : (g.state mid).is_told ≡ (g.state old).is_told) (same : (g.state mid).work ≡ (g.state old).work)
-    (ready : IsReadyTable g ext from old def owners forests) where
+    (ready : IsReadyTable g shape noted from old def owners forests) where
   -- the row went into a Used block of its cell that has room, and below which none has
-  placed_in_block : (block : ℕ) (rid : Rid) → rid.block ≡ block → HasRoomFor def row (slice_index_or (spots_of g ext old def owners forests) block OtherBlock)
-      → ((b : ℕ) → b < block → HasRoomFor def row (slice_index_or (spots_of g ext old def owners forests) b OtherBlock) → ⊥) → FillsSlot g ext mid new def rid row owners forests
+  placed_in_block : (block : ℕ) (rid : Rid) → rid.block ≡ block → HasRoomFor def row (slice_index_or (spots_of g shape old def owners forests) block OtherBlock)
+      → ((b : ℕ) → b < block → HasRoomFor def row (slice_index_or (spots_of g shape old def owners forests) b OtherBlock) → ⊥) → FillsSlot g shape noted mid new def rid row owners forests
       → SaysNoMore (now (cell_key_of def row.values)) (found_at block) → ((other : Entry) → other ≢ cell_key_of def row.values → SaysNoMore (now other) (from other))
-      → PlacesRow g ext ext now old new def owners forests row rid
+      → PlacesRow g shape noted noted now old new def owners forests row rid
   placed_in_block block rid at room lowest fills says others =
-      let spots = spots_of g ext old def owners forests in
+      let spots = spots_of g shape old def owners forests in
       let was : slice_index_or spots rid.block OtherBlock ≡ UsedBlock fills.slots =
-      subst (λ (pages : PageList). slice_index_or (table_spots ext pages def owners forests.map) rid.block OtherBlock ≡ UsedBlock fills.slots) same fills.was in
+      subst (λ (pages : PageList). slice_index_or (table_spots shape pages def owners forests.map) rid.block OtherBlock ≡ UsedBlock fills.slots) same fills.was in
       let slots = slice_set fills.slots rid.slot (Some row) in
-      let turns = turns_along ext ext old mid new def owners forests told same SameSpot rid.block (UsedBlock slots) owners fills.forests_now fills.turns in
-      let claims = claims_none (slice_set spots rid.block (UsedBlock slots)) (spots_of g ext new def owners fills.forests_now) turns.spots in
+      let turns = turns_along shape noted noted old mid new def owners forests told same SameSpot rid.block (UsedBlock slots) owners fills.forests_now fills.turns in
+      let claims = claims_none (slice_set spots rid.block (UsedBlock slots)) (spots_of g shape new def owners fills.forests_now) turns.spots in
       let none : (b : ℕ) → b < rid.block → HasRoomFor def row (slice_index_or spots b OtherBlock) → ⊥ = λ b low. lowest b (omega (arith, low, at)) in
       let here : HasRoomFor def row (slice_index_or spots rid.block OtherBlock) = subst (λ (n : ℕ). HasRoomFor def row (slice_index_or spots n OtherBlock)) (sym at) room in
       let within = used_below spots rid.block fills.slots was in
@@ -168,7 +168,7 @@ module _ {S : Type 0} {g : Ghosts S} (ext : Extents) (old mid new : S) (def : Ta
         changes = turns.changes;
         records = turns.records;
         rooms =
-            rooms_noted ext ext old new def owners owners forests fills.forests_now ready.stands turns.changes.stands from ready.rooms now row rid.block slots defined fits claims
+            rooms_noted shape old new def owners owners forests fills.forests_now ready.stands turns.changes.stands from ready.rooms now row rid.block slots defined fits claims
             (in_set fills.slots rid.slot (Some row) fills.lowest.within) none (λ key holds. holds_filled def key fills.slots rid.slot row (fills.lowest.is_it None) (subst (HoldsKey def key) was holds)) within
             (subst (λ (n : ℕ). SaysNoMore (now (cell_key_of def row.values)) (found_at n)) (sym at) says) others;
         mid = slice_set spots rid.block (UsedBlock slots);
@@ -177,28 +177,28 @@ module _ {S : Type 0} {g : Ghosts S} (ext : Extents) (old mid new : S) (def : Ta
       }
 
   -- it is the block that was found
-  pub placed_in_cell : (found : BlockRow) (rid : Rid) (key : Entry) → key ≡ cell_key_of def row.values → IsFirstRoom def (spots_of g ext old def owners forests) forests.map row (from key).from found
-      → rid.block ≡ found.block → FillsSlot g ext mid new def rid row owners forests → SaysNoMore (now key) (found_at found.block) → ((other : Entry) → other ≢ key → SaysNoMore (now other) (from other))
-      → PlacesRow g ext ext now old new def owners forests row rid
+  pub placed_in_cell : (found : BlockRow) (rid : Rid) (key : Entry) → key ≡ cell_key_of def row.values → IsFirstRoom def (spots_of g shape old def owners forests) forests.map row (from key).from found
+      → rid.block ≡ found.block → FillsSlot g shape noted mid new def rid row owners forests → SaysNoMore (now key) (found_at found.block) → ((other : Entry) → other ≢ key → SaysNoMore (now other) (from other))
+      → PlacesRow g shape noted noted now old new def owners forests row rid
   placed_in_cell found rid key is first at fills says others =
-      let spots = spots_of g ext old def owners forests in
+      let spots = spots_of g shape old def owners forests in
       let none : (b : ℕ) → b < found.block → HasRoomFor def row (slice_index_or spots b OtherBlock) → ⊥ =
       none_before def (from key).from spots row found.block (λ n less. none_below def from spots row n ready.rooms (subst (λ (k : Entry). n < (from k).from) is less)) first.lowest in
       placed_in_block found.block rid at first.room none fills (subst (λ (k : Entry). SaysNoMore (now k) (found_at found.block)) is says) (λ other differ. others other (λ e. differ (e ∙ is)))
 
 -- the noted block, where it is known to be of the row's cell
-module _ {S : Type 0} {g : Ghosts S} (ext : Extents) (old : S) (def : TableDef) (owners : List Kind) (forests : TableForests) (row : Row) (from : Entry → RoomNote)
-    (defined : IsTableDef def.number def) (fits : RowFits def row) (ready : IsReadyTable g ext from old def owners forests) (key : Entry) (is : key ≡ cell_key_of def row.values)
+module _ {S : Type 0} {g : Ghosts S} (shape : Shape) (notes : SpaceNotes) (old : S) (def : TableDef) (owners : List Kind) (forests : TableForests) (row : Row) (from : Entry → RoomNote)
+    (defined : IsTableDef def.number def) (fits : RowFits def row) (ready : IsReadyTable g shape notes from old def owners forests) (key : Entry) (is : key ≡ cell_key_of def row.values)
     (note : RoomNote) (noted : note ≡ from key) (known : IsTrue note.is_of_cell) where
   -- it is one of that cell
-  pub noted_of_cell : IsBlockOfCell g ext old def note.from row owners forests
+  pub noted_of_cell : IsBlockOfCell g shape old def note.from row owners forests
   noted_of_cell =
-      let spots = spots_of g ext old def owners forests in
+      let spots = spots_of g shape old def owners forests in
       let holds : HoldsKey def key (slice_index_or spots note.from OtherBlock) =
       subst (λ (n : RoomNote). HoldsKey def key (slice_index_or spots n.from OtherBlock)) (sym noted) (ready.rooms.of_cell key (subst (λ (n : RoomNote). IsTrue n.is_of_cell) noted known)) in
       let used = holds_used def key (slice_index_or spots note.from OtherBlock) holds in
       let other = used.2.0 in
-      let fit = row_fits ext old def owners forests ready.stands note.from used.0 other used.1 used.2.1 in
+      let fit = row_fits shape old def owners forests ready.stands note.from used.0 other used.1 used.2.1 in
       record {
         slots = used.0;
         spot = used.1;
@@ -208,12 +208,12 @@ module _ {S : Type 0} {g : Ghosts S} (ext : Extents) (old : S) (def : TableDef) 
       }
 
   -- and the row went into it
-  pub placed_where_noted : (new : S) (rid : Rid) → rid.block ≡ note.from → HasRoomFor def row (slice_index_or (spots_of g ext old def owners forests) note.from OtherBlock) → FillsSlot g ext old new def rid row owners forests
-      → PlacesRow g ext ext from old new def owners forests row rid
+  pub placed_where_noted : (new : S) (rid : Rid) → rid.block ≡ note.from → HasRoomFor def row (slice_index_or (spots_of g shape old def owners forests) note.from OtherBlock) → FillsSlot g shape notes old new def rid row owners forests
+      → PlacesRow g shape notes notes from old new def owners forests row rid
   placed_where_noted new rid at room fills =
       let here : note ≡ found_at note.from = known_is note known in
-      placed_in_block ext old old new def owners forests row from from defined fits refl refl ready note.from rid at room
-      (λ b low. none_below def from (spots_of g ext old def owners forests) row b ready.rooms (subst (λ (k : Entry). b < (from k).from) is (omega (arith, low, ap (λ (n : RoomNote). n.from) noted))))
+      placed_in_block shape notes old old new def owners forests row from from defined fits refl refl ready note.from rid at room
+      (λ b low. none_below def from (spots_of g shape old def owners forests) row b ready.rooms (subst (λ (k : Entry). b < (from k).from) is (omega (arith, low, ap (λ (n : RoomNote). n.from) noted))))
       fills (inl (subst (λ (k : Entry). from k ≡ found_at note.from) is (sym noted ∙ here))) (λ other differ. inl refl)
 
 -- nothing found from the note on, and nothing below it
@@ -229,82 +229,82 @@ module _ {spots : List Spot} (map_tree : Forest) {def : TableDef} (row : Row) (f
   no_room_found = nowhere (HasRoomFor def row) spots no_room_at
 
 -- the block that comes into use next
-module _ {S : Type 0} {g : Ghosts S} (ext : Extents) (s : S) (def : TableDef) (owners : List Kind) (forests : TableForests) (st : StandsTable g ext s def owners forests) where
+module _ {S : Type 0} {g : Ghosts S} (shape : Shape) (s : S) (def : TableDef) (owners : List Kind) (forests : TableForests) (st : StandsTable g shape s def owners forests) where
   -- it is one of the extents
-  next_within : (block : ℕ) → IsNextBlock owners forests.map block → block < length (spots_of g ext s def owners forests)
-  next_within block (IsNextBlock.free_block lowest) = omega (arith, free_within ext s def owners forests st block lowest.free, length-spots ext (pages_of g s) def owners forests.map)
-  next_within block (IsNextBlock.free_extent none lowest) = omega (arith, lowest.within, st.trees.map.count, length-spots ext (pages_of g s) def owners forests.map)
+  next_within : (block : ℕ) → IsNextBlock owners forests.map block → block < length (spots_of g shape s def owners forests)
+  next_within block (IsNextBlock.free_block lowest) = omega (arith, free_within shape s def owners forests st block lowest.free, length-spots shape (pages_of g s) def owners forests.map)
+  next_within block (IsNextBlock.free_extent none lowest) = omega (arith, lowest.within, st.trees.map.count, length-spots shape (pages_of g s) def owners forests.map)
 
   -- and has no row
-  next_unheld : (block : ℕ) → IsNextBlock owners forests.map block → (key : Entry) → HoldsKey def key (slice_index_or (spots_of g ext s def owners forests) block OtherBlock) → ⊥
-  next_unheld block (IsNextBlock.free_block lowest) key holds = subst (HoldsKey def key) (free_block_spot ext (pages_of g s) def owners forests.map block OtherBlock st.map lowest.free) holds
+  next_unheld : (block : ℕ) → IsNextBlock owners forests.map block → (key : Entry) → HoldsKey def key (slice_index_or (spots_of g shape s def owners forests) block OtherBlock) → ⊥
+  next_unheld block (IsNextBlock.free_block lowest) key holds = subst (HoldsKey def key) (free_block_spot shape (pages_of g s) def owners forests.map block OtherBlock st.map lowest.free) holds
   next_unheld block (IsNextBlock.free_extent none lowest) key holds =
-      subst (HoldsKey def key) (free_spot ext (pages_of g s) def owners forests.map block OtherBlock (omega (arith, lowest.within, st.trees.map.count)) lowest.free) holds
+      subst (HoldsKey def key) (free_spot shape (pages_of g s) def owners forests.map block OtherBlock (omega (arith, lowest.within, st.trees.map.count)) lowest.free) holds
 
 -- where no block has room for a row
-module _ {S : Type 0} {g : Ghosts S} (ext : Extents) (s : S) (def : TableDef) (owners : List Kind) (forests : TableForests) (st : StandsTable g ext s def owners forests) (row : Row)
-    (no_room : HoldsNowhere (HasRoomFor def row) (spots_of g ext s def owners forests)) where
+module _ {S : Type 0} {g : Ghosts S} (shape : Shape) (s : S) (def : TableDef) (owners : List Kind) (forests : TableForests) (st : StandsTable g shape s def owners forests) (row : Row)
+    (no_room : HoldsNowhere (HasRoomFor def row) (spots_of g shape s def owners forests)) where
   -- no block is Free where the block map names none
-  no_free_block : ((other : ℕ) → Contains (free_blocks forests.map) other → ⊥) → HoldsNowhere IsFreeBlock (spots_of g ext s def owners forests)
-  no_free_block none = nowhere IsFreeBlock (spots_of g ext s def owners forests)
-      (λ k holds. none k (free_block_of_spot ext (pages_of g s) def owners forests.map st.map k (free_block_is (slice_index_or (spots_of g ext s def owners forests) k OtherBlock) holds)))
+  no_free_block : ((other : ℕ) → Contains (free_blocks forests.map) other → ⊥) → HoldsNowhere IsFreeBlock (spots_of g shape s def owners forests)
+  no_free_block none = nowhere IsFreeBlock (spots_of g shape s def owners forests)
+      (λ k holds. none k (free_block_of_spot shape (pages_of g s) def owners forests.map st.map k (free_block_is (slice_index_or (spots_of g shape s def owners forests) k OtherBlock) holds)))
 
   -- it goes into the next block
   pub puts_next : (block : ℕ) → IsNextBlock owners forests.map block
-      → PutsRow def (block_slot_count ext def) (spots_of g ext s def owners forests) row (slice_set (spots_of g ext s def owners forests) block (begun_with (block_slot_count ext def) row)) (record { block = block; slot = 0 })
+      → PutsRow def (block_slot_count shape def) (spots_of g shape s def owners forests) row (slice_set (spots_of g shape s def owners forests) block (begun_with (block_slot_count shape def) row)) (record { block = block; slot = 0 })
   puts_next block (IsNextBlock.free_block lowest) =
       PutsRow.in_free_block block no_room
-      (lowest_at IsFreeBlock (spots_of g ext s def owners forests) block FreeBlock (omega (arith, free_within ext s def owners forests st block lowest.free, length-spots ext (pages_of g s) def owners forests.map))
-      (free_block_spot ext (pages_of g s) def owners forests.map block OtherBlock st.map lowest.free) tt
+      (lowest_at IsFreeBlock (spots_of g shape s def owners forests) block FreeBlock (omega (arith, free_within shape s def owners forests st block lowest.free, length-spots shape (pages_of g s) def owners forests.map))
+      (free_block_spot shape (pages_of g s) def owners forests.map block OtherBlock st.map lowest.free) tt
       (λ k less holds.
-      let free = free_block_of_spot ext (pages_of g s) def owners forests.map st.map k (free_block_is (slice_index_or (spots_of g ext s def owners forests) k OtherBlock) holds) in
+      let free = free_block_of_spot shape (pages_of g s) def owners forests.map st.map k (free_block_is (slice_index_or (spots_of g shape s def owners forests) k OtherBlock) holds) in
       omega (arith, lowest.lowest k free (omega arith), less)))
       refl
   puts_next block (IsNextBlock.free_extent none lowest) =
-      let low : block < ext.cap = omega (arith, lowest.within, st.trees.map.count) in
+      let low : block < shape.extents = omega (arith, lowest.within, st.trees.map.count) in
       PutsRow.in_free_extent block no_room (no_free_block none)
-      (lowest_at IsFreeExtent (spots_of g ext s def owners forests) block FreeExtent (omega (arith, low, length-spots ext (pages_of g s) def owners forests.map))
-      (free_spot ext (pages_of g s) def owners forests.map block OtherBlock low lowest.free) tt
+      (lowest_at IsFreeExtent (spots_of g shape s def owners forests) block FreeExtent (omega (arith, low, length-spots shape (pages_of g s) def owners forests.map))
+      (free_spot shape (pages_of g s) def owners forests.map block OtherBlock low lowest.free) tt
       (λ k less holds.
-      let free = free_of_spot ext (pages_of g s) def owners forests.map st.map k (free_extent_is (slice_index_or (spots_of g ext s def owners forests) k OtherBlock) holds) in
+      let free = free_of_spot shape (pages_of g s) def owners forests.map st.map k (free_extent_is (slice_index_or (spots_of g shape s def owners forests) k OtherBlock) holds) in
       lowest.lowest k less free.1))
       refl
 
   -- and where no extent is free either there is no spot for it
-  pub no_spot : ((other : ℕ) → Contains (free_blocks forests.map) other → ⊥) → HasNoFree owners → HasNoSpot def (spots_of g ext s def owners forests) row
+  pub no_spot : ((other : ℕ) → Contains (free_blocks forests.map) other → ⊥) → HasNoFree owners → HasNoSpot def (spots_of g shape s def owners forests) row
   no_spot none none_free = (
     no_room,
     no_free_block none,
-    nowhere IsFreeExtent (spots_of g ext s def owners forests)
+    nowhere IsFreeExtent (spots_of g shape s def owners forests)
         (λ k holds.
-        let free = free_of_spot ext (pages_of g s) def owners forests.map st.map k (free_extent_is (slice_index_or (spots_of g ext s def owners forests) k OtherBlock) holds) in
+        let free = free_of_spot shape (pages_of g s) def owners forests.map st.map k (free_extent_is (slice_index_or (spots_of g shape s def owners forests) k OtherBlock) holds) in
         none_free k (omega (arith, free.0, st.trees.map.count)) free.1),
   )
 
-module _ {S : Type 0} {g : Ghosts S} (before ext : Extents) (old mid new : S) (def : TableDef) (owners : List Kind) (forests : TableForests) (row : Row) (from now : Entry → RoomNote)
+module _ {S : Type 0} {g : Ghosts S} (shape : Shape) (before noted : SpaceNotes) (old mid new : S) (def : TableDef) (owners : List Kind) (forests : TableForests) (row : Row) (from now : Entry → RoomNote)
     (defined : IsTableDef def.number def) (fits : RowFits def row) (told : (g.state mid).is_told ≡ (g.state old).is_told) (same : (g.state mid).work ≡ (g.state old).work)
-    (ready : IsReadyTable g before from old def owners forests) where
+    (ready : IsReadyTable g shape before from old def owners forests) where
   -- the row went into a block that came into use
-  pub placed_in_next : (block : ℕ) (key : Entry) → key ≡ cell_key_of def row.values → FindsRoom def (spots_of g before old def owners forests) forests.map row (from key).from None
-      → BeginsNext g before ext mid new def block row owners forests → SaysNoMore (now key) (found_at block) → ((other : Entry) → other ≢ key → SaysNoMore (now other) (from other))
-      → PlacesRow g before ext now old new def owners forests row (record { block = block; slot = 0 })
+  pub placed_in_next : (block : ℕ) (key : Entry) → key ≡ cell_key_of def row.values → FindsRoom def (spots_of g shape old def owners forests) forests.map row (from key).from None
+      → BeginsNext g shape before noted mid new def block row owners forests → SaysNoMore (now key) (found_at block) → ((other : Entry) → other ≢ key → SaysNoMore (now other) (from other))
+      → PlacesRow g shape before noted now old new def owners forests row (record { block = block; slot = 0 })
   placed_in_next block key is found next says others =
       let begins = next.begins in
-      let spots = spots_of g before old def owners forests in
+      let spots = spots_of g shape old def owners forests in
       let no_room : (b : ℕ) → HasRoomFor def row (slice_index_or spots b OtherBlock) → ⊥ = no_room_at forests.map row from key is ready.rooms found in
-      let turns = turns_along before ext old mid new def owners forests told same AfterClaims block (begun_with (block_slot_count before def) row) begins.owners_now begins.forests_now begins.turns in
+      let turns = turns_along shape before noted old mid new def owners forests told same AfterClaims block (begun_with (block_slot_count shape def) row) begins.owners_now begins.forests_now begins.turns in
       record {
         owners_now = begins.owners_now;
         forests_now = begins.forests_now;
         changes = turns.changes;
         records = turns.records;
         rooms =
-            rooms_noted before ext old new def owners begins.owners_now forests begins.forests_now ready.stands turns.changes.stands from ready.rooms now row block
-            (slice_set (replicate (block_slot_count before def) None) 0 (Some row)) defined fits turns.spots
-            (in_set (replicate (block_slot_count before def) None) 0 (Some row) (omega (arith, some_slots before def.number def defined, length-empty (block_slot_count before def) None)))
-            (λ b low. no_room b) (λ other holds. absurd (next_unheld before old def owners forests ready.stands block (next.next ready.notes) other holds))
-            (next_within before old def owners forests ready.stands block (next.next ready.notes)) (subst (λ (k : Entry). SaysNoMore (now k) (found_at block)) is says) (λ other differ. others other (λ e. differ (e ∙ is)));
-        mid = slice_set spots block (begun_with (block_slot_count before def) row);
-        puts = puts_next before old def owners forests ready.stands row (nowhere (HasRoomFor def row) (spots_of g before old def owners forests) no_room) block (next.next ready.notes);
+            rooms_noted shape old new def owners begins.owners_now forests begins.forests_now ready.stands turns.changes.stands from ready.rooms now row block
+            (slice_set (replicate (block_slot_count shape def) None) 0 (Some row)) defined fits turns.spots
+            (in_set (replicate (block_slot_count shape def) None) 0 (Some row) (omega (arith, some_slots shape def.number def defined, length-empty (block_slot_count shape def) None)))
+            (λ b low. no_room b) (λ other holds. absurd (next_unheld shape old def owners forests ready.stands block (next.next ready.notes) other holds))
+            (next_within shape old def owners forests ready.stands block (next.next ready.notes)) (subst (λ (k : Entry). SaysNoMore (now k) (found_at block)) is says) (λ other differ. others other (λ e. differ (e ∙ is)));
+        mid = slice_set spots block (begun_with (block_slot_count shape def) row);
+        puts = puts_next shape old def owners forests ready.stands row (nowhere (HasRoomFor def row) (spots_of g shape old def owners forests) no_room) block (next.next ready.notes);
         claims = turns.spots;
       }

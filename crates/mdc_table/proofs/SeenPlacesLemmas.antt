@@ -4,7 +4,7 @@ use Rattle.mdc_values.specs.declared.rid.Rid.{Rid}
 use Rattle.mdc_ast.specs.declared.definition.TableDef.{TableDef}
 use Rattle.mdc_ast.specs.declared.row.Row.{Row}
 use Rattle.store_api.specs.declared.pages.Pages.{Ghosts}
-use Rattle.extent_map.specs.declared.extents.Extents.{Extents}
+use Rattle.store_api.specs.declared.shape.Shape.{Shape}
 use Rattle.entry_tree.specs.Forest.{Forest}
 use Rattle.entry_tree.specs.HeldTrees.{HoldsTree}
 use Rattle.entry_tree.specs.declared.tree.Tree.{Tree}
@@ -37,7 +37,7 @@ module _ {S : Type 0} {g : Ghosts S} (s : S) (def : TableDef) (tree : Tree) (roo
 -- ---- the slot
 
 -- a slot of a Used block, behind a call that changed nothing
-pub sees_place : {S : Type 0} {g : Ghosts S} (ext : Extents) (old mid : S) (def : TableDef) (rid : Rid) (row : Option Row) → (g.state mid).work ≡ (g.state old).work
-    → IsUsedInMap g old def rid.block → SeesSlot ext (pages_of g mid) def rid row → SeesPlace g ext old def rid row
-sees_place ext old mid def rid None same used slot = inl (record { used = used; slot = subst (λ pages. SeesSlot ext pages def rid None) same slot })
-sees_place ext old mid def rid (Some row) same used slot = record { used = used; slot = subst (λ pages. SeesSlot ext pages def rid (Some row)) same slot }
+pub sees_place : {S : Type 0} {g : Ghosts S} (shape : Shape) (old mid : S) (def : TableDef) (rid : Rid) (row : Option Row) → (g.state mid).work ≡ (g.state old).work
+    → IsUsedInMap g old def rid.block → SeesSlot shape (pages_of g mid) def rid row → SeesPlace g shape old def rid row
+sees_place shape old mid def rid None same used slot = inl (record { used = used; slot = subst (λ pages. SeesSlot shape pages def rid None) same slot })
+sees_place shape old mid def rid (Some row) same used slot = record { used = used; slot = subst (λ pages. SeesSlot shape pages def rid (Some row)) same slot }

@@ -11,8 +11,9 @@ use Rattle.mdc_ast.specs.declared.row.Row.{Row}
 use Rattle.mdc_ast.specs.Definitions.{are_there, places_of}
 use Rattle.store_api.specs.declared.fault.StoreFault.{StoreFault}
 use Rattle.store_api.specs.declared.pages.Pages.{Ghosts}
-use Rattle.extent_map.specs.declared.extents.Extents.{Extents}
+use Rattle.store_api.specs.declared.shape.Shape.{Shape}
 use Rattle.extent_map.specs.declared.kind.Kind.{Kind}
+use Rattle.extent_map.specs.declared.space_notes.SpaceNotes.{SpaceNotes}
 use Rattle.key_codec.proofs.KeyLemmas.{first_there}
 use Rattle.table_trees.specs.TableTrees.{rising_parts}
 use Rattle.block_index.specs.Cells.{HaveKeys}
@@ -65,77 +66,77 @@ same_spots (x ∷ xs) (y ∷ ys) all = let first : x ≡ y = all.0 in let rest :
 module _ {S : Type 0} {g : Ghosts S} where
   -- ---- no row lies where there is no such extent or no such slot
 
-  none_lies : (ext : Extents) (s : S) (def : TableDef) (rid : Rid) → (ext.cap ≤ rid.block) ⊎ (block_slot_count ext def ≤ rid.slot) → (row : Row) (slots : List (Option Row)) (owners : List Kind) (forests : TableForests)
-      → StandsTable g ext s def owners forests → IsRowAt (spots_of g ext s def owners forests) rid row slots → ⊥
-  none_lies ext s def rid past row slots owners forests st lies =
-      let within = lies_within ext s def owners forests st rid row slots lies in
+  none_lies : (shape : Shape) (s : S) (def : TableDef) (rid : Rid) → (shape.extents ≤ rid.block) ⊎ (block_slot_count shape def ≤ rid.slot) → (row : Row) (slots : List (Option Row)) (owners : List Kind) (forests : TableForests)
+      → StandsTable g shape s def owners forests → IsRowAt (spots_of g shape s def owners forests) rid row slots → ⊥
+  none_lies shape s def rid past row slots owners forests st lies =
+      let within = lies_within shape s def owners forests st rid row slots lies in
       elim past [ inl high ↦ omega (arith, high, within.0) | inr high ↦ omega (arith, high, within.1) ]
 
   -- so damage is named where one should lie
-  pub no_row_there : (ext : Extents) (s : S) (def : TableDef) (rid : Rid) → (ext.cap ≤ rid.block) ⊎ (block_slot_count ext def ≤ rid.slot)
-      → BreaksExpected g ext s def (HasRowAt g ext s def rid) (record { page = def.roots.map; rule = 6 })
-  no_row_there ext s def rid past = record {
+  pub no_row_there : (shape : Shape) (s : S) (def : TableDef) (rid : Rid) → (shape.extents ≤ rid.block) ⊎ (block_slot_count shape def ≤ rid.slot)
+      → BreaksExpected g shape s def (HasRowAt g shape s def rid) (record { page = def.roots.map; rule = 6 })
+  no_row_there shape s def rid past = record {
     names = NamesTablePart.block_map refl refl;
-    broken = λ owners forests st has. none_lies ext s def rid past has.row has.slots owners forests st has.lies;
+    broken = λ owners forests st has. none_lies shape s def rid past has.row has.slots owners forests st has.lies;
   }
 
   -- or where this one should
-  pub not_this_row_there : (ext : Extents) (s : S) (def : TableDef) (rid : Rid) (row : Row) → (ext.cap ≤ rid.block) ⊎ (block_slot_count ext def ≤ rid.slot)
-      → BreaksExpected g ext s def (HasThisRow g ext s def rid row) (record { page = def.roots.map; rule = 6 })
-  not_this_row_there ext s def rid row past = record {
+  pub not_this_row_there : (shape : Shape) (s : S) (def : TableDef) (rid : Rid) (row : Row) → (shape.extents ≤ rid.block) ⊎ (block_slot_count shape def ≤ rid.slot)
+      → BreaksExpected g shape s def (HasThisRow g shape s def rid row) (record { page = def.roots.map; rule = 6 })
+  not_this_row_there shape s def rid row past = record {
     names = NamesTablePart.block_map refl refl;
-    broken = λ owners forests st has. none_lies ext s def rid past row has.slots owners forests st has.lies;
+    broken = λ owners forests st has. none_lies shape s def rid past row has.slots owners forests st has.lies;
   }
 
   -- ---- a row less
 
-  module _ (before ext : Extents) (old new : S) (def : TableDef) (rid : Rid) (row : Row) (owners : List Kind) (forests : TableForests) (from now : Entry → RoomNote) (ready : IsReadyTable g before from old def owners forests)
-      (empties : EmptiesSlot g before ext old new def rid row owners forests) where
-    row_out : AreRightRooms def now (spots_of g ext new def empties.owners_now empties.forests_now) → TakesRowOut g before ext now old new def owners forests row rid
+  module _ (shape : Shape) (before noted : SpaceNotes) (old new : S) (def : TableDef) (rid : Rid) (row : Row) (owners : List Kind) (forests : TableForests) (from now : Entry → RoomNote) (ready : IsReadyTable g shape before from old def owners forests)
+      (empties : EmptiesSlot g shape before noted old new def rid row owners forests) where
+    row_out : AreRightRooms def now (spots_of g shape new def empties.owners_now empties.forests_now) → TakesRowOut g shape before noted now old new def owners forests row rid
     row_out rooms = record {
       owners_now = empties.owners_now;
       forests_now = empties.forests_now;
       changes = empties.turns.changes;
       records = empties.turns.records;
       rooms = rooms;
-      mid = slice_set (spots_of g before old def owners forests) rid.block (left_with (slice_set empties.slots rid.slot None));
+      mid = slice_set (spots_of g shape old def owners forests) rid.block (left_with (slice_set empties.slots rid.slot None));
       takes = record { slots = empties.slots; lies = empties.lies; is_left = refl };
       returns = empties.turns.spots;
     }
 
     -- a row was taken out, and the note of its cell lowered
-    pub row_taken : LowersNoteOf def row rid.block from now → TakesRowOut g before ext now old new def owners forests row rid
+    pub row_taken : LowersNoteOf def row rid.block from now → TakesRowOut g shape before noted now old new def owners forests row rid
     row_taken lowers =
-        row_out (rooms_lowered before ext old new def owners empties.owners_now forests empties.forests_now ready.stands empties.turns.changes.stands from ready.rooms now rid row empties.slots empties.lies
+        row_out (rooms_lowered shape old new def owners empties.owners_now forests empties.forests_now ready.stands empties.turns.changes.stands from ready.rooms now rid row empties.slots empties.lies
         empties.turns.spots lowers)
 
   -- a row was taken out of a block that had room before, and others are left in it
-  pub row_taken_of_several : (before ext : Extents) (old new : S) (def : TableDef) (rid : Rid) (row : Row) (owners : List Kind) (forests : TableForests) (from : Entry → RoomNote) (left : ℕ)
-      → IsReadyTable g before from old def owners forests → EmptiesSlot g before ext old new def rid row owners forests
-      → ((slots : List (Option Row)) → IsRowAt (spots_of g before old def owners forests) rid row slots → count_rows slots ≡ left + 1) → 0 < left → left + 1 < block_slot_count before def
-      → TakesRowOut g before ext from old new def owners forests row rid
-  row_taken_of_several before ext old new def rid row owners forests from left ready empties counts several fewer =
+  pub row_taken_of_several : (shape : Shape) (before noted : SpaceNotes) (old new : S) (def : TableDef) (rid : Rid) (row : Row) (owners : List Kind) (forests : TableForests) (from : Entry → RoomNote) (left : ℕ)
+      → IsReadyTable g shape before from old def owners forests → EmptiesSlot g shape before noted old new def rid row owners forests
+      → ((slots : List (Option Row)) → IsRowAt (spots_of g shape old def owners forests) rid row slots → count_rows slots ≡ left + 1) → 0 < left → left + 1 < block_slot_count shape def
+      → TakesRowOut g shape before noted from old new def owners forests row rid
+  row_taken_of_several shape before noted old new def rid row owners forests from left ready empties counts several fewer =
       let counted = counts empties.slots empties.lies in
       let less = count_cleared empties.slots rid.slot row empties.lies.slot in
-      let long = length-slots_at before old def owners forests ready.stands rid row empties.slots empties.lies in
-      row_out before ext old new def rid row owners forests from from ready empties
-      (rooms_left before ext old new def owners empties.owners_now forests empties.forests_now ready.stands empties.turns.changes.stands from ready.rooms rid row empties.slots empties.lies empties.turns.spots
+      let long = length-slots_at shape old def owners forests ready.stands rid row empties.slots empties.lies in
+      row_out shape before noted old new def rid row owners forests from from ready empties
+      (rooms_left shape old new def owners empties.owners_now forests empties.forests_now ready.stands empties.turns.changes.stands from ready.rooms rid row empties.slots empties.lies empties.turns.spots
       (empty_slot empties.slots (omega (arith, counted, long, fewer))) (omega (arith, counted, less, several)))
 
 -- a row was written over
-pub row_overwritten : {S : Type 0} (g : Ghosts S) (ext : Extents) (old new : S) (def : TableDef) (rid : Rid) (row : Row) (from : Entry → RoomNote) (result : Result (Unit {0}) StoreFault)
-    → OnOk result ((owners : List Kind) (forests : TableForests) (was : Row) (slots : List (Option Row)) → StandsTable g ext old def owners forests
-    → IsRowAt (spots_of g ext old def owners forests) rid was slots → AreOfOneCell def was.values row.values
-    → TurnsSpot g SameSpot ext ext old new def rid.block (UsedBlock (slice_set slots rid.slot (Some row))) owners forests owners forests)
-    → OnOk result ((owners : List Kind) (forests : TableForests) (was : Row) → IsReadyTable g ext from old def owners forests → HasRowOfCell g ext old def rid was row owners forests
-    → OverwritesRow g ext ext from old new def owners forests was row rid)
-row_overwritten g ext old new def rid row from (Ok x) turns = λ owners forests was ready has.
-    let turned = turns owners forests was has.slots ready.stands has.lies has.one_cell in
+pub row_overwritten : {S : Type 0} (g : Ghosts S) (shape : Shape) (old new : S) (def : TableDef) (rid : Rid) (row : Row) (from : Entry → RoomNote) (result : Result (Unit {0}) StoreFault)
+    → OnOk result ((noted : SpaceNotes) (owners : List Kind) (forests : TableForests) (was : Row) (slots : List (Option Row)) → StandsTable g shape old def owners forests
+    → IsRowAt (spots_of g shape old def owners forests) rid was slots → AreOfOneCell def was.values row.values
+    → TurnsSpot g SameSpot shape noted noted old new def rid.block (UsedBlock (slice_set slots rid.slot (Some row))) owners forests owners forests)
+    → OnOk result ((noted : SpaceNotes) (owners : List Kind) (forests : TableForests) (was : Row) → IsReadyTable g shape noted from old def owners forests → HasRowOfCell g shape old def rid was row owners forests
+    → OverwritesRow g shape noted noted from old new def owners forests was row rid)
+row_overwritten g shape old new def rid row from (Ok x) turns = λ noted owners forests was ready has.
+    let turned = turns noted owners forests was has.slots ready.stands has.lies has.one_cell in
     record {
       changes = turned.changes;
-      rooms = rooms_overwritten ext ext old new def owners owners forests forests ready.stands turned.changes.stands from ready.rooms rid was row has.slots has.lies has.one_cell turned.spots;
+      rooms = rooms_overwritten shape old new def owners owners forests forests ready.stands turned.changes.stands from ready.rooms rid was row has.slots has.lies has.one_cell turned.spots;
       slots = has.slots;
       lay = has.lies;
-      spots = sym (same_spots (slice_set (spots_of g ext old def owners forests) rid.block (UsedBlock (slice_set has.slots rid.slot (Some row)))) (spots_of g ext new def owners forests) turned.spots);
+      spots = sym (same_spots (slice_set (spots_of g shape old def owners forests) rid.block (UsedBlock (slice_set has.slots rid.slot (Some row)))) (spots_of g shape new def owners forests) turned.spots);
     }
-row_overwritten g ext old new def rid row from (Err fault) turns = tt
+row_overwritten g shape old new def rid row from (Err fault) turns = tt

@@ -4,7 +4,7 @@ use Rattle.mdc_values.specs.declared.rid.Rid.{Rid}
 use Rattle.mdc_ast.specs.declared.definition.TableDef.{TableDef}
 use Rattle.mdc_ast.specs.declared.row.Row.{Row}
 use Rattle.store_api.specs.declared.pages.Pages.{Ghosts}
-use Rattle.extent_map.specs.declared.extents.Extents.{Extents}
+use Rattle.store_api.specs.declared.shape.Shape.{Shape}
 use Rattle.entry_tree.specs.Forest.{Forest}
 use Rattle.block_map.specs.BlockMaps.{FindsBlock}
 use Rattle.block_map.specs.declared.row.BlockRow.{BlockRow}
@@ -26,11 +26,11 @@ pub record IsSeenUnused {S : Type 0} (g : Ghosts S) (s : S) (def : TableDef) (bl
   pub unused : IsUnusedRow found
 
 -- there is no such extent, or no such slot
-abbrev pub IsNoPlace : Extents → TableDef → Rid → Type 0
-IsNoPlace ext def rid = (ext.cap ≤ rid.block) ⊎ (block_slot_count ext def ≤ rid.slot)
+abbrev pub IsNoPlace : Shape → TableDef → Rid → Type 0
+IsNoPlace shape def rid = (shape.extents ≤ rid.block) ⊎ (block_slot_count shape def ≤ rid.slot)
 
 -- A row was seen in a slot of a Used block. Where none was found, such a slot was seen empty, or the block isn't Used, or there is no
 -- such place.
-abbrev pub SeesPlace : {S : Type 0} → Ghosts S → Extents → S → TableDef → Rid → Option Row → Type 0
-SeesPlace g ext s def rid None = SeesUsedSlot g ext s def rid None ⊎ (IsSeenUnused g s def rid.block ⊎ IsNoPlace ext def rid)
-SeesPlace g ext s def rid (Some row) = SeesUsedSlot g ext s def rid (Some row)
+abbrev pub SeesPlace : {S : Type 0} → Ghosts S → Shape → S → TableDef → Rid → Option Row → Type 0
+SeesPlace g shape s def rid None = SeesUsedSlot g shape s def rid None ⊎ (IsSeenUnused g s def rid.block ⊎ IsNoPlace shape def rid)
+SeesPlace g shape s def rid (Some row) = SeesUsedSlot g shape s def rid (Some row)

@@ -4,7 +4,7 @@ use Rattle.mdc_values.specs.declared.rid.Rid.{Rid}
 use Rattle.mdc_ast.specs.declared.definition.TableDef.{TableDef}
 use Rattle.mdc_ast.specs.declared.row.Row.{Row}
 use Rattle.store_api.specs.declared.pages.Pages.{Ghosts}
-use Rattle.extent_map.specs.declared.extents.Extents.{Extents}
+use Rattle.store_api.specs.declared.shape.Shape.{Shape}
 use Rattle.extent_map.specs.declared.kind.Kind.{Kind}
 use Rattle.entry_tree.specs.Forest.{Forest}
 use Rattle.block_map.specs.MapLines.{free_blocks, pending_blocks, used_blocks}
@@ -26,11 +26,11 @@ pub record CountsBlocks (map_tree : Forest) (account : Account) : Type 0 where
   pub pending : account.pending ≡ length (pending_blocks map_tree)
 
 -- a row lies in a place, and another one is of its cell
-pub record HasRowOfCell {S : Type 0} (g : Ghosts S) (ext : Extents) (s : S) (def : TableDef) (rid : Rid) (row other : Row) (owners : List Kind) (forests : TableForests) : Type 0 where
+pub record HasRowOfCell {S : Type 0} (g : Ghosts S) (shape : Shape) (s : S) (def : TableDef) (rid : Rid) (row other : Row) (owners : List Kind) (forests : TableForests) : Type 0 where
   pub slots : List (Option Row)
-  pub lies : IsRowAt (spots_of g ext s def owners forests) rid row slots
+  pub lies : IsRowAt (spots_of g shape s def owners forests) rid row slots
   pub one_cell : AreOfOneCell def row.values other.values
 
 -- the pages that looking for the row of a place brings to hand: those of the block map, where it is a tree, and of the block
-abbrev pub IsRowLook : {S : Type 0} → Ghosts S → Extents → S → TableDef → ℕ → ℕ → Type 0
-IsRowLook g ext s def block p = IsTreePageAt g s (map_place def) p ⊎ IsPageOfBlock ext block p
+abbrev pub IsRowLook : {S : Type 0} → Ghosts S → Shape → S → TableDef → ℕ → ℕ → Type 0
+IsRowLook g shape s def block p = IsTreePageAt g s (map_place def) p ⊎ IsPageOfBlock shape block p

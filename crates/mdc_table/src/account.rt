@@ -12,10 +12,9 @@ ghost use Rattle.mdc_sound.specs.StandingTable.{BreaksTable, StandsTable, TableF
 ghost use Rattle.mdc_table.specs.TableReading.{CountsBlocks};
 
 use block_map::{BlockMap, BlockState};
-use extent_map::Extents;
 use mdc_ast::TableDef;
 use std::alloc::Global;
-use store_api::{Pages, StoreFault};
+use store_api::{Pages, Shape, StoreFault};
 
 /// How many blocks of a table are in each state.
 #[derive(Clone, Copy, Debug, PartialEq, Eq)]
@@ -29,17 +28,17 @@ pub struct Account {
 pub fn account_of<P: Pages>(
     alloc: Global,
     def: &TableDef,
-    ext: &Extents,
+    shape: Shape,
     pages: &mut P,
 ) -> Result<Account, StoreFault>
     requires going { (P.state pages.old).ended ≡ false }
-    ensures counts { IfOk result (λ account. (owners : List Kind) (forests : TableForests) → StandsTable P.Pages ext.now pages.old def.now owners forests → CountsBlocks forests.map account) }
+    ensures counts { IfOk result (λ account. (owners : List Kind) (forests : TableForests) → StandsTable P.Pages shape pages.old def.now owners forests → CountsBlocks forests.map account) }
     ensures same { (P.state pages.new).work ≡ (P.state pages.old).work }
-    ensures runs { RunsOverPages P.Pages NoPage (IsTreePageAt P.Pages pages.old (map_place def.now)) (BreaksTable P.Pages ext.now pages.old def.now) pages.old pages.new (fault_of result) }
+    ensures runs { RunsOverPages P.Pages NoPage (IsTreePageAt P.Pages pages.old (map_place def.now)) (BreaksTable P.Pages shape pages.old def.now) pages.old pages.new (fault_of result) }
 {
-    let used = count_blocks(alloc, def, ext, pages, BlockState::Used)?;
-    let free = count_blocks(alloc, def, ext, pages, BlockState::Free)?;
-    let pending = count_blocks(alloc, def, ext, pages, BlockState::Pending)?;
+    let used = count_blocks(alloc, def, shape, pages, BlockState::Used)?;
+    let free = count_blocks(alloc, def, shape, pages, BlockState::Free)?;
+    let pending = count_blocks(alloc, def, shape, pages, BlockState::Pending)?;
     Ok(Account {
         used,
         free,
@@ -51,16 +50,16 @@ pub fn account_of<P: Pages>(
 fn count_blocks<P: Pages>(
     alloc: Global,
     def: &TableDef,
-    ext: &Extents,
+    shape: Shape,
     pages: &mut P,
     state: BlockState,
 ) -> Result<u64, StoreFault>
     requires going { (P.state pages.old).ended ≡ false }
-    ensures counts { IfOk result (λ count. (owners : List Kind) (forests : TableForests) → StandsTable P.Pages ext.now pages.old def.now owners forests → count ≡ length (blocks_of_state (state_number state) forests.map)) }
+    ensures counts { IfOk result (λ count. (owners : List Kind) (forests : TableForests) → StandsTable P.Pages shape pages.old def.now owners forests → count ≡ length (blocks_of_state (state_number state) forests.map)) }
     ensures same { (P.state pages.new).work ≡ (P.state pages.old).work }
-    ensures runs { RunsOverPages P.Pages NoPage (IsTreePageAt P.Pages pages.old (map_place def.now)) (BreaksTable P.Pages ext.now pages.old def.now) pages.old pages.new (fault_of result) }
+    ensures runs { RunsOverPages P.Pages NoPage (IsTreePageAt P.Pages pages.old (map_place def.now)) (BreaksTable P.Pages shape pages.old def.now) pages.old pages.new (fault_of result) }
 {
-    let _ext = ext;
+    let _shape = shape;
     let blocks = BlockMap::at(alloc, def.roots.map).list(pages, state)?;
     Ok(blocks.len() as u64)
 }

@@ -2,10 +2,10 @@
 ghost use Rattle.std.specs.Prelude.{◌≡◌, ◌<◌};
 ghost use Rattle.store_api.specs.Extents.{first_page_of};
 
-use extent_map::Extents;
+use extent_map::first_page;
 use mdc_ast::TableDef;
 use store_api::rules::{BLOCK_MAPS_RULE, CELLS_RULE};
-use store_api::{Damage, StoreFault};
+use store_api::{Damage, Shape, StoreFault};
 
 /// The block map doesn't say of a block what it should.
 pub(crate) fn unmapped(def: &TableDef) -> StoreFault
@@ -18,12 +18,12 @@ pub(crate) fn unmapped(def: &TableDef) -> StoreFault
 }
 
 /// A row of a block isn't of the block's cell.
-pub(crate) fn strayed(ext: &Extents, block: u32) -> StoreFault
-    requires { block < ext.now.cap }
-    ensures { result ≡ StoreFault.Damaged (record { page = first_page_of ext.now.cap ext.now.extent_pages block; rule = 9 }) }
+pub(crate) fn strayed(shape: Shape, block: u32) -> StoreFault
+    requires { block < shape.extents }
+    ensures { result ≡ StoreFault.Damaged (record { page = first_page_of shape.extents shape.extent_pages block; rule = 9 }) }
 {
     StoreFault::Damaged(Damage {
-        page: ext.first_page(block),
+        page: first_page(shape, block),
         rule: CELLS_RULE,
     })
 }

@@ -17,11 +17,10 @@ ghost use Rattle.mdc_table.specs.SeenBlocks.{HasSeenBlock, IsListedSo};
 
 use crate::faults::{strayed, unmapped};
 use block_rows::{CellColumns, RowSink, scan_block};
-use extent_map::Extents;
 use mdc_ast::{Cell, TableDef};
 use row_filter::RowFilter;
 use std::alloc::Global;
-use store_api::{Pages, StoreFault};
+use store_api::{Pages, Shape, StoreFault};
 use table_blocks::miscounted;
 
 /// A Used block as the trees of its table list it: how many rows its line in the block map says that it has, and the cell under
@@ -39,7 +38,7 @@ pub struct ListedBlock {
 pub fn scan_listed_block<P: Pages, K: RowSink>(
     alloc: Global,
     def: &TableDef,
-    ext: &Extents,
+    shape: Shape,
     pages: &mut P,
     cells: &CellColumns,
     listed: &ListedBlock,
@@ -54,23 +53,23 @@ pub fn scan_listed_block<P: Pages, K: RowSink>(
     requires fits { K.RowSink.is_for def.now.columns sink.old }
     requires going { (P.state pages.old).ended ≡ false }
     ensures given { OnOk result (IsTrue (P.state pages.old).is_told
-        → WasGiven K.RowSink sink.old sink.new (qualifying filter.old.pred.now (rows_in_block ext.now (pages_of P.Pages pages.old) def.now listed.now.block))) }
-    ensures seen { OnOk result (IsTrue (P.state pages.old).is_told → HasSeenBlock ext.now (pages_of P.Pages pages.old) def.now listed.now) }
+        → WasGiven K.RowSink sink.old sink.new (qualifying filter.old.pred.now (rows_in_block shape (pages_of P.Pages pages.old) def.now listed.now.block))) }
+    ensures seen { OnOk result (IsTrue (P.state pages.old).is_told → HasSeenBlock shape (pages_of P.Pages pages.old) def.now listed.now) }
     ensures fits { OnOk result (K.RowSink.is_for def.now.columns sink.new) }
     ensures pred { filter.new.pred.now ≡ filter.old.pred.now }
     ensures width { length filter.new.values ≡ length filter.old.values }
     ensures same { (P.state pages.new).work ≡ (P.state pages.old).work }
-    ensures once { BringsOnce P.Pages (IsPageOfBlock ext.now listed.now.block) pages.old pages.new }
-    ensures runs { RunsOverPages P.Pages NoPage (IsPageOfBlock ext.now listed.now.block) (BreaksExpected P.Pages ext.now pages.old def.now (IsListedSo P.Pages ext.now pages.old def.now listed.now)) pages.old pages.new (fault_of result) }
+    ensures once { BringsOnce P.Pages (IsPageOfBlock shape listed.now.block) pages.old pages.new }
+    ensures runs { RunsOverPages P.Pages NoPage (IsPageOfBlock shape listed.now.block) (BreaksExpected P.Pages shape pages.old def.now (IsListedSo P.Pages shape pages.old def.now listed.now)) pages.old pages.new (fault_of result) }
 {
     let block = listed.block;
-    if block >= ext.cap {
+    if block >= shape.extents {
         return Err(unmapped(def));
     }
     let seen = scan_block(
         alloc,
         def,
-        ext,
+        shape,
         pages,
         block,
         cells,
@@ -79,10 +78,10 @@ pub fn scan_listed_block<P: Pages, K: RowSink>(
         sink,
     )?;
     if seen.rows != u32::from(listed.rows) {
-        return Err(miscounted(ext, block));
+        return Err(miscounted(shape, block));
     }
     if !seen.in_cell {
-        return Err(strayed(ext, block));
+        return Err(strayed(shape, block));
     }
     Ok(())
 }

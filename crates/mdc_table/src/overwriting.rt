@@ -3,6 +3,7 @@ ghost use Rattle.std.specs.Prelude.{◌≡◌, ◌≢◌, List, Some, false, len
 ghost use Rattle.store_api.specs.Causes.{fault_of};
 ghost use Rattle.store_api.specs.RunsOverPages.{RunsOverPages};
 ghost use Rattle.extent_map.specs.declared.kind.Kind.{Kind};
+ghost use Rattle.extent_map.specs.declared.space_notes.SpaceNotes.{SpaceNotes};
 ghost use Rattle.mdc_ast.specs.declared.row.Row.{Row};
 ghost use Rattle.mdc_ast.specs.TableLimits.{IsTableDef};
 ghost use Rattle.table_trees.specs.SpaceChanges.{IsSameSpace};
@@ -16,12 +17,11 @@ ghost use Rattle.mdc_table.specs.TableReading.{HasRowOfCell};
 
 use crate::faults::unmapped;
 use crate::reading::block_slots;
-use extent_map::Extents;
 use free_space::Rooms;
 use mdc_ast::{Row, TableDef};
 use mdc_values::Rid;
 use std::alloc::Global;
-use store_api::{Pages, StoreFault};
+use store_api::{Pages, Shape, StoreFault};
 use table_blocks::overwrite_row_of_used;
 
 /// Puts a row into the place of one that lies there and is of the same cell. Damaged where none lies there. The block map isn't asked
@@ -30,7 +30,7 @@ use table_blocks::overwrite_row_of_used;
 pub fn overwrite_row<P: Pages>(
     alloc: Global,
     def: &TableDef,
-    ext: &Extents,
+    shape: Shape,
     rooms: &Rooms,
     pages: &mut P,
     known: Option<u32>,
@@ -40,25 +40,25 @@ pub fn overwrite_row<P: Pages>(
     requires defined { IsTableDef def.now.number def.now }
     requires fits { RowFits def.now row.now }
     requires going { (P.state pages.old).ended ≡ false }
-    ensures overwrites { OnOk result ((owners : List Kind) (forests : TableForests) (was : Row) → IsReadyTable P.Pages ext.now (room_of rooms.now) pages.old def.now owners forests
-        → HasRowOfCell P.Pages ext.now pages.old def.now rid was row.now owners forests
-        → OverwritesRow P.Pages ext.now ext.now (room_of rooms.now) pages.old pages.new def.now owners forests was row.now rid) }
-    ensures makes { OnOk result ((owners : List Kind) (forests : TableForests) → IsReadyTable P.Pages ext.now (room_of rooms.now) pages.old def.now owners forests
-        → HasRowAt P.Pages ext.now pages.old def.now rid owners forests → IsSameSpace ext.now (pages_of P.Pages pages.old) (pages_of P.Pages pages.new)) }
-    ensures seen { OnOk result (IsTrue (P.state pages.old).is_told → SeesSomeRow (SeesSlot ext.now (pages_of P.Pages pages.old) def.now rid)) }
+    ensures overwrites { OnOk result ((noted : SpaceNotes) (owners : List Kind) (forests : TableForests) (was : Row) → IsReadyTable P.Pages shape noted (room_of rooms.now) pages.old def.now owners forests
+        → HasRowOfCell P.Pages shape pages.old def.now rid was row.now owners forests
+        → OverwritesRow P.Pages shape noted noted (room_of rooms.now) pages.old pages.new def.now owners forests was row.now rid) }
+    ensures makes { OnOk result ((noted : SpaceNotes) (owners : List Kind) (forests : TableForests) → IsReadyTable P.Pages shape noted (room_of rooms.now) pages.old def.now owners forests
+        → HasRowAt P.Pages shape pages.old def.now rid owners forests → IsSameSpace shape (pages_of P.Pages pages.old) (pages_of P.Pages pages.new)) }
+    ensures seen { OnOk result (IsTrue (P.state pages.old).is_told → SeesSomeRow (SeesSlot shape (pages_of P.Pages pages.old) def.now rid)) }
     ensures used { OnOk result (IsTrue (P.state pages.old).is_told → known ≢ Some rid.block → IsUsedInMap P.Pages pages.old def.now rid.block) }
-    ensures stay { (owners : List Kind) (forests : TableForests) → IsReadyTable P.Pages ext.now (room_of rooms.now) pages.old def.now owners forests → KeepsBlocksBut P.Pages ext.now pages.old pages.new def.now owners (λ block. block ≡ rid.block) }
+    ensures stay { (noted : SpaceNotes) (owners : List Kind) (forests : TableForests) → IsReadyTable P.Pages shape noted (room_of rooms.now) pages.old def.now owners forests → KeepsBlocksBut P.Pages shape pages.old pages.new def.now owners (λ block. block ≡ rid.block) }
     ensures count { length (P.state pages.new).work ≡ length (P.state pages.old).work }
-    ensures runs { RunsOverPages P.Pages (IsExpectedPlace P.Pages ext.now pages.old def.now (IsUsedIfKnown known rid.block))
-        (IsExpectedPlace P.Pages ext.now pages.old def.now (IsUsedIfKnown known rid.block))
-        (BreaksExpected P.Pages ext.now pages.old def.now (HasRowAt P.Pages ext.now pages.old def.now rid)) pages.old pages.new (fault_of result) }
+    ensures runs { RunsOverPages P.Pages (IsExpectedPlace P.Pages shape pages.old def.now (IsUsedIfKnown known rid.block))
+        (IsExpectedPlace P.Pages shape pages.old def.now (IsUsedIfKnown known rid.block))
+        (BreaksExpected P.Pages shape pages.old def.now (HasRowAt P.Pages shape pages.old def.now rid)) pages.old pages.new (fault_of result) }
 {
     let _rooms = rooms;
-    if rid.block >= ext.cap || u32::from(rid.slot) >= block_slots(def, ext) {
+    if rid.block >= shape.extents || u32::from(rid.slot) >= block_slots(def, shape) {
         return Err(unmapped(def));
     }
     if known == Some(rid.block) {
-        return overwrite_row_of_used(def, ext, pages, rid, row);
+        return overwrite_row_of_used(def, shape, pages, rid, row);
     }
-    table_blocks::overwrite_row(alloc, def, ext, pages, rid, row)
+    table_blocks::overwrite_row(alloc, def, shape, pages, rid, row)
 }

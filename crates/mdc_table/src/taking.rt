@@ -2,7 +2,6 @@
 ghost use Rattle.std.specs.Prelude.{◌≡◌, List, Option, false, length, IsTrue, OnOk};
 ghost use Rattle.store_api.specs.Causes.{fault_of};
 ghost use Rattle.store_api.specs.RunsOverPages.{RunsOverPages};
-ghost use Rattle.extent_map.specs.Owners.{IsSameShape};
 ghost use Rattle.extent_map.specs.declared.kind.Kind.{Kind};
 ghost use Rattle.mdc_ast.specs.declared.row.Row.{Row};
 ghost use Rattle.row_page.specs.RowPage.{count_rows};
@@ -21,12 +20,12 @@ ghost use Rattle.mdc_table.specs.LoweredNotes.{LowersNoteOf};
 use crate::faults::unmapped;
 use crate::reading::block_slots;
 use block_index::cell_key;
-use extent_map::Extents;
+use extent_map::SpaceNotes;
 use free_space::Rooms;
 use mdc_ast::{Row, TableDef};
 use mdc_values::Rid;
 use std::alloc::Global;
-use store_api::{Pages, StoreFault};
+use store_api::{Pages, Shape, StoreFault};
 
 /// Takes the row out that lies in a place; it is given too. Damaged where no row lies there. It claims no page. The note of the
 /// row's cell stays as it is where the block had room before and keeps other rows; else it is lowered, and where memory has no
@@ -34,7 +33,8 @@ use store_api::{Pages, StoreFault};
 pub fn take_row<P: Pages>(
     alloc: Global,
     def: &TableDef,
-    ext: &mut Extents,
+    shape: Shape,
+    notes: &mut SpaceNotes,
     rooms: &mut Rooms,
     pages: &mut P,
     rid: Rid,
@@ -43,26 +43,25 @@ pub fn take_row<P: Pages>(
     requires defined { IsTableDef def.now.number def.now }
     requires keyed { HasReadValues def.now.columns row.now }
     requires going { (P.state pages.old).ended ≡ false }
-    ensures takes { OnOk result ((owners : List Kind) (forests : TableForests) → IsReadyTable P.Pages ext.old (room_of rooms.old) pages.old def.now owners forests
-        → HasThisRow P.Pages ext.old pages.old def.now rid row.now owners forests
-        → TakesRowOut P.Pages ext.old ext.new (room_of rooms.new) pages.old pages.new def.now owners forests row.now rid) }
-    ensures leaves { OnOk result ((owners : List Kind) (forests : TableForests) → StandsTable P.Pages ext.old pages.old def.now owners forests
-        → HasThisRow P.Pages ext.old pages.old def.now rid row.now owners forests → (owners_now : List Kind) × (forests_now : TableForests) × ChangesTable P.Pages ext.old ext.new pages.old pages.new def.now owners forests owners_now forests_now × (forests_now.indexes ≡ forests.indexes)) }
-    ensures makes { OnOk result ((owners : List Kind) (forests : TableForests) → IsReadyTable P.Pages ext.old (room_of rooms.old) pages.old def.now owners forests
-        → (slots : List (Option Row)) → IsRowAt (spots_of P.Pages ext.old pages.old def.now owners forests) rid row.now slots
-        → MakesChanges ext.old (pages_of P.Pages pages.old) (left_changes def.now row.now rid.block (count_rows slots)) (pages_of P.Pages pages.new)) }
-    ensures seen { OnOk result (IsTrue (P.state pages.old).is_told → IsMapApart P.Pages ext.old pages.old def.now rid.block → SeesSomeRow (SeesUsedSlot P.Pages ext.old pages.old def.now rid)) }
-    ensures stay { (owners : List Kind) (forests : TableForests) → IsReadyTable P.Pages ext.old (room_of rooms.old) pages.old def.now owners forests → KeepsBlocksBut P.Pages ext.old pages.old pages.new def.now owners (λ block. block ≡ rid.block) }
+    ensures takes { OnOk result ((owners : List Kind) (forests : TableForests) → IsReadyTable P.Pages shape notes.old (room_of rooms.old) pages.old def.now owners forests
+        → HasThisRow P.Pages shape pages.old def.now rid row.now owners forests
+        → TakesRowOut P.Pages shape notes.old notes.new (room_of rooms.new) pages.old pages.new def.now owners forests row.now rid) }
+    ensures leaves { OnOk result ((owners : List Kind) (forests : TableForests) → StandsTable P.Pages shape pages.old def.now owners forests
+        → HasThisRow P.Pages shape pages.old def.now rid row.now owners forests → (owners_now : List Kind) × (forests_now : TableForests) × ChangesTable P.Pages shape notes.old notes.new pages.old pages.new def.now owners forests owners_now forests_now × (forests_now.indexes ≡ forests.indexes)) }
+    ensures makes { OnOk result ((owners : List Kind) (forests : TableForests) → IsReadyTable P.Pages shape notes.old (room_of rooms.old) pages.old def.now owners forests
+        → (slots : List (Option Row)) → IsRowAt (spots_of P.Pages shape pages.old def.now owners forests) rid row.now slots
+        → MakesChanges shape (pages_of P.Pages pages.old) (left_changes def.now row.now rid.block (count_rows slots)) (pages_of P.Pages pages.new)) }
+    ensures seen { OnOk result (IsTrue (P.state pages.old).is_told → IsMapApart P.Pages shape pages.old def.now rid.block → SeesSomeRow (SeesUsedSlot P.Pages shape pages.old def.now rid)) }
+    ensures stay { (owners : List Kind) (forests : TableForests) → IsReadyTable P.Pages shape notes.old (room_of rooms.old) pages.old def.now owners forests → KeepsBlocksBut P.Pages shape pages.old pages.new def.now owners (λ block. block ≡ rid.block) }
     ensures count { length (P.state pages.new).work ≡ length (P.state pages.old).work }
-    ensures shape { IsSameShape ext.old ext.new }
-    ensures runs { RunsOverPages P.Pages (IsTableOrMapPage P.Pages ext.old pages.old def.now) (IsTableOrMapPage P.Pages ext.old pages.old def.now)
-        (BreaksExpected P.Pages ext.old pages.old def.now (HasThisRow P.Pages ext.old pages.old def.now rid row.now)) pages.old pages.new (fault_of result) }
+    ensures runs { RunsOverPages P.Pages (IsTableOrMapPage P.Pages shape pages.old def.now) (IsTableOrMapPage P.Pages shape pages.old def.now)
+        (BreaksExpected P.Pages shape pages.old def.now (HasThisRow P.Pages shape pages.old def.now rid row.now)) pages.old pages.new (fault_of result) }
 {
-    let slots = block_slots(def, ext);
-    if rid.block >= ext.cap || u32::from(rid.slot) >= slots {
+    let slots = block_slots(def, shape);
+    if rid.block >= shape.extents || u32::from(rid.slot) >= slots {
         return Err(unmapped(def));
     }
-    let left = u32::from(table_blocks::take_row(alloc, def, ext, pages, rid, row)?);
+    let left = u32::from(table_blocks::take_row(alloc, def, shape, notes, pages, rid, row)?);
     // No right note leads past a block that had room before, and the block is still one of the cell where rows are left in it.
     if 0 < left && left + 1 < slots {
         return Ok(());

@@ -5,7 +5,7 @@ use Rattle.std.specs.Prelude.{Option, Some}
 use Rattle.mdc_ast.specs.declared.definition.ColumnDef.{ColumnDef}
 use Rattle.mdc_ast.specs.declared.row.Row.{Row}
 use Rattle.store_api.specs.StoreState.{page_at, zero_page}
-use Rattle.extent_map.specs.declared.extents.Extents.{Extents}
+use Rattle.store_api.specs.declared.shape.Shape.{Shape}
 use Rattle.row_page.specs.RowPage.{IsRowPage, row_page_head}
 use Rattle.table_page.specs.TablePage.{table_page}
 use Rattle.table_page.specs.PageAnswers.{IsNoTablePage}
@@ -30,10 +30,10 @@ unfolding row_page_head
 no_bytes_no_rows columns slots is = let e = is.head in cc
 
 -- a table page that has neither zeros alone nor a definition breaks rule 3
-pub breaks_table : (ext : Extents) (pages : PageList) (t p : ℕ) (page : List ℕ) → t < 16 → p ≡ 1 + t → page ≡ page_at pages p → page ≢ zero_page → IsNoTablePage t page → BreaksRule ext pages 3 p
-breaks_table ext pages t p page low at is blank none =
+pub breaks_table : (shape : Shape) (pages : PageList) (t p : ℕ) (page : List ℕ) → t < 16 → p ≡ 1 + t → page ≡ page_at pages p → page ≢ zero_page → IsNoTablePage t page → BreaksRule shape pages 3 p
+breaks_table shape pages t p page low at is blank none =
     let there : page_at pages (1 + t) ≡ page = ap (page_at pages) (sym at) ∙ sym is in
-    subst (BreaksRule ext pages 3) (sym at)
+    subst (BreaksRule shape pages 3) (sym at)
     (BreaksRule.table t low (λ e. blank (sym there ∙ e)) (λ def defines. none def (record { limits = defines.limits; printed = sym there ∙ defines.printed })))
 
 -- one page is at hand

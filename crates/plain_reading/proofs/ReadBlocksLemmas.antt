@@ -10,7 +10,7 @@ use Rattle.mdc_ast.specs.declared.row.Row.{Row}
 use Rattle.store_api.specs.Extents.{first_page_of}
 use Rattle.store_api.specs.StoreState.{StoreState, page_at}
 use Rattle.store_api.specs.declared.fault.Damage.{Damage}
-use Rattle.extent_map.specs.declared.extents.Extents.{Extents}
+use Rattle.store_api.specs.declared.shape.Shape.{Shape}
 use Rattle.row_page.specs.RowPage.{IsRowPage, rows_of}
 use Rattle.mdc_sound.specs.TableRows.{PlacedRow}
 use Rattle.plain_reading.specs.ReadPages.{BreaksBlock, BreaksRowPage}
@@ -18,15 +18,15 @@ use Rattle.plain_reading.specs.ReadTables.{rows_in_slots}
 use Rattle.plain_reading.proofs.ReadRowsLemmas.{rows_in_slots-append}
 
 -- damage of a page of the block, named in a later state that tells the same
-pub breaks_block : (ext : Extents) (old now : StoreState) (def : TableDef) (block place p : ℕ) (damage : Damage) → now.is_told ≡ old.is_told → now.work ≡ old.work → place < ext.extent_pages
-    → p ≡ first_page_of ext.cap ext.extent_pages block + place → BreaksRowPage now def p damage → BreaksBlock ext old def block damage
-breaks_block ext old now def block place p damage tells works low at b = record {
+pub breaks_block : (shape : Shape) (old now : StoreState) (def : TableDef) (block place p : ℕ) (damage : Damage) → now.is_told ≡ old.is_told → now.work ≡ old.work → place < shape.extent_pages
+    → p ≡ first_page_of shape.extents shape.extent_pages block + place → BreaksRowPage now def p damage → BreaksBlock shape old def block damage
+breaks_block shape old now def block place p damage tells works low at b = record {
   rule = b.rule;
   place = place;
   within = low;
   page = b.page ∙ at;
   broken = λ told sound.
-      let same : page_at old.work (first_page_of ext.cap ext.extent_pages block + place) ≡ page_at now.work p = ap (λ pages. page_at pages (first_page_of ext.cap ext.extent_pages block + place)) (sym works) ∙ ap (page_at now.work) (sym at) in
+      let same : page_at old.work (first_page_of shape.extents shape.extent_pages block + place) ≡ page_at now.work p = ap (λ pages. page_at pages (first_page_of shape.extents shape.extent_pages block + place)) (sym works) ∙ ap (page_at now.work) (sym at) in
       b.broken (tells ∙ told) (subst (λ (bytes : List ℕ). IsRowPage def.columns bytes (rows_of def.columns bytes)) same sound);
 }
 

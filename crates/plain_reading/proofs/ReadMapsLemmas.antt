@@ -10,8 +10,8 @@ use Rattle.store_api.specs.declared.fault.Damage.{Damage}
 use Rattle.store_api.specs.declared.fault.StoreFault.{StoreFault}
 use Rattle.store_api.specs.declared.fault.StoreFault.TheVariants.{Damaged, Memory}
 use Rattle.store_api.specs.declared.pages.Pages.{Ghosts}
+use Rattle.store_api.specs.declared.shape.Shape.{Shape}
 use Rattle.store_api.proofs.RunsOverPagesLemmas.{runs_damage, runs_memory, runs_wider}
-use Rattle.extent_map.specs.declared.extents.Extents.{Extents}
 use Rattle.entry_tree.specs.Forest.{Forest, IsTree}
 use Rattle.entry_tree.specs.HeldTrees.{HoldsTree, IsTreePage, nodes_in}
 use Rattle.entry_tree.specs.declared.tree.Tree.{Tree}
@@ -26,9 +26,9 @@ use Rattle.mdc_sound.proofs.StandsForLemmas.{one_tree_at}
 use Rattle.plain_reading.specs.ReadPages.{BreaksBlock, BreaksTableRows, IsMappedTable, IsRowsPage}
 
 -- damage by its rule and its page
-pub breaks_named : (ext : Extents) (pages : PageList) (damage : Damage) (rule page : ℕ) → damage.rule ≡ rule → damage.page ≡ page → BreaksRule ext pages rule page → BreaksRule ext pages damage.rule damage.page
-breaks_named ext pages damage rule page rule_is page_is breaks =
-    subst (λ n. BreaksRule ext pages n damage.page) (sym rule_is) (subst (BreaksRule ext pages rule) (sym page_is) breaks)
+pub breaks_named : (shape : Shape) (pages : PageList) (damage : Damage) (rule page : ℕ) → damage.rule ≡ rule → damage.page ≡ page → BreaksRule shape pages rule page → BreaksRule shape pages damage.rule damage.page
+breaks_named shape pages damage rule page rule_is page_is breaks =
+    subst (λ n. BreaksRule shape pages n damage.page) (sym rule_is) (subst (BreaksRule shape pages rule) (sym page_is) breaks)
 
 contains_later : (x : MapLine) (xs : List MapLine) (y : MapLine) → Contains xs y → Contains (x ∷ xs) y
 contains_later x xs y (k, low, at) = (suc k, omega (arith, low), at)
@@ -50,25 +50,25 @@ line_of_block [] block (k, low, at) = absurd (omega (arith, low))
 line_of_block (line ∷ lines) block there = in_filtered (line.state == 1) line lines block there (line_of_block lines block)
 
 -- a Used block that isn't an extent breaks rule 6
-pub breaks_past : (ext : Extents) (pages : PageList) (def : TableDef) (map_tree : Forest) (block : ℕ) → IsMappedTable pages def.number def map_tree → Contains (used_blocks map_tree) block → ext.cap ≤ block
-    → BreaksRule ext pages 6 def.roots.map
-breaks_past ext pages def map_tree block shows there past =
+pub breaks_past : (shape : Shape) (pages : PageList) (def : TableDef) (map_tree : Forest) (block : ℕ) → IsMappedTable pages def.number def map_tree → Contains (used_blocks map_tree) block → shape.extents ≤ block
+    → BreaksRule shape pages 6 def.roots.map
+breaks_past shape pages def map_tree block shows there past =
     let (line, inside, is) = line_of_block (map_lines map_tree) block there in
     BreaksRule.map_past def.number def line (record {
       within = shows.within;
       defines = shows.defines;
       map = λ t has. subst (λ (u : Forest). Contains (map_lines u) line) (one_tree_at pages (map_place def) map_tree t shows.has_map has) inside;
-    }) (subst (λ n. ext.cap ≤ n) (sym is) past)
+    }) (subst (λ n. shape.extents ≤ n) (sym is) past)
 
 -- damage of a Used block, named in a later state that tells the same
-pub breaks_used_block : (ext : Extents) (old now : StoreState) (def : TableDef) (block : ℕ) (damage : Damage) → now.is_told ≡ old.is_told → now.work ≡ old.work
+pub breaks_used_block : (shape : Shape) (old now : StoreState) (def : TableDef) (block : ℕ) (damage : Damage) → now.is_told ≡ old.is_told → now.work ≡ old.work
     → (IsTrue old.is_told → (map_tree : Forest) → HasTree old.work (map_place def) map_tree → Contains (used_blocks map_tree) block)
-    → BreaksBlock ext now def block damage → BreaksTableRows ext old def damage
-breaks_used_block ext old now def block damage tells works used b = record {
+    → BreaksBlock shape now def block damage → BreaksTableRows shape old def damage
+breaks_used_block shape old now def block damage tells works used b = record {
   broken = λ told map_tree shows.
-      breaks_named ext old.work damage 7 (first_page_of ext.cap ext.extent_pages block + b.place) b.rule b.page
+      breaks_named shape old.work damage 7 (first_page_of shape.extents shape.extent_pages block + b.place) b.rule b.page
       (BreaksRule.row_page def.number def block b.place (record { within = shows.within; defines = shows.defines; map = used told }) b.within
-      (λ sound. b.broken (tells ∙ told) (subst (λ pages. IsBlockPageSound ext pages def block b.place) (sym works) sound)));
+      (λ sound. b.broken (tells ∙ told) (subst (λ pages. IsBlockPageSound shape pages def block b.place) (sym works) sound)));
 }
 
 module _ {S : Type 0} {g : Ghosts S} where
@@ -80,12 +80,12 @@ module _ {S : Type 0} {g : Ghosts S} where
   }
 
   -- the damage of a block map
-  breaks_map : (ext : Extents) (s : S) (tree : Tree) (def : TableDef) (damage : Damage) → tree.root ≡ def.roots.map
-      → (IsTrue (g.state s).is_told → (t : Forest) → HasTree (g.state s).work (map_place def) t → HoldsTree g s tree t) → BreaksMapTree g s tree AnyMap damage → BreaksTableRows ext (g.state s) def damage
-  breaks_map ext s tree def damage root held (inl b) = record { broken = λ told map_tree shows. absurd (b.broken map_tree (held told map_tree shows.has_map)) }
-  breaks_map ext s tree def damage root held (inr b) = record {
+  breaks_map : (shape : Shape) (s : S) (tree : Tree) (def : TableDef) (damage : Damage) → tree.root ≡ def.roots.map
+      → (IsTrue (g.state s).is_told → (t : Forest) → HasTree (g.state s).work (map_place def) t → HoldsTree g s tree t) → BreaksMapTree g s tree AnyMap damage → BreaksTableRows shape (g.state s) def damage
+  breaks_map shape s tree def damage root held (inl b) = record { broken = λ told map_tree shows. absurd (b.broken map_tree (held told map_tree shows.has_map)) }
+  breaks_map shape s tree def damage root held (inr b) = record {
     broken = λ told map_tree shows.
-        breaks_named ext (g.state s).work damage 6 def.roots.map b.rule (b.page ∙ root)
+        breaks_named shape (g.state s).work damage 6 def.roots.map b.rule (b.page ∙ root)
         (BreaksRule.map_form def.number def shows.within shows.defines (λ t has form. b.broken t (held told t has) form tt));
   }
 
@@ -101,9 +101,9 @@ module _ {S : Type 0} {g : Ghosts S} where
       subst (λ (f : StoreFault). RunsOverPages g Mine Kind Breaks old new (Some f)) (sym is) (runs_memory run)
 
   -- a run over the block map
-  pub runs_over_map : {old new : S} {fault : Option StoreFault} (ext : Extents) (tree : Tree) (def : TableDef) → tree.root ≡ def.roots.map
+  pub runs_over_map : {old new : S} {fault : Option StoreFault} (shape : Shape) (tree : Tree) (def : TableDef) → tree.root ≡ def.roots.map
       → (IsTrue (g.state old).is_told → (t : Forest) → HasTree (g.state old).work (map_place def) t → HoldsTree g old tree t)
       → RunsOverPages g NoPage (IsTreePage g old tree) (BreaksMapTree g old tree AnyMap) old new fault
-      → RunsOverPages g NoPage (IsRowsPage ext (g.state old) def) (BreaksTableRows ext (g.state old) def) old new fault
-  runs_over_map {old = old} ext tree def root held run =
-      runs_wider run (λ p there mine. mine) (λ p is told map_tree has. inl (is map_tree (held told map_tree has))) (λ damage b. breaks_map ext old tree def damage root held b)
+      → RunsOverPages g NoPage (IsRowsPage shape (g.state old) def) (BreaksTableRows shape (g.state old) def) old new fault
+  runs_over_map {old = old} shape tree def root held run =
+      runs_wider run (λ p there mine. mine) (λ p is told map_tree has. inl (is map_tree (held told map_tree has))) (λ damage b. breaks_map shape old tree def damage root held b)

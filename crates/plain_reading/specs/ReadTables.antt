@@ -5,7 +5,7 @@ use Rattle.mdc_ast.specs.declared.definition.TableDef.{TableDef}
 use Rattle.mdc_ast.specs.declared.row.Row.{Row}
 use Rattle.mdc_ast.specs.Database.{Database, PlainTable}
 use Rattle.store_api.specs.StoreState.{zero_page}
-use Rattle.extent_map.specs.declared.extents.Extents.{Extents}
+use Rattle.store_api.specs.declared.shape.Shape.{Shape}
 use Rattle.entry_tree.specs.Forest.{Forest}
 use Rattle.block_map.specs.MapLines.{used_blocks}
 use Rattle.table_trees.specs.TableTrees.{map_place}
@@ -33,8 +33,8 @@ rows_in_slots (None ∷ slots) = rows_in_slots slots
 rows_in_slots (Some row ∷ slots) = row ∷ rows_in_slots slots
 
 -- the rows of a table, as they lie in its Used blocks
-abbrev pub rows_as_they_lie : Extents → PageList → TableDef → Forest → List Row
-rows_as_they_lie ext pages def map_tree = map (λ placed. placed.row) (rows_in_table ext pages def map_tree)
+abbrev pub rows_as_they_lie : Shape → PageList → TableDef → Forest → List Row
+rows_as_they_lie shape pages def map_tree = map (λ placed. placed.row) (rows_in_table shape pages def map_tree)
 
 -- each row number is below those behind it
 abbrev pub DoNumbersRise : List Row → Type 0
@@ -56,13 +56,13 @@ IsFall rows i = (i + 1 < length rows) × ((d : Row) → (slice_index_or rows (i 
 
 -- What was read of table t: the definition of its page, and by rising number the rows of its Used blocks, by whatever tree its
 -- block map is. The pages of these blocks are row pages.
-pub record ReadsTable (ext : Extents) (pages : PageList) (t : ℕ) (table : ReadTable) : Type 0 where
+pub record ReadsTable (shape : Shape) (pages : PageList) (t : ℕ) (table : ReadTable) : Type 0 where
   pub defines : DefinesTable pages t table.def
-  pub same_rows : (map_tree : Forest) → HasTree pages (map_place table.def) map_tree → IsPermutation (rows_as_they_lie ext pages table.def map_tree) table.rows
-  pub row_pages : (map_tree : Forest) (block : ℕ) → HasTree pages (map_place table.def) map_tree → Contains (used_blocks map_tree) block → HasRowPages ext pages table.def block
+  pub same_rows : (map_tree : Forest) → HasTree pages (map_place table.def) map_tree → IsPermutation (rows_as_they_lie shape pages table.def map_tree) table.rows
+  pub row_pages : (map_tree : Forest) (block : ℕ) → HasTree pages (map_place table.def) map_tree → Contains (used_blocks map_tree) block → HasRowPages shape pages table.def block
   pub rising : DoNumbersRise table.rows
 
 -- what was read of a place: no table where its page has zeros alone
-abbrev pub ReadsPlace : Extents → PageList → ℕ → Option ReadTable → Type 0
-ReadsPlace ext pages t None = table_page_at pages t ≡ zero_page
-ReadsPlace ext pages t (Some table) = ReadsTable ext pages t table
+abbrev pub ReadsPlace : Shape → PageList → ℕ → Option ReadTable → Type 0
+ReadsPlace shape pages t None = table_page_at pages t ≡ zero_page
+ReadsPlace shape pages t (Some table) = ReadsTable shape pages t table

@@ -11,34 +11,34 @@ ghost use Rattle.plain_reading.specs.ReadPages.{BreaksBlock, BreaksRowPage, HasR
 ghost use Rattle.plain_reading.specs.ReadTables.{rows_in_slots};
 
 use crate::page::bring_page;
-use extent_map::Extents;
+use extent_map::first_page;
 use mdc_ast::{Row, TableDef};
 use mdc_values::Memory;
 use row_page::{RowPageView, capacity};
 use std::alloc::Global;
 use store_api::rules::ROW_PAGES_RULE;
-use store_api::{Damage, Pages, StoreFault};
+use store_api::{Damage, Pages, Shape, StoreFault};
 
 /// Puts copies of the rows of a block last, by rising slot.
 pub fn rows_of_block<P: Pages>(
     alloc: Global,
-    ext: &Extents,
+    shape: Shape,
     pages: &mut P,
     def: &TableDef,
     block: u32,
     rows: &mut Vec<Row>,
 ) -> Result<(), StoreFault>
     requires columns { AreRowColumns def.now.columns }
-    requires below { block < ext.now.cap }
+    requires below { block < shape.extents }
     requires going { (P.state pages.old).ended ≡ false }
     ensures rows { OnOk result (IsTrue (P.state pages.old).is_told
-        → rows.new.items ≡ rows.old.items ++ map (λ placed. placed.row) (rows_in_block ext.now (P.state pages.old).work def.now block)) }
-    ensures judged { OnOk result (IsTrue (P.state pages.old).is_told → HasRowPages ext.now (P.state pages.old).work def.now block) }
+        → rows.new.items ≡ rows.old.items ++ map (λ placed. placed.row) (rows_in_block shape (P.state pages.old).work def.now block)) }
+    ensures judged { OnOk result (IsTrue (P.state pages.old).is_told → HasRowPages shape (P.state pages.old).work def.now block) }
     ensures same { (P.state pages.new).work ≡ (P.state pages.old).work }
-    ensures runs { RunsOverPages P.Pages NoPage (IsInBlock ext.now block) (BreaksBlock ext.now (P.state pages.old) def.now block) pages.old pages.new (fault_of result) }
+    ensures runs { RunsOverPages P.Pages NoPage (IsInBlock shape block) (BreaksBlock shape (P.state pages.old) def.now block) pages.old pages.new (fault_of result) }
 {
-    let first = ext.first_page(block);
-    for place in 0..ext.extent_pages {
+    let first = first_page(shape, block);
+    for place in 0..shape.extent_pages {
         rows_of_page(alloc, pages, def, first + place, rows)?;
     }
     Ok(())

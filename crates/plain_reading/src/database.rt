@@ -9,35 +9,34 @@ ghost use Rattle.plain_reading.specs.ReadPages.{BreaksReading, HaveMapTrees, Hav
 ghost use Rattle.plain_reading.specs.ReadTables.{plain_database};
 
 use crate::{ReadTable, read_table};
-use extent_map::Extents;
 use mdc_sound::pages_stand_for_one;
 use mdc_values::List;
 use std::alloc::Global;
 use store_api::layout::TABLE_PLACES;
-use store_api::{Pages, StoreFault};
+use store_api::{Pages, Shape, StoreFault};
 use table_page::page_is_of_one_definition;
 
 /// The tables of all 16 places. Where the pages are told, they are those of the one database that the pages stand for, and
 /// each page of a Used block is a row page: one that isn't is named.
 pub fn read_database<P: Pages>(
     alloc: Global,
-    ext: &Extents,
+    shape: Shape,
     pages: &mut P,
 ) -> Result<List<Option<ReadTable>>, StoreFault>
     requires going { (P.state pages.old).ended ≡ false }
     ensures only { IfOk result (λ tables. IsTrue (P.state pages.old).is_told
-        → (db : Database) → PagesStandFor ext.now (P.state pages.old).work db → plain_database tables ≡ db) }
+        → (db : Database) → PagesStandFor shape (P.state pages.old).work db → plain_database tables ≡ db) }
     ensures stands { IfOk result (λ tables. IsTrue (P.state pages.old).is_told
-        → HaveMapTrees (P.state pages.old).work → PagesStandFor ext.now (P.state pages.old).work (plain_database tables)) }
-    ensures judged { OnOk result (IsTrue (P.state pages.old).is_told → HaveRowPages ext.now (P.state pages.old).work) }
+        → HaveMapTrees (P.state pages.old).work → PagesStandFor shape (P.state pages.old).work (plain_database tables)) }
+    ensures judged { OnOk result (IsTrue (P.state pages.old).is_told → HaveRowPages shape (P.state pages.old).work) }
     ensures same { (P.state pages.new).work ≡ (P.state pages.old).work }
-    ensures runs { RunsOverPages P.Pages NoPage (IsPlainPage ext.now (P.state pages.old)) (BreaksReading ext.now (P.state pages.old)) pages.old pages.new (fault_of result) }
+    ensures runs { RunsOverPages P.Pages NoPage (IsPlainPage shape (P.state pages.old)) (BreaksReading shape (P.state pages.old)) pages.old pages.new (fault_of result) }
 {
     pages_stand_for_one();
     page_is_of_one_definition();
     let mut tables = List::new(alloc);
     for t in 0..TABLE_PLACES {
-        let table = read_table(alloc, ext, pages, t)?;
+        let table = read_table(alloc, shape, pages, t)?;
         push_table(&mut tables, table)?;
     }
     Ok(tables)

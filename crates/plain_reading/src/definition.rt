@@ -9,18 +9,17 @@ ghost use Rattle.mdc_sound.specs.TablePages.{DefinesTable, table_page_at};
 ghost use Rattle.plain_reading.specs.ReadPages.{BreaksDefinition};
 
 use crate::page::bring_page;
-use extent_map::Extents;
 use mdc_ast::TableDef;
 use std::alloc::Global;
 use store_api::layout::FIRST_TABLE_PAGE;
 use store_api::rules::TABLE_PAGES_RULE;
-use store_api::{Damage, Pages, StoreFault};
+use store_api::{Damage, Pages, Shape, StoreFault};
 use table_page::{DefFault, def_of};
 
 /// The definition of a table, or None where its page has zeros alone.
 pub fn read_definition<P: Pages>(
     alloc: Global,
-    ext: &Extents,
+    shape: Shape,
     pages: &mut P,
     t: u8,
 ) -> Result<Option<TableDef>, StoreFault>
@@ -30,7 +29,7 @@ pub fn read_definition<P: Pages>(
         → MatchOption def (table_page_at (P.state pages.old).work t ≡ zero_page) (DefinesTable (P.state pages.old).work t)) }
     ensures limits { IfOk result (λ def. IfSome def (IsTableDef t)) }
     ensures same { (P.state pages.new).work ≡ (P.state pages.old).work }
-    ensures runs { RunsOverPages P.Pages NoPage (OnlyPage (1 + t)) (BreaksDefinition ext.now (P.state pages.old)) pages.old pages.new (fault_of result) }
+    ensures runs { RunsOverPages P.Pages NoPage (OnlyPage (1 + t)) (BreaksDefinition shape (P.state pages.old)) pages.old pages.new (fault_of result) }
 {
     let undefined = Damage {
         page: FIRST_TABLE_PAGE + u32::from(t),

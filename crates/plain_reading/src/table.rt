@@ -9,13 +9,12 @@ ghost use Rattle.plain_reading.specs.ReadTables.{ReadsPlace};
 use crate::definition::read_definition;
 use crate::order::sort_rows;
 use crate::rows::rows_of_table;
-use extent_map::Extents;
 use mdc_ast::{Row, TableDef};
 use mdc_values::List;
 use std::alloc::Global;
 use store_api::layout::FIRST_TABLE_PAGE;
 use store_api::rules::KEYS_RULE;
-use store_api::{Damage, Pages, StoreFault};
+use store_api::{Damage, Pages, Shape, StoreFault};
 
 /// A table that was read: its definition, and its rows by rising number.
 #[derive(Debug, Drop)]
@@ -27,21 +26,21 @@ pub struct ReadTable {
 /// The table of a place, or None where the table page has zeros alone.
 pub fn read_table<P: Pages>(
     alloc: Global,
-    ext: &Extents,
+    shape: Shape,
     pages: &mut P,
     t: u8,
 ) -> Result<Option<ReadTable>, StoreFault>
     requires place { t < 16 }
     requires going { (P.state pages.old).ended ≡ false }
-    ensures reads { IfOk result (λ table. IsTrue (P.state pages.old).is_told → ReadsPlace ext.now (P.state pages.old).work t table) }
+    ensures reads { IfOk result (λ table. IsTrue (P.state pages.old).is_told → ReadsPlace shape (P.state pages.old).work t table) }
     ensures same { (P.state pages.new).work ≡ (P.state pages.old).work }
-    ensures runs { RunsOverPages P.Pages NoPage (IsPlainPage ext.now (P.state pages.old)) (BreaksReading ext.now (P.state pages.old)) pages.old pages.new (fault_of result) }
+    ensures runs { RunsOverPages P.Pages NoPage (IsPlainPage shape (P.state pages.old)) (BreaksReading shape (P.state pages.old)) pages.old pages.new (fault_of result) }
 {
-    let found = read_definition(alloc, ext, pages, t)?;
+    let found = read_definition(alloc, shape, pages, t)?;
     let Some(def) = found else {
         return Ok(None);
     };
-    let mut rows = rows_of_table(alloc, ext, pages, &def)?;
+    let mut rows = rows_of_table(alloc, shape, pages, &def)?;
     if !sort_rows(&mut rows)? {
         return Err(number_twice(t));
     }

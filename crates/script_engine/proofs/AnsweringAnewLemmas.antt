@@ -14,7 +14,7 @@ use Rattle.mdc_ast.specs.Definitions.{Definitions, def_named}
 use Rattle.store_api.specs.Frame.{NoPage}
 use Rattle.store_api.specs.RunsOverPages.{RunsOverPages}
 use Rattle.store_api.specs.declared.pages.Pages.{Ghosts}
-use Rattle.extent_map.specs.Owners.{AreRightNotes, IsSameShape}
+use Rattle.extent_map.specs.Owners.{AreRightNotes}
 use Rattle.extent_map.specs.declared.kind.Kind.{Kind}
 use Rattle.table_trees.specs.ToldPages.{PageList}
 use Rattle.mdc_sound.specs.SoundDatabase.{IsSoundDatabase}
@@ -38,7 +38,7 @@ module _ {S : Type 0} (g : Ghosts S) (stmt : Stmt) (old mid new : S) (same : pag
   full_along read made outcome full = record {
     says = full.says;
     leaves = record { pages = full.leaves.pages ∙ same; catalog = full.leaves.catalog };
-    full = subst (λ (pages : PageList). StepRunsFull read.ext pages read.catalog stmt) same full.full;
+    full = subst (λ (pages : PageList). StepRunsFull read.shape pages read.catalog stmt) same full.full;
     ready = full.ready;
   }
 
@@ -64,18 +64,18 @@ module _ {S : Type 0} (g : Ghosts S) (stmt : Stmt) (old mid new : S) (same : pag
   pub answers_along : (result : Result Outcome EngineStop) (before now : Tables) → (g.state mid).is_told ≡ (g.state old).is_told → AnswersBySoundPages g stmt result mid new before now
       → AnswersBySoundPages g stmt result old new before now
   answers_along (Ok outcome) before now told answers = λ is_told sound. answer_along before now outcome
-      (answers (subst IsTrue (sym told) is_told) (subst (λ (pages : PageList). IsSoundDatabase before.ext pages) (sym same) sound))
+      (answers (subst IsTrue (sym told) is_told) (subst (λ (pages : PageList). IsSoundDatabase before.shape pages) (sym same) sound))
   answers_along (Err stop) before now told answers = answers
 
 module _ {S : Type 0} (g : Ghosts S) (stmt : Stmt) (old : S) (before read : Tables) (catalog : Definitions) (is : read.catalog ≡ catalog)
-    (stored : IsTrue (g.state old).is_told → AreStored (g.state old).work catalog) (shape : IsSameShape before.ext read.ext) (notes : (owners : List Kind) → AreRightNotes read.ext owners)
+    (stored : IsTrue (g.state old).is_told → AreStored (g.state old).work catalog) (shape : read.shape ≡ before.shape) (notes : (owners : List Kind) → AreRightNotes read.shape read.notes owners)
     (rooms : AreForgotten read.rooms) where
-  read_anew : IsTrue (g.state old).is_told → AreReadAnew g old before.ext read
+  read_anew : IsTrue (g.state old).is_told → AreReadAnew g old before.shape read
   read_anew told = record { stored = subst (λ (defs : Definitions). AreStored (g.state old).work defs) (sym is) (stored told); shape = shape; notes = notes; rooms = rooms }
 
   -- a table of the pages is of a form that isn't built
   pub answer_unbuilt : (new : S) (now : Tables) (refusal : Refusal) → are_built catalog ≡ false → refusal ≡ refusal_of NotBuilt → IsTrue (g.state old).is_told
-      → IsSoundDatabase before.ext (g.state old).work → AnswersAnew g stmt (said.Refused refusal) old new before now
+      → IsSoundDatabase before.shape (g.state old).work → AnswersAnew g stmt (said.Refused refusal) old new before now
   answer_unbuilt new now refusal unbuilt says told sound = record {
     read = read;
     is_read = read_anew told;
@@ -86,7 +86,7 @@ module _ {S : Type 0} (g : Ghosts S) (stmt : Stmt) (old : S) (before read : Tabl
   -- the statement was tried by what was read
   pub answer_tried : (mid new : S) (made now : Tables) (field outcome : Outcome) → RunsOverPages g NoPage IsAnyTablePage (BreaksTablePages g old) old mid None → (g.state mid).work ≡ (g.state old).work
       → AreWithinLimits catalog → AllDefsDiffer catalog → are_built catalog ≡ true → TriesStep g stmt (Ok field) mid new read made → field ≡ outcome
-      → ((reply : Reply) → outcome ≡ said.Done reply → now ≡ made) → IsTrue (g.state old).is_told → IsSoundDatabase before.ext (g.state old).work → AnswersAnew g stmt outcome old new before now
+      → ((reply : Reply) → outcome ≡ said.Done reply → now ≡ made) → IsTrue (g.state old).is_told → IsSoundDatabase before.shape (g.state old).work → AnswersAnew g stmt outcome old new before now
   answer_tried mid new made now field outcome runs same limits differ built tried field_is leaves told sound =
       let ready = ready_read g old mid before read catalog runs same is stored limits differ built shape notes rooms told sound in
       record {
@@ -105,11 +105,11 @@ module _ {S : Type 0} (g : Ghosts S) (stmt : Stmt) (old : S) (before read : Tabl
 module _ {S : Type 0} (g : Ghosts S) (old : S) (name : Name) (catalog : Definitions) (stored : IsTrue (g.state old).is_told → AreStored (g.state old).work catalog) where
   -- the blocks were told by what was read
   pub listed_read : (mid : S) (before read : Tables) (outcome : Outcome) → RunsOverPages g NoPage IsAnyTablePage (BreaksTablePages g old) old mid None → (g.state mid).work ≡ (g.state old).work
-      → read.catalog ≡ catalog → AreWithinLimits catalog → AllDefsDiffer catalog → are_built catalog ≡ true → IsSameShape before.ext read.ext
-      → ((owners : List Kind) → AreRightNotes read.ext owners) → AreForgotten read.rooms
+      → read.catalog ≡ catalog → AreWithinLimits catalog → AllDefsDiffer catalog → are_built catalog ≡ true → read.shape ≡ before.shape
+      → ((owners : List Kind) → AreRightNotes read.shape read.notes owners) → AreForgotten read.rooms
       → (def_named read.catalog name ≡ None → outcome ≡ said.Refused (refusal_of (NoTable name)))
       → ((def : TableDef) → def_named read.catalog name ≡ Some def → IsReady g mid read → TellsBlocks (pages_of g mid) def outcome)
-      → IsTrue (g.state old).is_told → IsSoundDatabase before.ext (g.state old).work → ListsByPages (pages_of g old) name outcome
+      → IsTrue (g.state old).is_told → IsSoundDatabase before.shape (g.state old).work → ListsByPages (pages_of g old) name outcome
   listed_read mid before read outcome runs same is limits differ built shape notes rooms absent tells told sound =
       let ready = ready_read g old mid before read catalog runs same is stored limits differ built shape notes rooms told sound in
       record {

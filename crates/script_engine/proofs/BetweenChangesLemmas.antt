@@ -9,9 +9,10 @@ use Rattle.mdc_ast.specs.declared.definition.TableDef.{TableDef}
 use Rattle.store_api.specs.Frame.{OnlyPage}
 use Rattle.store_api.specs.StoreState.{page_at}
 use Rattle.store_api.specs.declared.pages.Pages.{Ghosts}
+use Rattle.store_api.specs.declared.shape.Shape.{Shape}
 use Rattle.extent_map.specs.Owners.{AreRightNotes}
-use Rattle.extent_map.specs.declared.extents.Extents.{Extents}
 use Rattle.extent_map.specs.declared.kind.Kind.{Kind}
+use Rattle.extent_map.specs.declared.space_notes.SpaceNotes.{SpaceNotes}
 use Rattle.table_trees.specs.SpaceChanges.{IsSameSpace}
 use Rattle.table_trees.specs.ToldPages.{PageList, told_pages}
 use Rattle.table_trees.proofs.ToldPagesLemmas.{map_of_told}
@@ -39,34 +40,34 @@ written_already pages t def number defines =
     ap (set pages (1 + def.number)) (sym defines.printed ∙ ap (λ p. page_at pages p) same) ∙ set-get_or pages (1 + def.number) []
 
 -- the page of the table in hand defines it, once it is written
-pub written_defines : (ext : Extents) (def : TableDef) (pages : PageList) → IsSoundWith ext def pages → DefinesTable (with_table_page def pages) def.number def
-written_defines ext def pages sound =
-    let here = range_at (IsTablePlaceSound ext (with_table_page def pages) sound.view.owners) 0 16 sound.view.places def.number (Some sound.table) sound.first.rule3.each sound.there in
+pub written_defines : (shape : Shape) (def : TableDef) (pages : PageList) → IsSoundWith shape def pages → DefinesTable (with_table_page def pages) def.number def
+written_defines shape def pages sound =
+    let here = range_at (IsTablePlaceSound shape (with_table_page def pages) sound.view.owners) 0 16 sound.view.places def.number (Some sound.table) sound.first.rule3.each sound.there in
     let same : 0 + def.number ≡ def.number = omega arith in
     subst (DefinesTable (with_table_page def pages) def.number) sound.same (subst (λ t. DefinesTable (with_table_page def pages) t sound.table.def) same here.1.0)
 
 -- its number is that of one of the 16 places
-pub number_is_low : (ext : Extents) (def : TableDef) (pages : PageList) → IsSoundWith ext def pages → def.number < 16
-number_is_low ext def pages sound = (number_of_place ext (with_table_page def pages) sound.view sound.first def.number sound.table sound.there).0
+pub number_is_low : (shape : Shape) (def : TableDef) (pages : PageList) → IsSoundWith shape def pages → def.number < 16
+number_is_low shape def pages sound = (number_of_place shape (with_table_page def pages) sound.view sound.first def.number sound.table sound.there).0
 
 -- a table stands where its page is written, in the list of pages
-pub stands_written : {S : Type 0} (g : Ghosts S) (ext : Extents) (s : S) (def : TableDef) (owners : List Kind) (forests : TableForests) → def.number < 16 → StandsTable g ext s def owners forests
-    → StandsTable told_pages ext (with_table_page def (pages_of g s)) def owners forests
-stands_written g ext s def owners forests low st =
-    let listed = stands_listed g s st.told ext def owners forests st in
-    stands_still (OnlyPage (1 + def.number)) ext (pages_of g s) (with_table_page def (pages_of g s)) def owners forests listed (put_table_page def (pages_of g s)) refl
+pub stands_written : {S : Type 0} (g : Ghosts S) (shape : Shape) (s : S) (def : TableDef) (owners : List Kind) (forests : TableForests) → def.number < 16 → StandsTable g shape s def owners forests
+    → StandsTable told_pages shape (with_table_page def (pages_of g s)) def owners forests
+stands_written g shape s def owners forests low st =
+    let listed = stands_listed g s st.told shape def owners forests st in
+    stands_still (OnlyPage (1 + def.number)) shape (pages_of g s) (with_table_page def (pages_of g s)) def owners forests listed (put_table_page def (pages_of g s)) refl
     (omega (arith, length-with_table_page def (pages_of g s)))
     (λ p on only. omega (arith, on.0, only, low))
     (λ p l only. omega (arith, (listed.trees.used p l).page.behind, only, low))
     (λ p of only. omega (arith, of.page.behind, only, low))
 
 -- it takes no space
-pub space_written : {S : Type 0} (g : Ghosts S) (ext : Extents) (s : S) (def : TableDef) (owners : List Kind) (forests : TableForests) → def.number < 16 → StandsTable g ext s def owners forests
-    → IsSameSpace ext (pages_of g s) (with_table_page def (pages_of g s))
-space_written g ext s def owners forests low st = record {
+pub space_written : {S : Type 0} (g : Ghosts S) (shape : Shape) (s : S) (def : TableDef) (owners : List Kind) (forests : TableForests) → def.number < 16 → StandsTable g shape s def owners forests
+    → IsSameSpace shape (pages_of g s) (with_table_page def (pages_of g s))
+space_written g shape s def owners forests low st = record {
   owners = owners;
-  had = map_of_told g s st.told ext owners st.trees.map;
-  has = (stands_written g ext s def owners forests low st).trees.map;
+  had = map_of_told g s st.told shape owners st.trees.map;
+  has = (stands_written g shape s def owners forests low st).trees.map;
   bytes = λ p of. page_at-with_table_page def (pages_of g s) p (λ e. omega (arith, of.page.behind, e, low));
   count = length-with_table_page def (pages_of g s);
 }
@@ -74,51 +75,51 @@ space_written g ext s def owners forests low st = record {
 -- ---- sound pages
 
 -- a table of sound pages whose page is written is one between two changes
-pub between_of_rules : (ext : Extents) (pages : PageList) (view : DatabaseView) (def : TableDef) → KeepAllRules ext pages view → def.number < 16 → DefinesTable pages def.number def
-    → IsSoundBetweenChanges ext def pages
-between_of_rules ext pages view def keeps low defines =
-    let there = defined_there ext pages view def.number def keeps low defines in
+pub between_of_rules : (shape : Shape) (pages : PageList) (view : DatabaseView) (def : TableDef) → KeepAllRules shape pages view → def.number < 16 → DefinesTable pages def.number def
+    → IsSoundBetweenChanges shape def pages
+between_of_rules shape pages view def keeps low defines =
+    let there = defined_there shape pages view def.number def keeps low defines in
     let same : pages ≡ with_table_page def pages = sym (written_already pages def.number def refl defines) in
     record {
-      sound = record { view = view; table = there.table; first = subst (λ (p : PageList). KeepFirstRules ext p view) same keeps.first; there = there.there; same = there.same };
-      rule11 = subst (λ (p : PageList). AreSoundIndexes ext p view) same keeps.rule11;
-      numbers = subst (λ (p : PageList). AreNumbersSound ext p view) same keeps.rule12.numbers;
-      other_keys = subst (λ (p : PageList). AreOtherKeysSound ext p view def.number) same
-          (each_as (AreTableKeysSound ext pages) (λ (table : TableView). table.def.number ≢ def.number → AreTableKeysSound ext pages table) (tables_there view.places) (λ table in_view keys apart. keys) keeps.rule12.unique);
+      sound = record { view = view; table = there.table; first = subst (λ (p : PageList). KeepFirstRules shape p view) same keeps.first; there = there.there; same = there.same };
+      rule11 = subst (λ (p : PageList). AreSoundIndexes shape p view) same keeps.rule11;
+      numbers = subst (λ (p : PageList). AreNumbersSound shape p view) same keeps.rule12.numbers;
+      other_keys = subst (λ (p : PageList). AreOtherKeysSound shape p view def.number) same
+          (each_as (AreTableKeysSound shape pages) (λ (table : TableView). table.def.number ≢ def.number → AreTableKeysSound shape pages table) (tables_there view.places) (λ table in_view keys apart. keys) keeps.rule12.unique);
     }
 
 -- between two changes of a table without record indexes no key of it stands twice either
-keys_between : (ext : Extents) (def : TableDef) (pages : PageList) (between : IsSoundBetweenChanges ext def pages) → def.indexes ≡ [] → (t : ℕ) (table : TableView)
-    → slice_get between.sound.view.places t ≡ Some (Some table) → AreTableKeysSound ext (with_table_page def pages) table
-keys_between ext def pages between none t table at = elim (cases_eq t def.number) [
+keys_between : (shape : Shape) (def : TableDef) (pages : PageList) (between : IsSoundBetweenChanges shape def pages) → def.indexes ≡ [] → (t : ℕ) (table : TableView)
+    → slice_get between.sound.view.places t ≡ Some (Some table) → AreTableKeysSound shape (with_table_page def pages) table
+keys_between shape def pages between none t table at = elim (cases_eq t def.number) [
   | inl here ↦
       let mine : table ≡ between.sound.table = same_table table between.sound.table (sym (subst (λ n. slice_get between.sound.view.places n ≡ Some (Some table)) here at) ∙ between.sound.there) in
       let empty : table.def.indexes ≡ [] = ap (λ (x : TableView). x.def.indexes) mine ∙ (ap (λ (d : TableDef). d.indexes) between.sound.same ∙ none) in
-      subst (AllByRecursion (IsUniqueSound (rows_in_table ext (with_table_page def pages) table.def table.map))) (sym empty) tt
+      subst (AllByRecursion (IsUniqueSound (rows_in_table shape (with_table_page def pages) table.def table.map))) (sym empty) tt
   | inr apart ↦
-      let number = (number_of_place ext (with_table_page def pages) between.sound.view between.sound.first t table at).1 in
-      there_at (λ (x : TableView). x.def.number ≢ def.number → AreTableKeysSound ext (with_table_page def pages) x) between.sound.view.places t table at between.other_keys (λ e. apart (sym number ∙ e))
+      let number = (number_of_place shape (with_table_page def pages) between.sound.view between.sound.first t table at).1 in
+      there_at (λ (x : TableView). x.def.number ≢ def.number → AreTableKeysSound shape (with_table_page def pages) x) between.sound.view.places t table at between.other_keys (λ e. apart (sym number ∙ e))
 ]
 
 -- so all rules hold, once its page is written
-pub rules_of_between : (ext : Extents) (def : TableDef) (pages : PageList) (between : IsSoundBetweenChanges ext def pages) → def.indexes ≡ [] → KeepAllRules ext (with_table_page def pages) between.sound.view
-rules_of_between ext def pages between none = record {
+pub rules_of_between : (shape : Shape) (def : TableDef) (pages : PageList) (between : IsSoundBetweenChanges shape def pages) → def.indexes ≡ [] → KeepAllRules shape (with_table_page def pages) between.sound.view
+rules_of_between shape def pages between none = record {
   first = between.sound.first;
   rule11 = between.rule11;
   rule12 = record {
     numbers = between.numbers;
-    unique = each_there (AreTableKeysSound ext (with_table_page def pages)) between.sound.view.places (λ t table at. keys_between ext def pages between none t table at);
+    unique = each_there (AreTableKeysSound shape (with_table_page def pages)) between.sound.view.places (λ t table at. keys_between shape def pages between none t table at);
   };
 }
 
 -- ---- a table that is ready
 
 -- each table of sound pages is ready, where no rooms are noted
-pub ready_table : {S : Type 0} (g : Ghosts S) (ext : Extents) (s : S) (view : DatabaseView) (t : ℕ) (def : TableDef) (room_of : Entry → RoomNote) → IsTrue (g.state s).is_told → KeepAllRules ext (pages_of g s) view
-    → AreRightNotes ext view.owners → t < 16 → DefinesTable (pages_of g s) t def → ((key : Entry) → room_of key ≡ no_note)
-    → (forests : TableForests) × IsReadyTable g ext room_of s def view.owners forests
-ready_table g ext s view t def room_of told keeps notes low defines forgotten =
-    let there = defined_there ext (pages_of g s) view t def keeps low defines in
-    let st = subst (λ (d : TableDef). StandsTable g ext s d view.owners (forests_of there.table)) there.same
-    (stands_told g s told ext there.table.def view.owners (forests_of there.table) (stands_of_rules ext (pages_of g s) view keeps.first t there.table there.there)) in
+pub ready_table : {S : Type 0} (g : Ghosts S) (shape : Shape) (noted : SpaceNotes) (s : S) (view : DatabaseView) (t : ℕ) (def : TableDef) (room_of : Entry → RoomNote) → IsTrue (g.state s).is_told → KeepAllRules shape (pages_of g s) view
+    → AreRightNotes shape noted view.owners → t < 16 → DefinesTable (pages_of g s) t def → ((key : Entry) → room_of key ≡ no_note)
+    → (forests : TableForests) × IsReadyTable g shape noted room_of s def view.owners forests
+ready_table g shape noted s view t def room_of told keeps notes low defines forgotten =
+    let there = defined_there shape (pages_of g s) view t def keeps low defines in
+    let st = subst (λ (d : TableDef). StandsTable g shape s d view.owners (forests_of there.table)) there.same
+    (stands_told g s told shape there.table.def view.owners (forests_of there.table) (stands_of_rules shape (pages_of g s) view keeps.first t there.table there.there)) in
     (forests_of there.table, record { stands = st; notes = notes; rooms = rooms_forgotten def room_of _ forgotten })

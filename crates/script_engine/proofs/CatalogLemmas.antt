@@ -13,7 +13,7 @@ use Rattle.statement_meaning.specs.Built.{AreBuiltDefs, are_built, is_built_plac
 use Rattle.store_api.specs.StoreState.{page_at, zero_page}
 use Rattle.store_api.specs.declared.fault.Damage.{Damage}
 use Rattle.store_api.specs.declared.pages.Pages.{Ghosts}
-use Rattle.extent_map.specs.declared.extents.Extents.{Extents}
+use Rattle.store_api.specs.declared.shape.Shape.{Shape}
 use Rattle.block_map.proofs.MapLinesLemmas.{contains_more}
 use Rattle.mdc_ast.specs.TableLimits.{IsTableDef, is_given_name, is_good_column, is_good_dimension, is_good_source}
 use Rattle.table_page.specs.TablePage.{IsTablePageOf}
@@ -92,8 +92,8 @@ pair_there R (None ∷ places) (suc t) (suc u) table other low at there pairs = 
 pair_there R (Some first ∷ places) (suc t) (suc u) table other low at there pairs =
     pair_there R places t u table other (omega (arith, low)) at there (λ i j d before within. pairs (suc i) (suc j) d (omega (arith, before)) (omega (arith, within)))
 
-module _ {S : Type 0} (g : Ghosts S) (s : S) (ext : Extents) (view : DatabaseView) (told : IsTrue (g.state s).is_told) (keeps : KeepAllRules ext (pages_of g s) view) where
-  unbroken_place : (t : ℕ) (damage : Damage) (place : Option TableView) → IsTablePlaceSound ext (pages_of g s) view.owners t place → BreaksTablePage g s t damage → ⊥
+module _ {S : Type 0} (g : Ghosts S) (s : S) (shape : Shape) (view : DatabaseView) (told : IsTrue (g.state s).is_told) (keeps : KeepAllRules shape (pages_of g s) view) where
+  unbroken_place : (t : ℕ) (damage : Damage) (place : Option TableView) → IsTablePlaceSound shape (pages_of g s) view.owners t place → BreaksTablePage g s t damage → ⊥
   unbroken_place t damage None sound (inl lacks) = omega (arith, lacks.short, zero_within (pages_of g s) (1 + t) sound)
   unbroken_place t damage (Some table) sound (inl lacks) = omega (arith, lacks.short, defined_within (pages_of g s) t table.def sound.0)
   unbroken_place t damage None sound (inr none) =
@@ -101,18 +101,18 @@ module _ {S : Type 0} (g : Ghosts S) (s : S) (ext : Extents) (view : DatabaseVie
   unbroken_place t damage (Some table) sound (inr none) =
       (none.no_table (page_at (pages_of g s) (1 + t)) (record { is_told = told; within = defined_within (pages_of g s) t table.def sound.0; bytes_are = refl })).1 table.def sound.0
 
-  sound_at : (t : ℕ) → t < 16 → (place : Option TableView) × IsTablePlaceSound ext (pages_of g s) view.owners t place
+  sound_at : (t : ℕ) → t < 16 → (place : Option TableView) × IsTablePlaceSound shape (pages_of g s) view.owners t place
   sound_at t low =
       let each = keeps.first.rule3.each in
-      let count = range_length (IsTablePlaceSound ext (pages_of g s) view.owners) 0 16 view.places each in
+      let count = range_length (IsTablePlaceSound shape (pages_of g s) view.owners) 0 16 view.places each in
       let found = place_there view.places t (omega (arith, low, count)) in
       let same : 0 + t ≡ t = omega arith in
-      (found.0, subst (λ i. IsTablePlaceSound ext (pages_of g s) view.owners i found.0) same (range_at (IsTablePlaceSound ext (pages_of g s) view.owners) 0 16 view.places t found.0 each found.1).1)
+      (found.0, subst (λ i. IsTablePlaceSound shape (pages_of g s) view.owners i found.0) same (range_at (IsTablePlaceSound shape (pages_of g s) view.owners) 0 16 view.places t found.0 each found.1).1)
 
   page_within : (t : ℕ) → t < 16 → 1 + t < length (pages_of g s)
   page_within t low = let found = sound_at t low in go found.0 found.1
     where
-      go : (place : Option TableView) → IsTablePlaceSound ext (pages_of g s) view.owners t place → 1 + t < length (pages_of g s)
+      go : (place : Option TableView) → IsTablePlaceSound shape (pages_of g s) view.owners t place → 1 + t < length (pages_of g s)
       go None sound = zero_within (pages_of g s) (1 + t) sound
       go (Some table) sound = defined_within (pages_of g s) t table.def sound.0
 
@@ -121,8 +121,8 @@ module _ {S : Type 0} (g : Ghosts S) (s : S) (ext : Extents) (view : DatabaseVie
       let pages = pages_of g s in
       let names = twice.twice (page_at pages (1 + t)) (page_at pages (1 + twice.later)) (record { is_told = told; within = page_within t low; bytes_are = refl })
       (record { is_told = told; within = page_within twice.later twice.within; bytes_are = refl }) in
-      let first = defined_there ext pages view t names.def keeps low names.is_first in
-      let second = defined_there ext pages view twice.later names.other keeps twice.within names.is_second in
+      let first = defined_there shape pages view t names.def keeps low names.is_first in
+      let second = defined_there shape pages view twice.later names.other keeps twice.within names.is_second in
       pair_there (λ a b. a.name ≢ b.name) view.places t twice.later first.table second.table twice.behind first.there second.there keeps.first.rule3.tables_differ
       (ap (λ (def : TableDef). def.name) first.same ∙ (names.same ∙ ap (λ (def : TableDef). def.name) (sym second.same)))
 

@@ -13,9 +13,9 @@ use Rattle.store_api.specs.StoreState.{page_at, stated_in}
 use Rattle.store_api.specs.declared.fault.Damage.{Damage}
 use Rattle.store_api.specs.declared.fault.PageFault.TheVariants as page
 use Rattle.store_api.specs.declared.pages.Pages.{Ghosts}
+use Rattle.store_api.specs.declared.shape.Shape.{Shape}
 use Rattle.store_api.proofs.FetchingLemmas.{once_fetch, only_once, only_same, only_then}
 use Rattle.store_api.proofs.WorksLemmas.{steady_none, steady_then, works_fetch}
-use Rattle.extent_map.specs.declared.extents.Extents.{Extents}
 use Rattle.table_trees.specs.ToldPages.{PageList}
 use Rattle.mdc_sound.specs.SpaceRules.{IsRootSound}
 use Rattle.script_engine.specs.Breaking.{JudgesDamage, NamesExactly}
@@ -38,7 +38,7 @@ miscounted g old new count stated bytes fetches disk say time is_count few hand 
   damaged = λ damage is root.
       let told : fetches.0 ≡ page_at (g.state old).work 0 = fetches.1 root.told in
       let found : bytes ≡ fetches.0 = same_Some bytes fetches.0 (sym hand ∙ ap (λ s. s.hand) fetches.2) in
-      let says = states_count root.ext (g.state old).work root.sound (omega (arith, is_count, few)) in
+      let says = states_count root.shape (g.state old).work root.sound (omega (arith, is_count, few)) in
       differ (is_stated ∙ (ap stated_in (found ∙ told) ∙ (says ∙ sym is_count)));
   uncounted = λ damage is told. inr (λ same.
       let read : fetches.0 ≡ page_at (g.state old).work 0 = fetches.1 told in
@@ -85,13 +85,13 @@ module _ {S : Type 0} (g : Ghosts S) where
     brings = tt;
     counted = tt;
     device = counts_fault_none (λ is. absurd (cc));
-    damaged = λ damage is root. some_page root.ext (g.state s).work root.sound none;
+    damaged = λ damage is root. some_page root.shape (g.state s).work root.sound none;
     uncounted = λ damage is told. inl none;
     output = λ is. absurd (cc);
   }
 
   -- the pages were judged then
-  module _ (ext : Extents) (met : Damage) (stop : EngineStop) (old mid new : S) (first : CountsPages {X = Unit {0}} g (Err (Damaged met)) old mid) (judges : JudgesDamage g ext stop mid new) where
+  module _ (shape : Shape) (met : Damage) (stop : EngineStop) (old mid new : S) (first : CountsPages {X = Unit {0}} g (Err (Damaged met)) old mid) (judges : JudgesDamage g shape stop mid new) where
     same_work : (g.state new).work ≡ (g.state old).work
     same_work = judges.reads.work ∙ first.work
 
@@ -108,9 +108,9 @@ module _ {S : Type 0} (g : Ghosts S) where
       output = λ is. judges.output (cc);
     }
 
-    pub exact_judged : NamesExactly {X = Unit {0}} g ext (Err stop) new
+    pub exact_judged : NamesExactly {X = Unit {0}} g shape (Err stop) new
     exact_judged damage is = judges.exact damage (cc) (λ told sound. first.damaged met refl (record {
       told = subst IsTrue (judges.reads.steady.is_told ∙ first.steady.is_told) told;
-      ext = ext;
-      sound = subst (λ (pages : PageList). IsRootSound ext pages) same_work sound.1.first.rule1;
+      shape = shape;
+      sound = subst (λ (pages : PageList). IsRootSound shape pages) same_work sound.1.first.rule1;
     }))

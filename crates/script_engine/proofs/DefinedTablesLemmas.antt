@@ -19,9 +19,10 @@ use Rattle.mdc_ast.proofs.TestsLemmas.{and_true, both}
 use Rattle.store_api.specs.declared.fault.Damage.{Damage}
 use Rattle.store_api.specs.Frame.{Touches}
 use Rattle.store_api.specs.declared.pages.Pages.{Ghosts}
+use Rattle.store_api.specs.declared.shape.Shape.{Shape}
 use Rattle.extent_map.specs.Damages.{IfFull}
 use Rattle.extent_map.specs.Map.{HoldsMap}
-use Rattle.extent_map.specs.Owners.{AreRightNotes, IsSameShape}
+use Rattle.extent_map.specs.Owners.{AreRightNotes}
 use Rattle.extent_map.specs.declared.fault.SpaceFault.{SpaceFault}
 use Rattle.extent_map.specs.declared.fault.SpaceFault.TheVariants.{Full, Store}
 use Rattle.extent_map.specs.declared.kind.Kind.{Kind}
@@ -116,29 +117,29 @@ same_empty from (Some def ∷ defs) = same_empty (from + 1) defs
 
 module _ {S : Type 0} (g : Ghosts S) (s : S) (tables : Tables) (ready : IsReady g s tables) where
   -- the extent map of ready pages is told
-  pub told_map : HoldsMap g tables.ext s ready.view.owners
-  told_map = told_of_map g s ready.told tables.ext ready.view.owners (map_of_rules tables.ext (pages_of g s) ready.view ready.sound.first)
+  pub told_map : HoldsMap g tables.shape s ready.view.owners
+  told_map = told_of_map g s ready.told tables.shape ready.view.owners (map_of_rules tables.shape (pages_of g s) ready.view ready.sound.first)
 
   -- each of their tables stands
-  pub table_stands : (place : ℕ) (def : TableDef) → place < 16 → def_at tables.catalog place ≡ Some def → (forests : TableForests) × StandsTable g tables.ext s def ready.view.owners forests
+  pub table_stands : (place : ℕ) (def : TableDef) → place < 16 → def_at tables.catalog place ≡ Some def → (forests : TableForests) × StandsTable g tables.shape s def ready.view.owners forests
   table_stands place def low at =
-      let found = defined_there tables.ext (pages_of g s) ready.view place def ready.sound low (stored_at (pages_of g s) tables.catalog place def ready.stored at) in (
+      let found = defined_there tables.shape (pages_of g s) ready.view place def ready.sound low (stored_at (pages_of g s) tables.catalog place def ready.stored at) in (
         forests_of found.table,
-        subst (λ d. StandsTable g tables.ext s d ready.view.owners (forests_of found.table)) found.same
-            (stands_told g s ready.told tables.ext found.table.def ready.view.owners (forests_of found.table)
-            (stands_of_rules tables.ext (pages_of g s) ready.view ready.sound.first place found.table found.there)),
+        subst (λ d. StandsTable g tables.shape s d ready.view.owners (forests_of found.table)) found.same
+            (stands_told g s ready.told tables.shape found.table.def ready.view.owners (forests_of found.table)
+            (stands_of_rules tables.shape (pages_of g s) ready.view ready.sound.first place found.table found.there)),
       )
 
 -- ---- a table more
 
 -- damage that its making names isn't there in ready pages
-pub no_making_damage : {S : Type 0} (g : Ghosts S) (s : S) (tables : Tables) (damage : Damage) → BreaksMaking g tables.ext s damage → IsReady g s tables → ⊥
+pub no_making_damage : {S : Type 0} (g : Ghosts S) (s : S) (tables : Tables) (damage : Damage) → BreaksMaking g tables.shape s damage → IsReady g s tables → ⊥
 no_making_damage g s tables damage breaks ready = breaks.broken ready.view.owners (told_map g s tables ready)
 
 -- where it is full, a CREATE TABLE runs full on ready pages
 pub full_create : {S : Type 0} (g : Ghosts S) (s : S) (tables : Tables) (def : TableDef) (fault : SpaceFault)
-    → IfFull fault (λ cap. (cap ≡ tables.ext.cap) × ((owners : List Kind) → HoldsMap g tables.ext s owners → AreRightNotes tables.ext owners → CreateRunsFull tables.ext (g.state s).work def))
-    → IfFull fault (λ cap. (cap ≡ tables.ext.cap) × (IsReady g s tables → RunsFullAlone tables.ext (pages_of g s) tables.catalog (bound.CreateTable def)))
+    → IfFull fault (λ cap. (cap ≡ tables.shape.extents) × ((owners : List Kind) → HoldsMap g tables.shape s owners → AreRightNotes tables.shape tables.notes owners → CreateRunsFull tables.shape (g.state s).work def))
+    → IfFull fault (λ cap. (cap ≡ tables.shape.extents) × (IsReady g s tables → RunsFullAlone tables.shape (pages_of g s) tables.catalog (bound.CreateTable def)))
 full_create g s tables def (Full cap) full = (
   full.0,
   λ ready. record { full = StatementRunsFull.create (full.1 ready.view.owners (told_map g s tables ready) ready.notes); faultless = λ db stands. refl },
@@ -170,15 +171,15 @@ module _ {S : Type 0} (g : Ghosts S) (old new : S) (before now : Tables) (place 
     pub lowest : empty_place before.catalog ≡ Some place
     pub is_entered : now.catalog ≡ with_def before.catalog place (rooted def roots)
     pub limits : AreWithinLimits now.catalog
-    pub stored : (owners : List Kind) → HoldsMap g before.ext old owners → AreStored (g.state old).work before.catalog → AreStored (g.state new).work now.catalog
-    pub adds : IsTrue (g.state old).is_told → AreStored (g.state old).work before.catalog → (view : DatabaseView) → KeepAllRules before.ext (g.state old).work view
-        → IfSome (def_at now.catalog place) (λ d. AddsTable before.ext now.ext (g.state old).work (g.state new).work d view)
-    pub stands_for : IsTrue (g.state old).is_told → AreStored (g.state old).work before.catalog → (view : DatabaseView) → KeepAllRules before.ext (g.state old).work view
-        → (db : Database) → PagesStandFor before.ext (g.state old).work db
-        → IfSome (def_at now.catalog place) (λ d. PagesStandFor now.ext (g.state new).work (with_place db place (Some (plain_empty d))))
+    pub stored : (owners : List Kind) → HoldsMap g before.shape old owners → AreStored (g.state old).work before.catalog → AreStored (g.state new).work now.catalog
+    pub adds : IsTrue (g.state old).is_told → AreStored (g.state old).work before.catalog → (view : DatabaseView) → KeepAllRules before.shape (g.state old).work view
+        → IfSome (def_at now.catalog place) (λ d. AddsTable before.shape before.notes now.notes (g.state old).work (g.state new).work d view)
+    pub stands_for : IsTrue (g.state old).is_told → AreStored (g.state old).work before.catalog → (view : DatabaseView) → KeepAllRules before.shape (g.state old).work view
+        → (db : Database) → PagesStandFor before.shape (g.state old).work db
+        → IfSome (def_at now.catalog place) (λ d. PagesStandFor before.shape (g.state new).work (with_place db place (Some (plain_empty d))))
     pub told : (g.state new).is_told ≡ (g.state old).is_told
-    pub shape : IsSameShape before.ext now.ext
-    pub touches : Touches g (IsAddingPage g before.ext old before.catalog) old new
+    pub shape : now.shape ≡ before.shape
+    pub touches : Touches g (IsAddingPage g before.shape old before.catalog) old new
     pub rooms : (key : Entry) → rooms_at now.rooms place key ≡ no_note
     pub other_rooms : KeepsOtherRooms before.rooms now.rooms place
 
@@ -189,18 +190,18 @@ module _ {S : Type 0} (g : Ghosts S) (old new : S) (before now : Tables) (place 
     there : def_at now.catalog place ≡ Some def_now
     there = ap (λ defs. def_at defs place) is.is_entered ∙ def_at_set before.catalog place (Some def_now) (lowest_place before.catalog place is.lowest).0
 
-    added : AddsTable before.ext now.ext (pages_of g old) (pages_of g new) def_now ready.view
+    added : AddsTable before.shape before.notes now.notes (pages_of g old) (pages_of g new) def_now ready.view
     added = of_that _ def_now _ there (is.adds ready.told ready.stored ready.view ready.sound)
 
-    plain_after : (db : Database) → PagesStandFor before.ext (pages_of g old) db → entered db (empty_place (defs_of db)) def ≡ with_place db place (Some (plain_empty def_now))
+    plain_after : (db : Database) → PagesStandFor before.shape (pages_of g old) db → entered db (empty_place (defs_of db)) def ≡ with_place db place (Some (plain_empty def_now))
     plain_after db stands =
         let lowest : empty_place (defs_of db) ≡ Some place =
-        ap empty_place (stored_defs before.ext (pages_of g old) before.catalog db ready.stored stands) ∙ (same_empty 0 before.catalog ∙ is.lowest) in
+        ap empty_place (stored_defs before.shape (pages_of g old) before.catalog db ready.stored stands) ∙ (same_empty 0 before.catalog ∙ is.lowest) in
         ap (λ found. entered db found def) lowest ∙ ap (λ (d : TableDef). with_place db place (Some (record { def = d; rows = [] }))) (plain_new place def roots is.plain)
 
-    others_stayed : KeepsOthers before.ext now.ext (pages_of g old) (pages_of g new) before.catalog now.catalog None
+    others_stayed : KeepsOthers before.shape (pages_of g old) (pages_of g new) before.catalog now.catalog None
     others_stayed =
-        others_created g old new before now place (rooted def roots) (empty_table def_now) added.owners_now ready added.sound refl refl is.shape is.served is.lowest is.is_entered is.touches
+        others_created g old new before now place (rooted def roots) (empty_table def_now) added.owners_now ready added.sound refl refl is.served is.lowest is.is_entered is.touches
         (added.makes ready.notes)
 
     abbrev view_now : DatabaseView
@@ -215,9 +216,9 @@ module _ {S : Type 0} (g : Ghosts S) (old new : S) (before now : Tables) (place 
     -- nothing is noted of the new table
     ready_now : IsReady g new now
     ready_now =
-        ready_beside g old new before now view_now is.served ready told_now added.sound stored_now (added.notes ready.notes) place
+        ready_beside g old new before now view_now is.served is.shape ready told_now added.sound stored_now (added.notes ready.notes) place
         (λ t apart. elsewhere before.catalog now.catalog place t (Some def_now) is.is_entered apart) (λ t other apart at. (others_stayed.each t other (λ e. absurd (cc e)) at).1) is.other_rooms
-        (λ d at. ready_table g now.ext new view_now place d (rooms_at now.rooms place) told_now added.sound (added.notes ready.notes) (empty_place_below before.catalog place is.served.limits is.lowest)
+        (λ d at. ready_table g before.shape now.notes new view_now place d (rooms_at now.rooms place) told_now added.sound (added.notes ready.notes) (empty_place_below before.catalog place is.served.limits is.lowest)
         (stored_at (pages_of g new) now.catalog place d stored_now at) is.rooms)
 
     -- then the CREATE TABLE is done
@@ -225,8 +226,9 @@ module _ {S : Type 0} (g : Ghosts S) (old new : S) (before now : Tables) (place 
     created = record {
       ready = ready_now;
       stands = λ db stands. record {
-        pages_are = subst (PagesStandFor now.ext (pages_of g new)) (sym (plain_after db stands))
-            (of_that _ def_now _ there (is.stands_for ready.told ready.stored ready.view ready.sound db stands));
+        pages_are = subst (PagesStandFor now.shape (pages_of g new)) (sym (plain_after db stands))
+            (subst (λ (shape : Shape). PagesStandFor shape (pages_of g new) (with_place db place (Some (plain_empty def_now)))) (sym is.shape)
+            (of_that _ def_now _ there (is.stands_for ready.told ready.stored ready.view ready.sound db stands)));
         answers = refl;
       };
       places = λ reply done place other changes at. absurd cc;
@@ -236,7 +238,7 @@ module _ {S : Type 0} (g : Ghosts S) (old new : S) (before now : Tables) (place 
 -- ---- a table less
 
 -- damage that its dropping names isn't there in ready pages
-pub no_dropping_damage : {S : Type 0} (g : Ghosts S) (s : S) (tables : Tables) (place : ℕ) (damage : Damage) → AreServed tables.catalog → BreaksDropping g tables.ext s tables.catalog place damage → IsReady g s tables → ⊥
+pub no_dropping_damage : {S : Type 0} (g : Ghosts S) (s : S) (tables : Tables) (place : ℕ) (damage : Damage) → AreServed tables.catalog → BreaksDropping g tables.shape s tables.catalog place damage → IsReady g s tables → ⊥
 no_dropping_damage g s tables place damage served breaks ready =
     let stands = table_stands g s tables ready place breaks.0 (served_below tables.catalog place breaks.0 served breaks.1) breaks.1 in
     breaks.2.broken ready.view.owners stands.0 stands.1
@@ -268,13 +270,13 @@ module _ {S : Type 0} (g : Ghosts S) (old new : S) (before now : Tables) (place 
     pub left : now.catalog ≡ without_def before.catalog place
     pub served : AreServed now.catalog
     pub stored : IsTrue (g.state old).is_told → AreStored (g.state old).work before.catalog → AreStored (g.state new).work now.catalog
-    pub drops : IsTrue (g.state old).is_told → AreStored (g.state old).work before.catalog → (view : DatabaseView) → KeepAllRules before.ext (g.state old).work view
-        → DropsTable before.ext now.ext (g.state new).work place view
-    pub stands_for : IsTrue (g.state old).is_told → AreStored (g.state old).work before.catalog → (view : DatabaseView) → KeepAllRules before.ext (g.state old).work view
-        → (db : Database) → PagesStandFor before.ext (g.state old).work db → PagesStandFor now.ext (g.state new).work (with_place db place None)
+    pub drops : IsTrue (g.state old).is_told → AreStored (g.state old).work before.catalog → (view : DatabaseView) → KeepAllRules before.shape (g.state old).work view
+        → DropsTable before.shape before.notes now.notes (g.state new).work place view
+    pub stands_for : IsTrue (g.state old).is_told → AreStored (g.state old).work before.catalog → (view : DatabaseView) → KeepAllRules before.shape (g.state old).work view
+        → (db : Database) → PagesStandFor before.shape (g.state old).work db → PagesStandFor before.shape (g.state new).work (with_place db place None)
     pub told : (g.state new).is_told ≡ (g.state old).is_told
-    pub shape : IsSameShape before.ext now.ext
-    pub touches : Touches g (IsDroppingPage before.ext place) old new
+    pub shape : now.shape ≡ before.shape
+    pub touches : Touches g (IsDroppingPage before.shape place) old new
     pub rooms : now.rooms ≡ before.rooms
 
   -- then the DROP TABLE is done
@@ -282,14 +284,14 @@ module _ {S : Type 0} (g : Ghosts S) (old new : S) (before now : Tables) (place 
   removed is ready =
       let drops = is.drops ready.told ready.stored ready.view ready.sound in
       let low : place < 16 = there_below before.catalog place is.was_served is.there in
-      let others = others_removed g old new before now place drops.owners_now ready drops.sound drops.freed is.shape is.was_served low is.left is.touches in
+      let others = others_removed g old new before now place drops.owners_now ready drops.sound drops.freed is.was_served low is.left is.touches in
       let gone : def_at now.catalog place ≡ None = ap (λ defs. def_at defs place) is.left ∙ def_at_set before.catalog place None (omega (arith, low, is.was_served.valid.places)) in
       record {
-        ready = ready_beside g old new before now (view_with ready.view drops.owners_now place None) is.was_served ready (subst IsTrue (sym is.told) ready.told)
+        ready = ready_beside g old new before now (view_with ready.view drops.owners_now place None) is.was_served is.shape ready (subst IsTrue (sym is.told) ready.told)
             drops.sound (is.stored ready.told ready.stored) (drops.notes ready.notes) place (λ t apart. elsewhere before.catalog now.catalog place t None is.left apart)
             (λ t other apart at. (others.each t other (λ e. apart (sym (same_Some place t e))) at).1) (λ t apart. ap (λ rooms. rooms_at rooms t) is.rooms)
             (λ d at. let wrong : None ≡ Some d = sym gone ∙ at in absurd (cc));
-        stands = λ db stands. record { pages_are = is.stands_for ready.told ready.stored ready.view ready.sound db stands; answers = refl };
+        stands = λ db stands. record { pages_are = subst (λ (shape : Shape). PagesStandFor shape (pages_of g new) (with_place db place None)) (sym is.shape) (is.stands_for ready.told ready.stored ready.view ready.sound db stands); answers = refl };
         places = λ reply done place other changes at. absurd cc;
         others = others;
       }

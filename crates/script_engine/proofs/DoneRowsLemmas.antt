@@ -33,12 +33,12 @@ use Rattle.store_api.specs.declared.fault.Damage.{Damage}
 use Rattle.store_api.specs.declared.fault.StoreFault.{StoreFault}
 use Rattle.store_api.proofs.RunsOverPagesLemmas.{runs_as}
 use Rattle.store_api.specs.declared.pages.Pages.{Ghosts}
+use Rattle.store_api.specs.declared.shape.Shape.{Shape}
 use Rattle.extent_map.specs.Damages.{IfFull}
-use Rattle.extent_map.specs.declared.extents.Extents.{Extents}
 use Rattle.extent_map.specs.declared.fault.SpaceFault.{SpaceFault}
 use Rattle.extent_map.specs.declared.fault.SpaceFault.TheVariants.{Full, Store}
 use Rattle.extent_map.specs.declared.kind.Kind.{Kind}
-use Rattle.entry_tree.proofs.ClaimsLemmas.{shape_none}
+use Rattle.extent_map.specs.declared.space_notes.SpaceNotes.{SpaceNotes}
 use Rattle.block_rows.specs.HeldRows.{placed_row}
 use Rattle.block_rows.specs.declared.hit.Hit.{Hit}
 use Rattle.table_trees.specs.SpaceChanges.{SpaceChange}
@@ -104,87 +104,87 @@ ends_so db select table def outcome at def_is none = absurd none
 -- a query answers what the plain database answers
 pub query_does : {S : Type 0} (g : Ghosts S) (old new : S) (tables : Tables) (select : BoundSelect) (def : TableDef) (outcome : Outcome) → AreServed tables.catalog
     → def_at tables.catalog select.table ≡ Some def → (g.state new).is_told ≡ (g.state old).is_told → (g.state new).work ≡ (g.state old).work
-    → ((owners : List Kind) (forests : TableForests) (rows : List Row) → StandsTable g tables.ext old def owners forests → AreQueryRows g tables.ext old def select.pred forests rows → IsAnswerFor def select rows outcome)
+    → ((owners : List Kind) (forests : TableForests) (rows : List Row) → StandsTable g tables.shape old def owners forests → AreQueryRows g tables.shape old def select.pred forests rows → IsAnswerFor def select rows outcome)
     → IsReady g old tables → DoesStatement g old new tables tables (bound.Query select) outcome
 query_does g old new tables select def outcome served at told same answers ready =
     let st = stands_ready g old tables select.table def served ready at in record {
       ready = ready_still g old new told same tables ready;
       stands = λ db stands.
-          let here = stored_table db tables.catalog select.table def (stored_defs tables.ext (pages_of g old) tables.catalog db ready.stored stands) at in
-          let has : HasQueryRows g tables.ext old def st.forests db select.table select.pred =
-          query_rows_of g tables.ext old def st.owners st.forests st.stands select.pred tables.catalog select.table db here.0 ready.stored at stands here.1 in
+          let here = stored_table db tables.catalog select.table def (stored_defs tables.shape (pages_of g old) tables.catalog db ready.stored stands) at in
+          let has : HasQueryRows g tables.shape old def st.forests db select.table select.pred =
+          query_rows_of g tables.shape old def st.owners st.forests st.stands select.pred tables.catalog select.table db here.0 ready.stored at stands here.1 in
           let end_ = ends_so db select has.table def outcome has.at has.def_is (answers st.owners st.forests (filter (λ row. qualifies select.pred row.values) has.table.rows) st.stands has.rows) in record {
-            pages_are = subst (λ (e : Database × Answer). PagesStandFor tables.ext (pages_of g new) e.0) (sym end_) (subst (λ pages. PagesStandFor tables.ext pages db) (sym same) stands);
+            pages_are = subst (λ (e : Database × Answer). PagesStandFor tables.shape (pages_of g new) e.0) (sym end_) (subst (λ pages. PagesStandFor tables.shape pages db) (sym same) stands);
             answers = ap (λ (e : Database × Answer). e.1) end_;
           };
       places = λ done is_done place other changed there. absurd (cc changed);
-      others = keeps_others_itself tables.ext tables.ext (pages_of g old) (pages_of g new) tables.catalog tables.catalog None (shape_none tables.ext) same refl;
+      others = keeps_others_itself tables.shape (pages_of g old) (pages_of g new) tables.catalog tables.catalog None same refl;
     }
 
 -- ---- rows that were changed
 
 -- a table stands with right notes, in pages that are sound as they are between two changes of rows
-pub record StandsBetween {S : Type 0} (g : Ghosts S) (s : S) (ext : Extents) (room : Entry → RoomNote) (def : TableDef) : Type 0 where
+pub record StandsBetween {S : Type 0} (g : Ghosts S) (s : S) (shape : Shape) (noted : SpaceNotes) (room : Entry → RoomNote) (def : TableDef) : Type 0 where
   pub owners : List Kind
   pub forests : TableForests
-  pub between : IsReadyBetween g ext room s def owners forests
+  pub between : IsReadyBetween g shape noted room s def owners forests
 
 -- The rows of a table were changed, after a scan of it and by the notes that were lent: what is left to say is what the plain
 -- database becomes, and the answer.
 module _ {S : Type 0} (g : Ghosts S) (old mid new : S) (before now : Tables) (place : ℕ) (def : TableDef) (served : AreServed before.catalog) (at : def_at before.catalog place ≡ Some def)
     {room : Entry → RoomNote} (lent : rooms_at before.rooms place ≡ room) (told : (g.state mid).is_told ≡ (g.state old).is_told) (same : (g.state mid).work ≡ (g.state old).work) where
   -- the table stands midway
-  pub ready_mid : IsReady g old before → StandsBetween g mid before.ext room def
+  pub ready_mid : IsReady g old before → StandsBetween g mid before.shape before.notes room def
   ready_mid ready =
       let still = ready_still g old mid told same before ready in
-      let found = ready_between g mid before place def served still at in record { owners = still.view.owners; forests = found.0; between = subst (λ (r : Entry → RoomNote). IsReadyBetween g before.ext r mid def still.view.owners found.0) lent found.1 }
+      let found = ready_between g mid before place def served still at in record { owners = still.view.owners; forests = found.0; between = subst (λ (r : Entry → RoomNote). IsReadyBetween g before.shape before.notes r mid def still.view.owners found.0) lent found.1 }
 
   -- damage that is met in changing its rows
   pub runs_change : {Early : ℕ → Type 0} {Any : Damage → Type 0} {fault : Option StoreFault} (pred : Option Pred) (found : List Hit) (rows : List PlacedRow) → rows ≡ map placed_row found
-      → ((owners : List Kind) (forests : TableForests) → StandsTable g before.ext old def owners forests → FindsRows g before.ext old def pred found forests)
-      → RunsOverPages g NoPage Early Any old mid None → RunsOverPages g AnyPage AnyPage (BreaksReady g before.ext room mid def (HasTheseRows g before.ext mid def rows)) mid new fault
+      → ((owners : List Kind) (forests : TableForests) → StandsTable g before.shape old def owners forests → FindsRows g before.shape old def pred found forests)
+      → RunsOverPages g NoPage Early Any old mid None → RunsOverPages g AnyPage AnyPage (BreaksReady g before.shape before.notes room mid def (HasTheseRows g before.shape mid def rows)) mid new fault
       → RunsOverPages g AnyPage AnyPage (BreaksDatabase g old before) old new fault
   runs_change pred found rows are finds scan change =
       runs_as scan change (λ p there none. absurd none) (λ p there any. any) (λ p of. tt) (λ p any. any)
       (λ damage breaks ready.
       let mid_ready = ready_mid ready in
       let st = mid_ready.between.ready.stands in
-      let hits_here = found_still g old mid told same before.ext def pred found mid_ready.owners mid_ready.forests finds st in
+      let hits_here = found_still g old mid told same before.shape def pred found mid_ready.owners mid_ready.forests finds st in
       breaks.broken mid_ready.owners mid_ready.forests mid_ready.between
-      (subst (λ r. HasTheseRows g before.ext mid def r mid_ready.owners mid_ready.forests) (sym are)
-      (these_rows g before.ext mid def mid_ready.owners mid_ready.forests st pred found hits_here mid_ready.between.sound)))
+      (subst (λ r. HasTheseRows g before.shape mid def r mid_ready.owners mid_ready.forests) (sym are)
+      (these_rows g before.shape mid def mid_ready.owners mid_ready.forests st pred found hits_here mid_ready.between.sound)))
 
-  module _ (ready : IsReady g old before) (owners : List Kind) (forests : TableForests) (mid_ready : IsReadyBetween g before.ext room mid def owners forests)
+  module _ (ready : IsReady g old before) (owners : List Kind) (forests : TableForests) (mid_ready : IsReadyBetween g before.shape before.notes room mid def owners forests)
       (statement : Bound) (change : PlainTable → PlainTable) {room_now : Entry → RoomNote} (left : rooms_at now.rooms place ≡ room_now)
-      (changed : ChangesRowsOf g before.ext now.ext room_now mid new def def owners forests (λ was space is. PlacesRows def (block_slot_count before.ext def) was space is statement) change)
-      (catalog : now.catalog ≡ before.catalog) (rooms : KeepsOtherRooms before.rooms now.rooms place) where
+      (changed : ChangesRowsOf g before.shape before.notes now.notes room_now mid new def def owners forests (λ was space is. PlacesRows def (block_slot_count before.shape def) was space is statement) change)
+      (catalog : now.catalog ≡ before.catalog) (shape : now.shape ≡ before.shape) (rooms : KeepsOtherRooms before.rooms now.rooms place) where
     pub rows_done : (outcome : Outcome) → changed_place statement ≡ Some place
-        → ((db : Database) → PagesStandFor before.ext (pages_of g mid) db → (changed_at db place change ≡ (done db statement).0) × ((done db statement).1 ≡ answer_of outcome))
+        → ((db : Database) → PagesStandFor before.shape (pages_of g mid) db → (changed_at db place change ≡ (done db statement).0) × ((done db statement).1 ≡ answer_of outcome))
         → DoesStatement g old new before now statement outcome
     rows_done outcome is_changed means =
-        let Places : List Spot → List SpaceChange → List Spot → Type 0 = λ was space is. PlacesRows def (block_slot_count before.ext def) was space is statement in
+        let Places : List Spot → List SpaceChange → List Spot → Type 0 = λ was space is. PlacesRows def (block_slot_count before.shape def) was space is statement in
         let still = ready_still g old mid told same before ready in
-        let ends = change_ends_unwritten g mid new before now place def owners forests Places change served still at
-        (subst (λ (r : Entry → RoomNote). ChangesRowsOf g before.ext now.ext r mid new def def owners forests Places change) (sym left) changed) catalog rooms in
+        let ends = change_ends_unwritten g mid new before now place def owners forests Places change served shape still at
+        (subst (λ (r : Entry → RoomNote). ChangesRowsOf g before.shape before.notes now.notes r mid new def def owners forests Places change) (sym left) changed) catalog rooms in
         let at_now : def_at now.catalog place ≡ Some def = ap (λ defs. def_at defs place) catalog ∙ at in
         let served_now : AreServed now.catalog = subst AreServed (sym catalog) served in
         let written = sym (page_is_written g new now place def served_now ends.ready at_now) in
         let shown = places_shown g mid new new before now def def owners forests Places change statement still refl mid_ready changed written (λ was space is puts. puts) in record {
           ready = ends.ready;
           stands = λ db stands.
-              let midway : PagesStandFor before.ext (pages_of g mid) db = subst (λ pages. PagesStandFor before.ext pages db) (sym same) stands in
+              let midway : PagesStandFor before.shape (pages_of g mid) db = subst (λ pages. PagesStandFor before.shape pages db) (sym same) stands in
               let meant = means db midway in record {
-                pages_are = subst (PagesStandFor now.ext (pages_of g new)) meant.0 (ends.stands_for db midway);
+                pages_are = subst (PagesStandFor now.shape (pages_of g new)) meant.0 (ends.stands_for db midway);
                 answers = meant.1;
               };
           places = λ said is_said t other of there.
               let place_is : place ≡ t = same_Some place t (sym is_changed ∙ of) in
               let def_is : def ≡ other = same_Some def other (sym at ∙ ap (def_at before.catalog) place_is ∙ there) in
-              subst (λ (d : TableDef). PlacesOnPages before.ext now.ext (pages_of g old) (pages_of g new) d statement) def_is
-              (subst (λ pages. PlacesOnPages before.ext now.ext pages (pages_of g new) def statement) same shown);
+              subst (λ (d : TableDef). PlacesOnPages before.shape (pages_of g old) (pages_of g new) d statement) def_is
+              (subst (λ pages. PlacesOnPages before.shape pages (pages_of g new) def statement) same shown);
           others =
-              subst (λ (found : Option ℕ). KeepsOthers before.ext now.ext (pages_of g old) (pages_of g new) before.catalog now.catalog found) (sym (touched_is statement place is_changed))
-              (subst (λ pages. KeepsOthers before.ext now.ext pages (pages_of g new) before.catalog now.catalog (Some place)) same
+              subst (λ (found : Option ℕ). KeepsOthers before.shape (pages_of g old) (pages_of g new) before.catalog now.catalog found) (sym (touched_is statement place is_changed))
+              (subst (λ pages. KeepsOthers before.shape pages (pages_of g new) before.catalog now.catalog (Some place)) same
               (others_changed g mid new before now place def.number (served_def before.catalog place def served at).number served still changed.others catalog));
         }
 
@@ -203,20 +203,20 @@ count_is found table pred rows at are = ap (λ t. length (hits pred t)) at ∙ a
 pub delete_does : {S : Type 0} {room room_now : Entry → RoomNote} (g : Ghosts S) (old mid new : S) (before now : Tables) (place : ℕ) (def : TableDef) (pred : Option Pred) (found items : List Hit) (count : ℕ) → AreServed before.catalog
     → def_at before.catalog place ≡ Some def → rooms_at before.rooms place ≡ room → rooms_at now.rooms place ≡ room_now
     → (g.state mid).is_told ≡ (g.state old).is_told → (g.state mid).work ≡ (g.state old).work
-    → ((owners : List Kind) (forests : TableForests) → StandsTable g before.ext old def owners forests → FindsRows g before.ext old def pred found forests) → items ≡ found → count ≡ length found
-    → ((owners : List Kind) (forests : TableForests) → IsReadyBetween g before.ext room mid def owners forests → HasTheseRows g before.ext mid def (map placed_row items) owners forests
-    → ChangesRowsOf g before.ext now.ext room_now mid new def def owners forests (λ was space is. TakesRowsBy def was (map placed_row items) space is) (without_rows (map (λ hit. hit.row) items)))
-    → now.catalog ≡ before.catalog → KeepsOtherRooms before.rooms now.rooms place → IsReady g old before → DoesStatement g old new before now (bound.Delete place pred) (said.Done (reply.Deleted count))
-delete_does {room_now = room_now} g old mid new before now place def pred found items count served at lent left told same finds are counts deletes catalog rooms ready =
+    → ((owners : List Kind) (forests : TableForests) → StandsTable g before.shape old def owners forests → FindsRows g before.shape old def pred found forests) → items ≡ found → count ≡ length found
+    → ((owners : List Kind) (forests : TableForests) → IsReadyBetween g before.shape before.notes room mid def owners forests → HasTheseRows g before.shape mid def (map placed_row items) owners forests
+    → ChangesRowsOf g before.shape before.notes now.notes room_now mid new def def owners forests (λ was space is. TakesRowsBy def was (map placed_row items) space is) (without_rows (map (λ hit. hit.row) items)))
+    → now.catalog ≡ before.catalog → now.shape ≡ before.shape → KeepsOtherRooms before.rooms now.rooms place → IsReady g old before → DoesStatement g old new before now (bound.Delete place pred) (said.Done (reply.Deleted count))
+delete_does {room_now = room_now} g old mid new before now place def pred found items count served at lent left told same finds are counts deletes catalog shape rooms ready =
     let mid_ready = ready_mid g old mid new before now place def served at lent told same ready in
     let forests = mid_ready.forests in
     let owners = mid_ready.owners in
     let st = mid_ready.between.ready.stands in
-    let hits_here = found_still g old mid told same before.ext def pred found owners forests finds st in
-    let lie = these_rows g before.ext mid def owners forests st pred found hits_here mid_ready.between.sound in
-    let changed : ChangesRowsOf g before.ext now.ext room_now mid new def def owners forests (λ was space is. TakesRowsBy def was (map placed_row found) space is) (without_rows (map (λ (hit : Hit). hit.row) found)) =
-    subst (λ (l : List Hit). ChangesRowsOf g before.ext now.ext room_now mid new def def owners forests (λ was space is. TakesRowsBy def was (map placed_row l) space is) (without_rows (map (λ (hit : Hit). hit.row) l))) are
-    (deletes owners forests mid_ready.between (subst (λ (l : List Hit). HasTheseRows g before.ext mid def (map placed_row l) owners forests) (sym are) lie)) in
+    let hits_here = found_still g old mid told same before.shape def pred found owners forests finds st in
+    let lie = these_rows g before.shape mid def owners forests st pred found hits_here mid_ready.between.sound in
+    let changed : ChangesRowsOf g before.shape before.notes now.notes room_now mid new def def owners forests (λ was space is. TakesRowsBy def was (map placed_row found) space is) (without_rows (map (λ (hit : Hit). hit.row) found)) =
+    subst (λ (l : List Hit). ChangesRowsOf g before.shape before.notes now.notes room_now mid new def def owners forests (λ was space is. TakesRowsBy def was (map placed_row l) space is) (without_rows (map (λ (hit : Hit). hit.row) l))) are
+    (deletes owners forests mid_ready.between (subst (λ (l : List Hit). HasTheseRows g before.shape mid def (map placed_row l) owners forests) (sym are) lie)) in
     rows_done g old mid new before now place def served at lent told same ready owners forests mid_ready.between (bound.Delete place pred) (without_rows (map (λ (hit : Hit). hit.row) found)) left
     (record {
       owners_now = changed.owners_now;
@@ -226,15 +226,15 @@ delete_does {room_now = room_now} g old mid new before now place def pred found 
       now = changed.now;
       space = changed.space;
       makes = changed.makes;
-      places = PlacesRows.delete (map placed_row found) (qualifying g before.ext mid def owners forests st pred found hits_here mid_ready.between.sound) changed.places;
+      places = PlacesRows.delete (map placed_row found) (qualifying g before.shape mid def owners forests st pred found hits_here mid_ready.between.sound) changed.places;
       stands_for = changed.stands_for;
       table_pages = changed.table_pages;
       others = changed.others;
-    }) catalog rooms (said.Done (reply.Deleted count)) refl
+    }) catalog shape rooms (said.Done (reply.Deleted count)) refl
     (λ db stands.
-    let here = stored_table db before.catalog place def (stored_defs before.ext (pages_of g mid) before.catalog db (ready_still g old mid told same before ready).stored stands) at in
+    let here = stored_table db before.catalog place def (stored_defs before.shape (pages_of g mid) before.catalog db (ready_still g old mid told same before ready).stored stands) at in
     let has : HasHits db place def pred found =
-    hits_of g before.ext mid def owners forests st pred found hits_here mid_ready.between.sound before.catalog place db here.0 (ready_still g old mid told same before ready).stored at stands here.1 in (
+    hits_of g before.shape mid def owners forests st pred found hits_here mid_ready.between.sound before.catalog place db here.0 (ready_still g old mid told same before ready).stored at stands here.1 in (
       changed_alike db place has.table (without_rows (map (λ (hit : Hit). hit.row) found)) (left_table pred) has.at
           (ap (λ rows. without_rows rows has.table) has.are ∙ qualifying_taken pred has.table has.rising),
       ap (λ n. Replied (reply.Deleted n)) (count_is _ has.table pred found has.at has.are ∙ sym counts),
@@ -257,49 +257,49 @@ causes_are db place sets pred columns table found at same are =
 
 pub refused_does : {S : Type 0} (g : Ghosts S) (old mid : S) (before : Tables) (place : ℕ) (def : TableDef) (sets : List BoundSet) (pred : Option Pred) (found : List Hit) (cause : Cause) (outcome : Outcome) → AreServed before.catalog
     → def_at before.catalog place ≡ Some def → (g.state mid).is_told ≡ (g.state old).is_told → (g.state mid).work ≡ (g.state old).work
-    → ((owners : List Kind) (forests : TableForests) → StandsTable g before.ext old def owners forests → FindsRows g before.ext old def pred found forests)
+    → ((owners : List Kind) (forests : TableForests) → StandsTable g before.shape old def owners forests → FindsRows g before.shape old def pred found forests)
     → first_of (flat_map (λ hit. changed_causes def.columns sets None hit.row) found) ≡ Some cause → outcome ≡ said.Refused (refusal_of cause) → IsReady g old before
     → DoesStatement g old mid before before (bound.Update place sets pred) outcome
 refused_does g old mid before place def sets pred found cause outcome served at told same finds first is ready =
     let st = stands_ready g old before place def served ready at in record {
       ready = ready_still g old mid told same before ready;
       stands = λ db stands.
-          let here = stored_table db before.catalog place def (stored_defs before.ext (pages_of g old) before.catalog db ready.stored stands) at in
+          let here = stored_table db before.catalog place def (stored_defs before.shape (pages_of g old) before.catalog db ready.stored stands) at in
           let has : HasHits db place def pred found =
-          hits_of g before.ext old def st.owners st.forests st.stands pred found (finds st.owners st.forests st.stands) st.between before.catalog place db here.0 ready.stored at stands here.1 in
+          hits_of g before.shape old def st.owners st.forests st.stands pred found (finds st.owners st.forests st.stands) st.between before.catalog place db here.0 ready.stored at stands here.1 in
           let ends : done db (bound.Update place sets pred) ≡ (db, Refused (refusal_of cause)) =
           ap (λ causes. step_by db causes (effect db (bound.Update place sets pred)))
           (causes_are db place sets pred def.columns has.table found has.at (ap (λ (d : TableDef). d.columns) has.def_is) has.are)
           ∙ first_decides db (flat_map (λ (hit : Hit). changed_causes def.columns sets None hit.row) found) [] _ cause first in record {
-            pages_are = subst (PagesStandFor before.ext (pages_of g mid)) (sym (ap (λ e. e.0) ends)) (subst (λ pages. PagesStandFor before.ext pages db) (sym same) stands);
+            pages_are = subst (PagesStandFor before.shape (pages_of g mid)) (sym (ap (λ e. e.0) ends)) (subst (λ pages. PagesStandFor before.shape pages db) (sym same) stands);
             answers = ap (λ e. e.1) ends ∙ sym (ap answer_of is);
           };
       places = λ said is_said t other of there. absurd (cc (is, is_said));
-      others = keeps_others_itself before.ext before.ext (pages_of g old) (pages_of g mid) before.catalog before.catalog (Some place) (shape_none before.ext) same refl;
+      others = keeps_others_itself before.shape (pages_of g old) (pages_of g mid) before.catalog before.catalog (Some place) same refl;
     }
 
 module _ {S : Type 0} (g : Ghosts S) (old mid new : S) (before now : Tables) (place : ℕ) (def : TableDef) (sets : List BoundSet) (pred : Option Pred) (found : List Hit) (items : List Turned) (served : AreServed before.catalog)
     (at : def_at before.catalog place ≡ Some def) {room : Entry → RoomNote} (lent : rooms_at before.rooms place ≡ room) (told : (g.state mid).is_told ≡ (g.state old).is_told) (same : (g.state mid).work ≡ (g.state old).work)
-    (finds : (owners : List Kind) (forests : TableForests) → StandsTable g before.ext old def owners forests → FindsRows g before.ext old def pred found forests)
+    (finds : (owners : List Kind) (forests : TableForests) → StandsTable g before.shape old def owners forests → FindsRows g before.shape old def pred found forests)
     (made : map turned_row items ≡ map (turned_hit sets) found) where
   pub update_does : {room_now : Entry → RoomNote} (count : ℕ) → rooms_at now.rooms place ≡ room_now → flat_map (λ hit. changed_causes def.columns sets None hit.row) found ≡ [] → count ≡ length items
-      → ((owners : List Kind) (forests : TableForests) → IsReadyBetween g before.ext room mid def owners forests
-      → HasTheseRows g before.ext mid def (map (λ t. (turned_row t).0) items) owners forests
-      → ChangesRowsOf g before.ext now.ext room_now mid new def def owners forests
-      (λ was space is. TurnsRowsBy def (block_slot_count before.ext def) was (map turned_row items) space is) (with_rows (map (λ t. t.row) items)))
-      → now.catalog ≡ before.catalog → KeepsOtherRooms before.rooms now.rooms place → IsReady g old before → DoesStatement g old new before now (bound.Update place sets pred) (said.Done (reply.Updated count))
-  update_does count left nothing counts changes catalog rooms ready =
+      → ((owners : List Kind) (forests : TableForests) → IsReadyBetween g before.shape before.notes room mid def owners forests
+      → HasTheseRows g before.shape mid def (map (λ t. (turned_row t).0) items) owners forests
+      → ChangesRowsOf g before.shape before.notes now.notes room_now mid new def def owners forests
+      (λ was space is. TurnsRowsBy def (block_slot_count before.shape def) was (map turned_row items) space is) (with_rows (map (λ t. t.row) items)))
+      → now.catalog ≡ before.catalog → now.shape ≡ before.shape → KeepsOtherRooms before.rooms now.rooms place → IsReady g old before → DoesStatement g old new before now (bound.Update place sets pred) (said.Done (reply.Updated count))
+  update_does count left nothing counts changes catalog shape rooms ready =
       let mid_ready = ready_mid g old mid new before now place def served at lent told same ready in
       let forests = mid_ready.forests in
       let owners = mid_ready.owners in
       let st = mid_ready.between.ready.stands in
-      let hits_here = found_still g old mid told same before.ext def pred found owners forests finds st in
-      let lie = these_rows g before.ext mid def owners forests st pred found hits_here mid_ready.between.sound in
-      let q = hits_qualify g before.ext mid def owners forests st pred found hits_here in
+      let hits_here = found_still g old mid told same before.shape def pred found owners forests finds st in
+      let lie = these_rows g before.shape mid def owners forests st pred found hits_here mid_ready.between.sound in
+      let q = hits_qualify g before.shape mid def owners forests st pred found hits_here in
       let rows = with_changed sets pred (map placed_row found) in
-      let changed = changes owners forests mid_ready.between (subst (λ r. HasTheseRows g before.ext mid def r owners forests) (sym (turned_places sets items found made)) lie) in
-      let placed : TurnsRowsBy def (block_slot_count before.ext def) (spots_of g before.ext mid def owners forests) rows changed.space (spots_of g now.ext new def changed.owners_now changed.forests_now) =
-      subst (λ r. TurnsRowsBy def (block_slot_count before.ext def) (spots_of g before.ext mid def owners forests) r changed.space (spots_of g now.ext new def changed.owners_now changed.forests_now))
+      let changed = changes owners forests mid_ready.between (subst (λ r. HasTheseRows g before.shape mid def r owners forests) (sym (turned_places sets items found made)) lie) in
+      let placed : TurnsRowsBy def (block_slot_count before.shape def) (spots_of g before.shape mid def owners forests) rows changed.space (spots_of g before.shape new def changed.owners_now changed.forests_now) =
+      subst (λ r. TurnsRowsBy def (block_slot_count before.shape def) (spots_of g before.shape mid def owners forests) r changed.space (spots_of g before.shape new def changed.owners_now changed.forests_now))
       (turned_changed sets pred items found made q) changed.places in
       rows_done g old mid new before now place def served at lent told same ready owners forests mid_ready.between (bound.Update place sets pred) (with_rows (map (λ (t : Turned). t.row) items)) left
       (record {
@@ -310,15 +310,15 @@ module _ {S : Type 0} (g : Ghosts S) (old mid new : S) (before now : Tables) (pl
         now = changed.now;
         space = changed.space;
         makes = changed.makes;
-        places = PlacesRows.update (map placed_row found) (qualifying g before.ext mid def owners forests st pred found hits_here mid_ready.between.sound) placed;
+        places = PlacesRows.update (map placed_row found) (qualifying g before.shape mid def owners forests st pred found hits_here mid_ready.between.sound) placed;
         stands_for = changed.stands_for;
         table_pages = changed.table_pages;
         others = changed.others;
-      }) catalog rooms (said.Done (reply.Updated count)) refl
+      }) catalog shape rooms (said.Done (reply.Updated count)) refl
       (λ db stands.
       let stored = (ready_still g old mid told same before ready).stored in
-      let here = stored_table db before.catalog place def (stored_defs before.ext (pages_of g mid) before.catalog db stored stands) at in
-      let has : HasHits db place def pred found = hits_of g before.ext mid def owners forests st pred found hits_here mid_ready.between.sound before.catalog place db here.0 stored at stands here.1 in
+      let here = stored_table db before.catalog place def (stored_defs before.shape (pages_of g mid) before.catalog db stored stands) at in
+      let has : HasHits db place def pred found = hits_of g before.shape mid def owners forests st pred found hits_here mid_ready.between.sound before.catalog place db here.0 stored at stands here.1 in
       let ends : done db (bound.Update place sets pred) ≡ (changed_at db place (changed_table sets pred), Replied (reply.Updated (length (hits pred (table_at db place))))) =
       ap (λ causes. step_by db causes (effect db (bound.Update place sets pred)))
       (causes_are db place sets pred def.columns has.table found has.at (ap (λ (d : TableDef). d.columns) has.def_is) has.are ∙ ap (λ l. l ++ []) nothing) in
@@ -331,47 +331,47 @@ module _ {S : Type 0} (g : Ghosts S) (old mid new : S) (before now : Tables) (pl
       ))
 
   -- nothing is said against it by the rows that there were
-  unsaid : flat_map (λ hit. changed_causes def.columns sets None hit.row) found ≡ [] → IsReady g old before → (db : Database) → PagesStandFor before.ext (pages_of g old) db
+  unsaid : flat_map (λ hit. changed_causes def.columns sets None hit.row) found ≡ [] → IsReady g old before → (db : Database) → PagesStandFor before.shape (pages_of g old) db
       → causes_of_rows db (bound.Update place sets pred) ≡ []
   unsaid nothing ready db stands =
       let st = stands_ready g old before place def served ready at in
-      let here = stored_table db before.catalog place def (stored_defs before.ext (pages_of g old) before.catalog db ready.stored stands) at in
+      let here = stored_table db before.catalog place def (stored_defs before.shape (pages_of g old) before.catalog db ready.stored stands) at in
       let has : HasHits db place def pred found =
-      hits_of g before.ext old def st.owners st.forests st.stands pred found (finds st.owners st.forests st.stands) st.between before.catalog place db here.0 ready.stored at stands here.1 in
+      hits_of g before.shape old def st.owners st.forests st.stands pred found (finds st.owners st.forests st.stands) st.between before.catalog place db here.0 ready.stored at stands here.1 in
       causes_are db place sets pred def.columns has.table found has.at (ap (λ (d : TableDef). d.columns) has.def_is) has.are ∙ ap (λ l. l ++ []) nothing
 
   -- it runs full on the pages that there were
   update_full : IsReady g old before
-      → ((owners : List Kind) (forests : TableForests) → IsReadyBetween g before.ext room mid def owners forests
-      → HasTheseRows g before.ext mid def (map (λ t. (turned_row t).0) items) owners forests → UpdateRunsFull before.ext (pages_of g mid) def (map turned_row items))
-      → StatementRunsFull before.ext (pages_of g old) before.catalog (bound.Update place sets pred)
+      → ((owners : List Kind) (forests : TableForests) → IsReadyBetween g before.shape before.notes room mid def owners forests
+      → HasTheseRows g before.shape mid def (map (λ t. (turned_row t).0) items) owners forests → UpdateRunsFull before.shape (pages_of g mid) def (map turned_row items))
+      → StatementRunsFull before.shape (pages_of g old) before.catalog (bound.Update place sets pred)
   update_full ready full =
       let mid_ready = ready_mid g old mid new before now place def served at lent told same ready in
       let forests = mid_ready.forests in
       let owners = mid_ready.owners in
       let st = mid_ready.between.ready.stands in
-      let hits_here = found_still g old mid told same before.ext def pred found owners forests finds st in
-      let lie = these_rows g before.ext mid def owners forests st pred found hits_here mid_ready.between.sound in
-      let q = hits_qualify g before.ext mid def owners forests st pred found hits_here in
-      let runs = full owners forests mid_ready.between (subst (λ r. HasTheseRows g before.ext mid def r owners forests) (sym (turned_places sets items found made)) lie) in
-      subst (λ pages. StatementRunsFull before.ext pages before.catalog (bound.Update place sets pred)) same
-      (StatementRunsFull.update def (spots_of g before.ext mid def owners forests) (map placed_row found) at (shows_spots g before.ext mid def owners forests st)
-      (qualifying g before.ext mid def owners forests st pred found hits_here mid_ready.between.sound)
-      (subst (UpdateRunsFull before.ext (pages_of g mid) def) (turned_changed sets pred items found made q) runs))
+      let hits_here = found_still g old mid told same before.shape def pred found owners forests finds st in
+      let lie = these_rows g before.shape mid def owners forests st pred found hits_here mid_ready.between.sound in
+      let q = hits_qualify g before.shape mid def owners forests st pred found hits_here in
+      let runs = full owners forests mid_ready.between (subst (λ r. HasTheseRows g before.shape mid def r owners forests) (sym (turned_places sets items found made)) lie) in
+      subst (λ pages. StatementRunsFull before.shape pages before.catalog (bound.Update place sets pred)) same
+      (StatementRunsFull.update def (spots_of g before.shape mid def owners forests) (map placed_row found) at (shows_spots g before.shape mid def owners forests st)
+      (qualifying g before.shape mid def owners forests st pred found hits_here mid_ready.between.sound)
+      (subst (UpdateRunsFull before.shape (pages_of g mid) def) (turned_changed sets pred items found made q) runs))
 
   -- and the number that Full states is that of the extents
   pub update_stops : (fault : SpaceFault) → flat_map (λ hit. changed_causes def.columns sets None hit.row) found ≡ []
-      → IfFull fault (λ cap. (cap ≡ before.ext.cap)
-      × ((owners : List Kind) (forests : TableForests) → IsReadyBetween g before.ext room mid def owners forests
-      → HasTheseRows g before.ext mid def (map (λ t. (turned_row t).0) items) owners forests → UpdateRunsFull before.ext (pages_of g mid) def (map turned_row items)))
-      → IfFull fault (λ cap. (cap ≡ before.ext.cap) × (IsReady g old before → RunsFullAlone before.ext (pages_of g old) before.catalog (bound.Update place sets pred)))
+      → IfFull fault (λ cap. (cap ≡ before.shape.extents)
+      × ((owners : List Kind) (forests : TableForests) → IsReadyBetween g before.shape before.notes room mid def owners forests
+      → HasTheseRows g before.shape mid def (map (λ t. (turned_row t).0) items) owners forests → UpdateRunsFull before.shape (pages_of g mid) def (map turned_row items)))
+      → IfFull fault (λ cap. (cap ≡ before.shape.extents) × (IsReady g old before → RunsFullAlone before.shape (pages_of g old) before.catalog (bound.Update place sets pred)))
   update_stops (Full cap) nothing full = (full.0, λ ready. record { full = update_full ready full.1; faultless = unsaid nothing ready })
   update_stops (Store fault) nothing full = tt
 
 -- a hit that doesn't fit shows that the table doesn't stand
-pub unfit_breaks : {S : Type 0} (g : Ghosts S) (ext : Extents) (s : S) (def : TableDef) (pred : Option Pred) (found : List Hit) (damage : Damage)
-    → ((owners : List Kind) (forests : TableForests) → StandsTable g ext s def owners forests → FindsRows g ext s def pred found forests)
-    → list_all (λ hit. fits_all def.columns hit.row.values) found ≡ false → IsNoStandingTable g ext s def damage
-unfit_breaks g ext s def pred found damage finds unfit owners forests st =
-    let fit = each_passes (λ (hit : Hit). fits_all def.columns hit.row.values) found (hits_fit g ext s def owners forests st pred found (finds owners forests st)) in
+pub unfit_breaks : {S : Type 0} (g : Ghosts S) (shape : Shape) (s : S) (def : TableDef) (pred : Option Pred) (found : List Hit) (damage : Damage)
+    → ((owners : List Kind) (forests : TableForests) → StandsTable g shape s def owners forests → FindsRows g shape s def pred found forests)
+    → list_all (λ hit. fits_all def.columns hit.row.values) found ≡ false → IsNoStandingTable g shape s def damage
+unfit_breaks g shape s def pred found damage finds unfit owners forests st =
+    let fit = each_passes (λ (hit : Hit). fits_all def.columns hit.row.values) found (hits_fit g shape s def owners forests st pred found (finds owners forests st)) in
     absurd (cc (fit, unfit))

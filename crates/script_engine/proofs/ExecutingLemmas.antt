@@ -27,7 +27,6 @@ use Rattle.store_api.proofs.RunsOverPagesLemmas.{runs_memory, runs_none}
 use Rattle.extent_map.specs.Damages.{IfFull, store_part_of}
 use Rattle.extent_map.specs.declared.fault.SpaceFault.{SpaceFault}
 use Rattle.extent_map.specs.declared.fault.SpaceFault.TheVariants.{Full, Store}
-use Rattle.entry_tree.proofs.ClaimsLemmas.{shape_none}
 use Rattle.mdc_sound.specs.StandingTable.{pages_of}
 use Rattle.mdc_sound.specs.StandsForDatabase.{PagesStandFor}
 use Rattle.binder.specs.Refusing.{IsRefusedFor}
@@ -65,8 +64,8 @@ does_step : {S : Type 0} (g : Ghosts S) (old new : S) (before now : Tables) (stm
 does_step g old new before now stmt outcome tables built said ready does = record {
   ready = does.ready;
   stands = λ db stands.
-      let same : step db stmt ≡ done db (bound_of before.catalog stmt) = step_is_done_on db before.catalog stmt (stored_defs before.ext (pages_of g old) before.catalog db ready.stored stands) tables built said in
-      subst (λ end_. StandsAfter now.ext (pages_of g new) end_ outcome) (sym same) (does.stands db stands);
+      let same : step db stmt ≡ done db (bound_of before.catalog stmt) = step_is_done_on db before.catalog stmt (stored_defs before.shape (pages_of g old) before.catalog db ready.stored stands) tables built said in
+      subst (λ end_. StandsAfter now.shape (pages_of g new) end_ outcome) (sym same) (does.stands db stands);
   places = does.places;
   others = does.others;
 }
@@ -80,24 +79,24 @@ steps_as_bound g old new before now stmt statement (Ok outcome) served bound doe
 
 -- where a bound statement runs full, its text does
 step_full : {S : Type 0} (g : Ghosts S) (s : S) (tables : Tables) (stmt : Stmt) → are_built tables.catalog ≡ true → is_built_step stmt ≡ true → in_order (judged_of tables.catalog stmt) ≡ [] → IsReady g s tables
-    → RunsFullAlone tables.ext (pages_of g s) tables.catalog (bound_of tables.catalog stmt) → StepRunsFull tables.ext (pages_of g s) tables.catalog stmt
+    → RunsFullAlone tables.shape (pages_of g s) tables.catalog (bound_of tables.catalog stmt) → StepRunsFull tables.shape (pages_of g s) tables.catalog stmt
 step_full g s tables stmt forms built said ready alone = record {
   full = alone.full;
-  faultless = λ db stands. none_said_on db tables.catalog stmt (stored_defs tables.ext (pages_of g s) tables.catalog db ready.stored stands) forms built said (alone.faultless db stands);
+  faultless = λ db stands. none_said_on db tables.catalog stmt (stored_defs tables.shape (pages_of g s) tables.catalog db ready.stored stands) forms built said (alone.faultless db stands);
 }
 
 full_if : {S : Type 0} (g : Ghosts S) (s : S) (tables : Tables) (stmt : Stmt) (statement : Bound) (fault : SpaceFault) → AreServed tables.catalog → IsBoundOn tables.catalog stmt statement
-    → IfFull fault (λ cap. (cap ≡ tables.ext.cap) × (IsReady g s tables → RunsFullAlone tables.ext (pages_of g s) tables.catalog statement))
-    → IfFull fault (λ cap. (cap ≡ tables.ext.cap) × (IsReady g s tables → StepRunsFull tables.ext (pages_of g s) tables.catalog stmt))
+    → IfFull fault (λ cap. (cap ≡ tables.shape.extents) × (IsReady g s tables → RunsFullAlone tables.shape (pages_of g s) tables.catalog statement))
+    → IfFull fault (λ cap. (cap ≡ tables.shape.extents) × (IsReady g s tables → StepRunsFull tables.shape (pages_of g s) tables.catalog stmt))
 full_if g s tables stmt statement (Full cap) served bound full = (
   full.0,
-  λ ready. step_full g s tables stmt served.built bound.built bound.said ready (subst (RunsFullAlone tables.ext (pages_of g s) tables.catalog) bound.is (full.1 ready)),
+  λ ready. step_full g s tables stmt served.built bound.built bound.said ready (subst (RunsFullAlone tables.shape (pages_of g s) tables.catalog) bound.is (full.1 ready)),
 )
 full_if g s tables stmt statement (Store fault) served bound full = tt
 
 pub full_as_bound : {S X : Type 0} (g : Ghosts S) (old : S) (before : Tables) (stmt : Stmt) (statement : Bound) (result : Result X SpaceFault) → AreServed before.catalog → IsBoundOn before.catalog stmt statement
-    → IfErr result (λ fault. IfFull fault (λ cap. (cap ≡ before.ext.cap) × (IsReady g old before → RunsFullAlone before.ext (pages_of g old) before.catalog statement)))
-    → IfErr result (λ fault. IfFull fault (λ cap. (cap ≡ before.ext.cap) × (IsReady g old before → StepRunsFull before.ext (pages_of g old) before.catalog stmt)))
+    → IfErr result (λ fault. IfFull fault (λ cap. (cap ≡ before.shape.extents) × (IsReady g old before → RunsFullAlone before.shape (pages_of g old) before.catalog statement)))
+    → IfErr result (λ fault. IfFull fault (λ cap. (cap ≡ before.shape.extents) × (IsReady g old before → StepRunsFull before.shape (pages_of g old) before.catalog stmt)))
 full_as_bound g old before stmt statement (Ok done) served bound full = tt
 full_as_bound g old before stmt statement (Err fault) served bound full = full_if g old before stmt statement fault served bound full
 
@@ -124,12 +123,12 @@ pub leaves_all : {S : Type 0} (g : Ghosts S) (s : S) (tables : Tables) → Leave
 leaves_all g s tables = record { pages = refl; catalog = refl }
 
 stays : {S : Type 0} (g : Ghosts S) (s : S) (tables : Tables) (stmt : Stmt) (refusal : Refusal) → IsReady g s tables
-    → ((db : Database) → PagesStandFor tables.ext (pages_of g s) db → step db stmt ≡ (db, Refused refusal)) → DoesStep g s s tables tables stmt (said.Refused refusal)
+    → ((db : Database) → PagesStandFor tables.shape (pages_of g s) db → step db stmt ≡ (db, Refused refusal)) → DoesStep g s s tables tables stmt (said.Refused refusal)
 stays g s tables stmt refusal ready same = record {
   ready = ready;
-  stands = λ db stands. subst (λ end_. StandsAfter tables.ext (pages_of g s) end_ (said.Refused refusal)) (sym (same db stands)) (record { pages_are = stands; answers = refl });
+  stands = λ db stands. subst (λ end_. StandsAfter tables.shape (pages_of g s) end_ (said.Refused refusal)) (sym (same db stands)) (record { pages_are = stands; answers = refl });
   places = λ done is place def changed at. cc;
-  others = keeps_others_itself tables.ext tables.ext (pages_of g s) (pages_of g s) tables.catalog tables.catalog (touched_place (bound_of tables.catalog stmt)) (shape_none tables.ext) refl refl;
+  others = keeps_others_itself tables.shape (pages_of g s) (pages_of g s) tables.catalog tables.catalog (touched_place (bound_of tables.catalog stmt)) refl refl;
 }
 
 pub steps_not_built : {S : Type 0} (g : Ghosts S) (s : S) (tables : Tables) (stmt : Stmt) (refusal : Refusal) → is_built_step stmt ≡ false → refusal ≡ refusal_of NotBuilt → IsReady g s tables
@@ -150,7 +149,7 @@ steps_refused g s tables stmt fault refusal forms built is refused ready =
     let first : (cause : Cause) × (first_of (in_order (judged_of tables.catalog stmt)) ≡ Some cause) × (refusal_of cause ≡ refusal) = first_cause (in_order (judged_of tables.catalog stmt)) refusal
     (refused_first (in_order (judged_of tables.catalog stmt)) fault refusal is refused) in
     stays g s tables stmt refusal ready (λ db stands.
-    step_refused_on db tables.catalog stmt first.0 (stored_defs tables.ext (pages_of g s) tables.catalog db ready.stored stands) forms built first.1 ∙ ap (λ r. (db, Refused r)) first.2)
+    step_refused_on db tables.catalog stmt first.0 (stored_defs tables.shape (pages_of g s) tables.catalog db ready.stored stands) forms built first.1 ∙ ap (λ r. (db, Refused r)) first.2)
 
 -- ---- a bound statement that does nothing
 
@@ -161,9 +160,9 @@ pub record IsIdle (statement : Bound) : Type 0 where
 pub does_nothing : {S : Type 0} (g : Ghosts S) (s : S) (tables : Tables) (statement : Bound) → IsIdle statement → IsReady g s tables → DoesStatement g s s tables tables statement (said.Done reply.Done)
 does_nothing g s tables statement idle ready = record {
   ready = ready;
-  stands = λ db stands. subst (λ end_. StandsAfter tables.ext (pages_of g s) end_ (said.Done reply.Done)) (sym (idle.does db)) (record { pages_are = stands; answers = refl });
+  stands = λ db stands. subst (λ end_. StandsAfter tables.shape (pages_of g s) end_ (said.Done reply.Done)) (sym (idle.does db)) (record { pages_are = stands; answers = refl });
   places = λ done is place def changed at. none_changed (changed_place statement) place idle.changes changed;
-  others = keeps_others_itself tables.ext tables.ext (pages_of g s) (pages_of g s) tables.catalog tables.catalog (touched_place statement) (shape_none tables.ext) refl refl;
+  others = keeps_others_itself tables.shape (pages_of g s) (pages_of g s) tables.catalog tables.catalog (touched_place statement) refl refl;
 }
   where
     none_changed : {X : Type 0} (found : Option ℕ) (place : ℕ) → found ≡ None → found ≡ Some place → X

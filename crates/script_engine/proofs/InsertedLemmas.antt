@@ -16,7 +16,6 @@ use Rattle.statement_meaning.specs.Step.{Answer, Refused, Replied, step_by}
 use Rattle.store_api.specs.declared.fault.Damage.{Damage}
 use Rattle.store_api.specs.declared.pages.Pages.{Ghosts}
 use Rattle.extent_map.specs.Damages.{IfFull}
-use Rattle.extent_map.specs.declared.extents.Extents.{Extents}
 use Rattle.extent_map.specs.declared.fault.SpaceFault.{SpaceFault}
 use Rattle.extent_map.specs.declared.fault.SpaceFault.TheVariants.{Full, Store}
 use Rattle.extent_map.specs.declared.kind.Kind.{Kind}
@@ -54,9 +53,9 @@ lacks_never g old mid before def place damage at longer lacks ready =
 
 -- an INSERT that says it is full runs full on ready pages, and nothing is said against its rows
 pub full_insert : {S : Type 0} (g : Ghosts S) (s : S) (before : Tables) (place : ℕ) (def : TableDef) (tuples : List (List Value)) (fault : SpaceFault) → AreServed before.catalog → def_at before.catalog place ≡ Some def → tuple_causes def tuples ≡ []
-    → IfFull fault (λ cap. (cap ≡ before.ext.cap) × ((owners : List Kind) (forests : TableForests) → IsReadyBetween g before.ext (rooms_at before.rooms place) s def owners forests
-    → InsertRunsFull before.ext (pages_of g s) def (numbered def.next tuples)))
-    → IfFull fault (λ cap. (cap ≡ before.ext.cap) × (IsReady g s before → RunsFullAlone before.ext (pages_of g s) before.catalog (bound.Insert place tuples)))
+    → IfFull fault (λ cap. (cap ≡ before.shape.extents) × ((owners : List Kind) (forests : TableForests) → IsReadyBetween g before.shape before.notes (rooms_at before.rooms place) s def owners forests
+    → InsertRunsFull before.shape (pages_of g s) def (numbered def.next tuples)))
+    → IfFull fault (λ cap. (cap ≡ before.shape.extents) × (IsReady g s before → RunsFullAlone before.shape (pages_of g s) before.catalog (bound.Insert place tuples)))
 full_insert g s before place def tuples (Full cap) served at unsaid full = (
   full.0,
   λ ready.
@@ -64,7 +63,7 @@ full_insert g s before place def tuples (Full cap) served at unsaid full = (
       record {
         full = StatementRunsFull.insert def at (full.1 ready.view.owners between.0 between.1);
         faultless = λ db stands.
-            let table = stored_table db before.catalog place def (stored_defs before.ext (pages_of g s) before.catalog db ready.stored stands) at in
+            let table = stored_table db before.catalog place def (stored_defs before.shape (pages_of g s) before.catalog db ready.stored stands) at in
             said_by_rows db place table.0 def tuples table.1 table.2.def_is ∙ unsaid;
       },
 )
@@ -95,16 +94,17 @@ module _ (before now : Definitions) (place : ℕ) (def : TableDef) (count : ℕ)
 
 module _ {S : Type 0} (g : Ghosts S) (old mid new : S) (before now : Tables) (place : ℕ) (def : TableDef) (tuples : List (List Value)) (count : ℕ) where
   abbrev Puts : List Spot → List SpaceChange → List Spot → Type 0
-  Puts was space is = PutsRowsBy def (block_slot_count before.ext def) was (numbered def.next tuples) space is
+  Puts was space is = PutsRowsBy def (block_slot_count before.shape def) was (numbered def.next tuples) space is
 
   -- all that is known once the rows were put and the table page was written
   pub record IsInserted : Type 0 where
     pub served : AreServed before.catalog
     pub at : def_at before.catalog place ≡ Some def
     pub unsaid : tuple_causes def tuples ≡ []
-    pub inserts : (owners : List Kind) (forests : TableForests) → IsReadyBetween g before.ext (rooms_at before.rooms place) old def owners forests
-        → ChangesRowsOf g before.ext now.ext (rooms_at now.rooms place) old mid def (numbered_on def (length tuples)) owners forests Puts (appended tuples)
+    pub inserts : (owners : List Kind) (forests : TableForests) → IsReadyBetween g before.shape before.notes (rooms_at before.rooms place) old def owners forests
+        → ChangesRowsOf g before.shape before.notes now.notes (rooms_at now.rooms place) old mid def (numbered_on def (length tuples)) owners forests Puts (appended tuples)
     pub catalog : now.catalog ≡ with_def before.catalog place (numbered_on def (length tuples))
+    pub shape : now.shape ≡ before.shape
     pub rooms : KeepsOtherRooms before.rooms now.rooms place
     pub told_mid : (g.state mid).is_told ≡ (g.state old).is_told
     pub told_new : (g.state new).is_told ≡ (g.state mid).is_told
@@ -122,10 +122,10 @@ module _ {S : Type 0} (g : Ghosts S) (old mid new : S) (before now : Tables) (pl
     mid_tells : IsTrue (g.state mid).is_told
     mid_tells = subst IsTrue (sym is.told_mid) ready.told
 
-    between : (forests : TableForests) × IsReadyBetween g before.ext (rooms_at before.rooms place) old def ready.view.owners forests
+    between : (forests : TableForests) × IsReadyBetween g before.shape before.notes (rooms_at before.rooms place) old def ready.view.owners forests
     between = ready_between g old before place def is.served ready is.at
 
-    changed : ChangesRowsOf g before.ext now.ext (rooms_at now.rooms place) old mid def def_now ready.view.owners between.0 Puts (appended tuples)
+    changed : ChangesRowsOf g before.shape before.notes now.notes (rooms_at now.rooms place) old mid def def_now ready.view.owners between.0 Puts (appended tuples)
     changed = is.inserts ready.view.owners between.0 between.1
 
     -- its page is that of the old definition, since table pages stay
@@ -141,17 +141,17 @@ module _ {S : Type 0} (g : Ghosts S) (old mid new : S) (before now : Tables) (pl
 
     ends : EndsChange g old new before now place (appended tuples)
     ends =
-        change_ends g old mid new before now place def def_now ready.view.owners between.0 Puts (appended tuples) is.served ready is.at refl (numbers_left def tuples is.unsaid)
+        change_ends g old mid new before now place def def_now ready.view.owners between.0 Puts (appended tuples) is.served is.shape ready is.at refl (numbers_left def tuples is.unsaid)
         changed (subst IsTrue (sym is.told_new) mid_tells) written is.catalog is.rooms
 
-    done_is : (db : Database) → PagesStandFor before.ext (pages_of g old) db
+    done_is : (db : Database) → PagesStandFor before.shape (pages_of g old) db
         → done db (bound.Insert place tuples) ≡ (changed_at db place (appended tuples), Replied (reply.Inserted (length tuples)))
     done_is db stands =
-        let table = stored_table db before.catalog place def (stored_defs before.ext (pages_of g old) before.catalog db ready.stored stands) is.at in
+        let table = stored_table db before.catalog place def (stored_defs before.shape (pages_of g old) before.catalog db ready.stored stands) is.at in
         ap (λ causes. step_by db causes (effect db (bound.Insert place tuples)))
         (said_by_rows db place table.0 def tuples table.1 table.2.def_is ∙ is.unsaid)
 
-    here : PlacesOnPages before.ext now.ext (pages_of g old) (pages_of g new) def (bound.Insert place tuples)
+    here : PlacesOnPages before.shape (pages_of g old) (pages_of g new) def (bound.Insert place tuples)
     here =
         places_shown g old mid new before now def def_now ready.view.owners between.0 Puts (appended tuples) (bound.Insert place tuples)
         ready refl between.1 changed written (λ was space is puts. PlacesRows.insert puts)
@@ -161,33 +161,32 @@ module _ {S : Type 0} (g : Ghosts S) (old mid new : S) (before now : Tables) (pl
     inserted = record {
       ready = ends.ready;
       stands = λ db stands. record {
-        pages_are = subst (λ (e : Database × Answer). PagesStandFor now.ext (pages_of g new) e.0) (sym (done_is db stands)) (ends.stands_for db stands);
+        pages_are = subst (λ (e : Database × Answer). PagesStandFor now.shape (pages_of g new) e.0) (sym (done_is db stands)) (ends.stands_for db stands);
         answers = ap (λ (e : Database × Answer). e.1) (done_is db stands) ∙ ap (λ n. Replied (reply.Inserted n)) (sym is.counts);
       };
       places = λ reply done t other changes at.
           let same_place : place ≡ t = same_Some place t changes in
           let same_def : def ≡ other = same_Some def other (sym is.at ∙ (ap (def_at before.catalog) same_place ∙ at)) in
-          subst (λ d. PlacesOnPages before.ext now.ext (pages_of g old) (pages_of g new) d (bound.Insert place tuples)) same_def here;
-      others = others_written g old mid before now place def.number number is.served ready changed.others new def_now number ends.ready written def is.at is.catalog;
+          subst (λ d. PlacesOnPages before.shape (pages_of g old) (pages_of g new) d (bound.Insert place tuples)) same_def here;
+      others = others_written g old mid before now place def.number number is.served ready changed.others new def_now number is.shape ends.ready written def is.at is.catalog;
     }
 
 -- ---- refused
 
 -- where something is said against the tuples, pages stay ready and the answer is what is said first
-pub refused_insert : {S : Type 0} (g : Ghosts S) (s : S) (before now : Tables) (table : ℕ) (def : TableDef) (tuples : List (List Value)) (refusal : Refusal) → now.ext ≡ before.ext → now.catalog ≡ before.catalog
+pub refused_insert : {S : Type 0} (g : Ghosts S) (s : S) (before now : Tables) (table : ℕ) (def : TableDef) (tuples : List (List Value)) (refusal : Refusal) → now.shape ≡ before.shape → now.catalog ≡ before.catalog
     → def_at before.catalog table ≡ Some def → first_refusal (tuple_causes def tuples) ≡ Some refusal → IsReady g s before → IsReady g s now
     → DoesStatement g s s before now (bound.Insert table tuples) (said.Refused refusal)
 refused_insert g s before now table def tuples refusal same catalog at first ready now_ready = record {
   ready = now_ready;
   stands = λ db stands.
-      let found = stored_table db before.catalog table def (stored_defs before.ext (pages_of g s) before.catalog db ready.stored stands) at in
+      let found = stored_table db before.catalog table def (stored_defs before.shape (pages_of g s) before.catalog db ready.stored stands) at in
       let is : done db (bound.Insert table tuples) ≡ (db, Refused refusal) =
       refused_for_first db _ (effect db (bound.Insert table tuples)) refusal (ap first_refusal (said_by_rows db table found.0 def tuples found.1 found.2.def_is) ∙ first) in
       record {
-        pages_are = subst (λ (e : Database × Answer). PagesStandFor now.ext (pages_of g s) e.0) (sym is) (subst (λ ext. PagesStandFor ext (pages_of g s) db) (sym same) stands);
+        pages_are = subst (λ (e : Database × Answer). PagesStandFor now.shape (pages_of g s) e.0) (sym is) (subst (λ shape. PagesStandFor shape (pages_of g s) db) (sym same) stands);
         answers = ap (λ (e : Database × Answer). e.1) is;
       };
   places = λ reply done place other changes at. absurd cc;
-  others = keeps_others_itself before.ext now.ext (pages_of g s) (pages_of g s) before.catalog now.catalog (Some table)
-      (record { cap = ap (λ (ext : Extents). ext.cap) same; extent_pages = ap (λ (ext : Extents). ext.extent_pages) same }) refl catalog;
+  others = keeps_others_itself before.shape (pages_of g s) (pages_of g s) before.catalog now.catalog (Some table) refl catalog;
 }

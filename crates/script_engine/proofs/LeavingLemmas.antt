@@ -27,7 +27,7 @@ module _ {S : Type 0} (g : Ghosts S) where
 
   -- of a commit behind such a run
   pub leaves_then : {X : Type 0} (result : Result X EngineStop) (stmt : Stmt) (old new : Engine S) (mid : S) → Steady g old.store mid → CommitsWork g result mid new.store
-      → MayBeLeft old.tables.ext (held_by g old) stmt (g.state mid).work → LeavesCommitted g stmt old new
+      → MayBeLeft old.tables.shape (held_by g old) stmt (g.state mid).work → LeavesCommitted g stmt old new
   leaves_then result stmt old new mid steady commits made = record {
     time = over_time_then (over_time_wider steady.time (λ left told only. (((g.state old.store).base, only.0, MayBeLeft.before refl), only.1)))
         (over_time_wider commits.time (λ left told either. (
@@ -39,14 +39,14 @@ module _ {S : Type 0} (g : Ghosts S) where
         )));
     base = elim commits.either [
       | inl same ↦ MayBeLeft.before (same ∙ steady.base)
-      | inr work ↦ subst (MayBeLeft old.tables.ext (held_by g old) stmt) (sym work) made
+      | inr work ↦ subst (MayBeLeft old.tables.shape (held_by g old) stmt) (sym work) made
     ];
   }
 
   -- what a crash within a statement may leave, one after it may leave too, and nothing else
   pub rests_within : (stmt : Stmt) (old new : Engine S) → ReachesBack g.clock g.left new.store → (g.state old.store).ended ≡ false → Rests g old.store
-      → OverTime g.clock g.left (LeftWithin old.tables.ext (held_by g old) stmt (g.state old.store)) old.store new.store
-      → RestsAt g.clock g.left (LeftWithin old.tables.ext (held_by g old) stmt (g.state old.store)) new.store
+      → OverTime g.clock g.left (LeftWithin old.tables.shape (held_by g old) stmt (g.state old.store)) old.store new.store
+      → RestsAt g.clock g.left (LeftWithin old.tables.shape (held_by g old) stmt (g.state old.store)) new.store
   rests_within stmt old new back going rests time = rests_at_over_time back time rests
       (λ left told rest.
       let only = only_base_at_rest (g.state old.store) left told going rest in

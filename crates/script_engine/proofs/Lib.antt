@@ -30,7 +30,6 @@ pub mod RootLemmas
 pub mod SameWorkLemmas
 pub mod ScannedTablesLemmas
 pub mod ServedDefsLemmas
-pub mod ShapeLemmas
 pub mod SoundPagesStandLemmas
 pub mod SpelledTablesLemmas
 pub mod StoredDefsLemmas

@@ -22,7 +22,6 @@ use Rattle.store_api.specs.declared.pages.Pages.{Ghosts}
 use Rattle.store_api.proofs.RunsOverPagesLemmas.{runs_wider}
 use Rattle.store_api.proofs.WorksLemmas.{steady_then}
 use Rattle.extent_map.specs.declared.kind.Kind.{Kind}
-use Rattle.entry_tree.proofs.ClaimsLemmas.{shape_none}
 use Rattle.block_map.specs.MapLines.{free_blocks, used_blocks}
 use Rattle.table_trees.specs.TableTrees.{map_place}
 use Rattle.table_trees.specs.TreesBeside.{IsTreePageAt}
@@ -66,16 +65,16 @@ named_at defs name def named = go (place_of defs name) named
 
 module _ {S : Type 0} (g : Ghosts S) (old : S) (tables : Tables) (name : Name) (def : TableDef) (served : AreServed tables.catalog) (named : def_named tables.catalog name ≡ Some def) where
   -- a table of ready pages stands
-  stands_named : IsReady g old tables → StandsReady g tables.ext old def
+  stands_named : IsReady g old tables → StandsReady g tables.shape old def
   stands_named ready = let at = named_at tables.catalog name def named in stands_ready g old tables at.0 def served ready at.1
 
   -- counting its blocks meets damage where they weren't
-  pub runs_account : (new : S) {fault : Option StoreFault} → RunsOverPages g NoPage (IsTreePageAt g old (map_place def)) (BreaksTable g tables.ext old def) old new fault
+  pub runs_account : (new : S) {fault : Option StoreFault} → RunsOverPages g NoPage (IsTreePageAt g old (map_place def)) (BreaksTable g tables.shape old def) old new fault
       → RunsOverPages g NoPage AnyPage (BreaksDatabase g old tables) old new fault
   runs_account new run = runs_wider run (λ p there none. none) (λ p of. tt) (λ damage breaks ready. let st = stands_named ready in breaks.broken st.owners st.forests st.stands)
 
   -- the counts are those of its block map
-  pub tells_account : (account : Account) (outcome : Outcome) → ((owners : List Kind) (forests : TableForests) → StandsTable g tables.ext old def owners forests → CountsBlocks forests.map account)
+  pub tells_account : (account : Account) (outcome : Outcome) → ((owners : List Kind) (forests : TableForests) → StandsTable g tables.shape old def owners forests → CountsBlocks forests.map account)
       → outcome ≡ blocks_told account.used account.free account.pending → IsReady g old tables → TellsBlocks (pages_of g old) def outcome
   tells_account account outcome counts is ready =
       let st = stands_named ready in
@@ -111,24 +110,24 @@ module _ {S : Type 0} (g : Ghosts S) (old : Engine S) (store : S) (name : Name) 
     -- it turns no session, and its outcome agrees with that answer
     list_turns : (outcome : Outcome) (found : Option TableDef) → are_built old.tables.catalog ≡ true → def_named old.tables.catalog name ≡ found
         → AgreesWith (PagesTell (pages_of g old.store) old.tables.catalog (ListBlocks name)) (listed_of name (option_map rootless found)) outcome → IsReadyEngine g old
-        → StepsOnPages old.tables.ext (held_by g old) (ListBlocks name) outcome (held_by g new)
+        → StepsOnPages old.tables.shape (held_by g old) (ListBlocks name) outcome (held_by g new)
     list_turns outcome found built named agrees ready = turns
         (λ session stands.
-        let defs = stored_defs old.tables.ext (pages_of g old.store) old.tables.catalog session.working ready.work.stored stands.working in
+        let defs = stored_defs old.tables.shape (pages_of g old.store) old.tables.catalog session.working ready.work.stored stands.working in
         record {
-          session = subst (λ (held : HeldPages). StandsForSession old.tables.ext held session) (sym still) stands;
+          session = subst (λ (held : HeldPages). StandsForSession old.tables.shape held session) (sym still) stands;
           answers = subst (λ (answer : Answer). AgreesWith (PagesTell (pages_of g old.store) old.tables.catalog (ListBlocks name)) answer outcome) (sym (listed_is session found built named defs)) agrees;
         })
         (base_still ready.closed) still
-        (leaves_others_still old.tables.ext (ListBlocks name) (held_by g old) (held_by g new) same refl) (λ refusal says. still)
+        (leaves_others_still old.tables.shape (ListBlocks name) (held_by g old) (held_by g new) same refl) (λ refusal says. still)
         (λ done says place def changed at. absurd (cc))
 
     list_steps : (outcome : Outcome) → are_built old.tables.catalog ≡ true → (def_named old.tables.catalog name ≡ None → outcome ≡ said.Refused (refusal_of (NoTable name)))
         → ((def : TableDef) → def_named old.tables.catalog name ≡ Some def → IsReady g old.store old.tables → TellsBlocks (pages_of g old.store) def outcome) → IsReadyEngine g old
-        → StepsOnPages old.tables.ext (held_by g old) (ListBlocks name) outcome (held_by g new)
+        → StepsOnPages old.tables.shape (held_by g old) (ListBlocks name) outcome (held_by g new)
     list_steps outcome built absent tells ready = go (def_named old.tables.catalog name) refl
       where
-        go : (found : Option TableDef) → def_named old.tables.catalog name ≡ found → StepsOnPages old.tables.ext (held_by g old) (ListBlocks name) outcome (held_by g new)
+        go : (found : Option TableDef) → def_named old.tables.catalog name ≡ found → StepsOnPages old.tables.shape (held_by g old) (ListBlocks name) outcome (held_by g new)
         go None named = list_turns outcome None built named (absent named) ready
         go (Some def) named = list_turns outcome (Some def) built named (def, named, tells def named ready.work) ready
 
@@ -155,7 +154,7 @@ module _ {S : Type 0} (g : Ghosts S) (old : Engine S) (store : S) (name : Name) 
         opens = refl;
         exact = λ damage e. absurd (cc);
         stays = λ damage e. absurd (cc);
-        shape = shape_none old.tables.ext;
+        shape = refl;
         outside = outside_steady g (Ok outcome) old new steady (counts_fault_as (λ r. absurd (cc)) (λ r. absurd (cc)) runs.cause.device) (λ r. absurd (cc));
       }
 
@@ -165,7 +164,7 @@ module _ {S : Type 0} (g : Ghosts S) (old : Engine S) (store : S) (name : Name) 
   list_stops result fault is whole runs =
       executes_stop g {X = Outcome} {Y = Outcome} (ListBlocks name) result (stop_of fault) old new is (λ damage e ready. absurd (whole damage (stop_names fault damage e)))
       (λ damage e. absurd (whole damage (stop_names fault damage (cc)))) (λ damage e. absurd (whole damage (stop_names fault damage e)))
-      (λ ready. leaves_steady g (ListBlocks name) old new runs.works.steady) (shape_none old.tables.ext)
+      (λ ready. leaves_steady g (ListBlocks name) old new runs.works.steady) refl
       (outside_steady g (Err (stop_of fault)) old new runs.works.steady (stop_counts fault runs.cause.device) (λ r. stop_output fault (cc)))
 
 -- damage was met, and it was judged or tried once more
@@ -190,7 +189,7 @@ module _ {S : Type 0} (g : Ghosts S) (old : Engine S) (mid store : S) (tables : 
     outside_anew : LeavesOutside g result old anew
     outside_anew = outside_steady g result old anew steady_anew (counts_fault_then (runs.cause.device.still (λ is. absurd (cc))) tried.device) tried.output
 
-  pub list_anew : (result : Result Outcome EngineStop) → MayCall g old → old.served ≡ true → ListsAnew g result mid store old.tables tables → NamesExactly g old.tables.ext result store
+  pub list_anew : (result : Result Outcome EngineStop) → MayCall g old → old.served ≡ true → ListsAnew g result mid store old.tables tables → NamesExactly g old.tables.shape result store
       → Executes g (ListBlocks name) result old anew
   list_anew (Ok outcome) may served tried exact =
       let steady = steady_anew (Ok outcome) tried in

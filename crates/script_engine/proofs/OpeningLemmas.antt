@@ -10,9 +10,9 @@ use Rattle.store_api.specs.Works.{Rests}
 use Rattle.store_api.specs.declared.fault.Damage.{Damage}
 use Rattle.store_api.specs.declared.fault.StoreFault.{StoreFault}
 use Rattle.store_api.specs.declared.pages.Pages.{Ghosts}
+use Rattle.store_api.specs.declared.shape.Shape.{Shape}
 use Rattle.store_api.proofs.WorksLemmas.{rests_steady}
-use Rattle.extent_map.specs.Owners.{AreRightNotes, IsSameShape}
-use Rattle.extent_map.specs.declared.extents.Extents.{Extents}
+use Rattle.extent_map.specs.Owners.{AreRightNotes}
 use Rattle.extent_map.specs.declared.kind.Kind.{Kind}
 use Rattle.table_trees.specs.ToldPages.{PageList}
 use Rattle.mdc_sound.specs.Breaks.{IsFirstBreak}
@@ -32,7 +32,6 @@ use Rattle.script_engine.specs.declared.stop.EngineStop.TheVariants.{Damaged}
 use Rattle.script_engine.proofs.CatalogLemmas.{one_catalog, served_of}
 use Rattle.script_engine.proofs.ReadyTablesLemmas.{ready_of_sound}
 use Rattle.script_engine.proofs.ReloadingLemmas.{no_damage}
-use Rattle.script_engine.proofs.ShapeLemmas.{keeps_along}
 use Rattle.script_engine.proofs.TryingLemmas.{stop_names}
 
 module _ {S : Type 0} (g : Ghosts S) where
@@ -49,13 +48,13 @@ module _ {S : Type 0} (g : Ghosts S) where
   }
 
   -- exact damage of pages that were only read
-  pub exact_read : {X : Type 0} (ext : Extents) (result : Result X EngineStop) (old new : S) → OnlyReads g old new → NamesExactly g ext result new
-      → (damage : Damage) → result ≡ Err (Damaged damage) → IsTrue (g.state old).is_told → IsFirstBreak ext (g.state old).work damage.rule damage.page
-  exact_read ext result old new reads exact damage is told =
-      subst (λ (pages : PageList). IsFirstBreak ext pages damage.rule damage.page) reads.work (exact damage is (subst IsTrue (sym reads.steady.is_told) told))
+  pub exact_read : {X : Type 0} (shape : Shape) (result : Result X EngineStop) (old new : S) → OnlyReads g old new → NamesExactly g shape result new
+      → (damage : Damage) → result ≡ Err (Damaged damage) → IsTrue (g.state old).is_told → IsFirstBreak shape (g.state old).work damage.rule damage.page
+  exact_read shape result old new reads exact damage is told =
+      subst (λ (pages : PageList). IsFirstBreak shape pages damage.rule damage.page) reads.work (exact damage is (subst IsTrue (sym reads.steady.is_told) told))
 
   -- the catalog was read into an engine
-  module _ (ext : Extents) (old read : S) (engine : Engine S) (catalog : Definitions) (reads : OnlyReads g old read)
+  module _ (shape : Shape) (old read : S) (engine : Engine S) (catalog : Definitions) (reads : OnlyReads g old read)
       (is : engine ≡ record { store = read; tables = engine.tables; served = are_built catalog; is_open = false; settings = first_settings; pass = Idle }) (has : engine.tables.catalog ≡ catalog) (limits : AreWithinLimits catalog) (differ : AllDefsDiffer catalog) where
     store_is : engine.store ≡ read
     store_is = ap (λ (e : Engine S). e.store) is
@@ -75,24 +74,24 @@ module _ {S : Type 0} (g : Ghosts S) where
           (ap are_built has ∙ (sym (ap (λ (e : Engine S). e.served) is) ∙ served));
     }
 
-    pub opened_ready : (IsTrue (g.state old).is_told → AreStored (g.state old).work catalog) → IsSameShape ext engine.tables.ext → ((owners : List Kind) → AreRightNotes engine.tables.ext owners)
-        → AreForgotten engine.tables.rooms → IsSoundStore g ext old → IsReadyEngine g engine
-    opened_ready loads shape notes rooms sound =
+    pub opened_ready : (IsTrue (g.state old).is_told → AreStored (g.state old).work catalog) → engine.tables.shape ≡ shape → ((owners : List Kind) → AreRightNotes engine.tables.shape engine.tables.notes owners)
+        → AreForgotten engine.tables.rooms → IsSoundStore g shape old → IsReadyEngine g engine
+    opened_ready loads same notes rooms sound =
         let kept = opened_pages in
         let stored = loads sound.told in
         let defs_are : catalog ≡ sound.defs = one_catalog (g.state old).work catalog sound.defs stored sound.stored in
         let built : are_built catalog ≡ true = ap are_built defs_are ∙ sound.valid.built in
-        let along = keeps_along ext engine.tables.ext (g.state old).work sound.sound.0 shape sound.sound.1 in
+        let along = subst (λ (of : Shape). KeepAllRules of (g.state old).work sound.sound.0) (sym same) sound.sound.1 in
         let base_now : (g.state engine.store).base ≡ (g.state old).work = kept.base ∙ sound.committed in
         let stored_now : AreStored (g.state old).work engine.tables.catalog = subst (λ (defs : Definitions). AreStored (g.state old).work defs) (sym has) stored in
         record {
           served = ap (λ (e : Engine S). e.served) is ∙ built;
           work = ready_of_sound g engine.store engine.tables sound.sound.0
               (served_of engine.tables.catalog (subst AreWithinLimits (sym has) limits) (subst AllDefsDiffer (sym has) differ) (ap are_built has ∙ built)) (subst IsTrue (sym kept.is_told) sound.told)
-              (subst (λ (pages : PageList). KeepAllRules engine.tables.ext pages sound.sound.0) (sym kept.work) along)
+              (subst (λ (pages : PageList). KeepAllRules engine.tables.shape pages sound.sound.0) (sym kept.work) along)
               (subst (λ (pages : PageList). AreStored pages engine.tables.catalog) (sym kept.work) stored_now) (notes sound.sound.0.owners) rooms;
           base_view = sound.sound.0;
-          base_sound = subst (λ (pages : PageList). KeepAllRules engine.tables.ext pages sound.sound.0) (sym base_now) along;
+          base_sound = subst (λ (pages : PageList). KeepAllRules engine.tables.shape pages sound.sound.0) (sym base_now) along;
           base_defs = sound.defs;
           base_stored = subst (λ (pages : PageList). AreStored pages sound.defs) (sym base_now) sound.stored;
           base_valid = sound.valid;
@@ -105,6 +104,6 @@ module _ {S : Type 0} (g : Ghosts S) where
   unopened_breaks fault stop old new is runs damage r = runs.cause.damaged damage (ap Some (stop_names fault damage (sym is ∙ r)))
 
   -- which sound pages don't have
-  pub unopened_names : (ext : Extents) (fault : StoreFault) (stop : EngineStop) (old new : S) → stop ≡ stop_of fault → RunsOverPages g NoPage IsAnyTablePage (BreaksTablePages g old) old new (Some fault)
-      → (damage : Damage) → stop ≡ Damaged damage → IsTrue (g.state old).is_told → IsSoundDatabase ext (g.state old).work → ⊥
-  unopened_names ext fault stop old new is runs damage r told sound = no_damage g old ext damage told sound (unopened_breaks fault stop old new is runs damage r)
+  pub unopened_names : (shape : Shape) (fault : StoreFault) (stop : EngineStop) (old new : S) → stop ≡ stop_of fault → RunsOverPages g NoPage IsAnyTablePage (BreaksTablePages g old) old new (Some fault)
+      → (damage : Damage) → stop ≡ Damaged damage → IsTrue (g.state old).is_told → IsSoundDatabase shape (g.state old).work → ⊥
+  unopened_names shape fault stop old new is runs damage r told sound = no_damage g old shape damage told sound (unopened_breaks fault stop old new is runs damage r)

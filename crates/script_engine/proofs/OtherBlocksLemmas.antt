@@ -2,13 +2,12 @@
 use Rattle.std.proofs.Common.{◌≡◌, ◌⊎◌, ◌<◌, ◌==◌, ◌∙◌, ℕ, List, cond, map, inl, inr, refl, sym, ap, subst, arith}
 use Rattle.std.proofs.lemmas.Bool.{cases_eq, ne_eqb}
 use Rattle.std.proofs.lemmas.Simd.{map-map}
-use Rattle.mdc_words.specs.Listed.{listed}
 use Rattle.mdc_words.proofs.ListedLemmas.{listed_same}
 use Rattle.std.specs.List.{range_with_len}
 use Rattle.mdc_ast.specs.declared.definition.TableDef.{TableDef}
-use Rattle.extent_map.specs.Owners.{IsSameShape, owner_of}
-use Rattle.extent_map.specs.declared.extents.Extents.{Extents}
+use Rattle.extent_map.specs.Owners.{owner_of}
 use Rattle.extent_map.specs.declared.kind.Kind.{Kind}
+use Rattle.store_api.specs.declared.shape.Shape.{Shape}
 use Rattle.extent_map.specs.declared.kind.Kind.TheVariants.{Free, Block, Index}
 use Rattle.entry_tree.specs.Forest.{Forest, leaf_entries}
 use Rattle.block_map.specs.MapLines.{map_lines, mapped_state}
@@ -34,53 +33,51 @@ is_own n (Index used) = inr (λ is. absurd (cc))
 is_own n (Block t) = elim (cases_eq t n) [ inl same ↦ inl (ap Block same) | inr other ↦ inr (λ is. let same : t ≡ n = cc in other same) ]
 
 -- one that isn't is none of its spots
-pub other_kind : (ext : Extents) (pages : PageList) (def : TableDef) (map_tree : Forest) (e : ℕ) (kind : Kind) → (kind ≡ Block def.number → ⊥) → own_spot (spot_of_kind ext pages def map_tree e kind) ≡ OtherBlock
-other_kind ext pages def map_tree e Free other = refl
-other_kind ext pages def map_tree e (Index used) other = refl
-other_kind ext pages def map_tree e (Block t) other = elim (cases_eq t def.number) [
+pub other_kind : (shape : Shape) (pages : PageList) (def : TableDef) (map_tree : Forest) (e : ℕ) (kind : Kind) → (kind ≡ Block def.number → ⊥) → own_spot (spot_of_kind shape pages def map_tree e kind) ≡ OtherBlock
+other_kind shape pages def map_tree e Free other = refl
+other_kind shape pages def map_tree e (Index used) other = refl
+other_kind shape pages def map_tree e (Block t) other = elim (cases_eq t def.number) [
   | inl same ↦ absurd (other (ap Block same))
-  | inr apart ↦ ap (λ test. own_spot (cond test (spot_of_state (mapped_state e (map_lines map_tree)) (block_slots ext pages def e)) OtherBlock)) (ne_eqb t def.number apart)
+  | inr apart ↦ ap (λ test. own_spot (cond test (spot_of_state (mapped_state e (map_lines map_tree)) (block_slots shape pages def e)) OtherBlock)) (ne_eqb t def.number apart)
 ]
 
 -- a block map names the table's blocks, whatever the list of owners that it is sound with
-owned_too : (before ext : Extents) (owners owners_now : List Kind) (def : TableDef) (map_tree : Forest) → IsBlockMapSound before owners def map_tree → IsBlockMapSound ext owners_now def map_tree
-    → (e : ℕ) → e < before.cap → owner_of owners e ≡ Block def.number → owner_of owners_now e ≡ Block def.number
-owned_too before ext owners owners_now def map_tree sound now e low is =
+owned_too : (shape : Shape) (owners owners_now : List Kind) (def : TableDef) (map_tree : Forest) → IsBlockMapSound shape owners def map_tree → IsBlockMapSound shape owners_now def map_tree
+    → (e : ℕ) → e < shape.extents → owner_of owners e ≡ Block def.number → owner_of owners_now e ≡ Block def.number
+owned_too shape owners owners_now def map_tree sound now e low is =
     let named = named_entry (leaf_entries map_tree) e (sound.all_named e low is) in
-    let line = line_at (IsMapLineSound ext owners_now def) (leaf_entries map_tree) named.0 now.lines named.1 in
+    let line = line_at (IsMapLineSound shape owners_now def) (leaf_entries map_tree) named.0 now.lines named.1 in
     subst (λ block. owner_of owners_now block ≡ Block def.number) named.2 line.owned
 
 -- ---- all of them
 
-module _ (before ext : Extents) (old new : PageList) (def : TableDef) (owners owners_now : List Kind) (map_tree : Forest) (shape : IsSameShape before ext) (sound : IsBlockMapSound before owners def map_tree)
-    (now : IsBlockMapSound ext owners_now def map_tree) (kept : (e : ℕ) → e < before.cap → owner_of owners e ≡ Block def.number → KeepsBlockPages before ext old new e) where
-  own_stays : (e : ℕ) → e < ext.cap → own_spot (spot_of_kind ext new def map_tree e (owner_of owners_now e)) ≡ own_spot (spot_of_kind before old def map_tree e (owner_of owners e))
+module _ (shape : Shape) (old new : PageList) (def : TableDef) (owners owners_now : List Kind) (map_tree : Forest) (sound : IsBlockMapSound shape owners def map_tree)
+    (now : IsBlockMapSound shape owners_now def map_tree) (kept : (e : ℕ) → e < shape.extents → owner_of owners e ≡ Block def.number → KeepsBlockPages shape old new e) where
+  own_stays : (e : ℕ) → e < shape.extents → own_spot (spot_of_kind shape new def map_tree e (owner_of owners_now e)) ≡ own_spot (spot_of_kind shape old def map_tree e (owner_of owners e))
   own_stays e within =
-      let low : e < before.cap = omega (arith, within, shape.cap) in
       elim (is_own def.number (owner_of owners e)) [
         | inl mine ↦
-            ap (λ kind. own_spot (spot_of_kind ext new def map_tree e kind)) (owned_too before ext owners owners_now def map_tree sound now e low mine)
-            ∙ (ap (λ slots. own_spot (cond (def.number == def.number) (spot_of_state (mapped_state e (map_lines map_tree)) slots) OtherBlock)) (block_slots-kept before ext old new def shape e (kept e low mine))
-            ∙ ap (λ kind. own_spot (spot_of_kind before old def map_tree e kind)) (sym mine))
+            ap (λ kind. own_spot (spot_of_kind shape new def map_tree e kind)) (owned_too shape owners owners_now def map_tree sound now e within mine)
+            ∙ (ap (λ slots. own_spot (cond (def.number == def.number) (spot_of_state (mapped_state e (map_lines map_tree)) slots) OtherBlock)) (block_slots-kept shape old new def e (kept e within mine))
+            ∙ ap (λ kind. own_spot (spot_of_kind shape old def map_tree e kind)) (sym mine))
         | inr other ↦
-            other_kind ext new def map_tree e (owner_of owners_now e) (λ is. other (owned_too ext before owners_now owners def map_tree now sound e within is))
-            ∙ sym (other_kind before old def map_tree e (owner_of owners e) other)
+            other_kind shape new def map_tree e (owner_of owners_now e) (λ is. other (owned_too shape owners_now owners def map_tree now sound e within is))
+            ∙ sym (other_kind shape old def map_tree e (owner_of owners e) other)
       ]
 
-  own_stay : map own_spot (table_spots ext new def owners_now map_tree) ≡ map own_spot (table_spots before old def owners map_tree)
+  own_stay : map own_spot (table_spots shape new def owners_now map_tree) ≡ map own_spot (table_spots shape old def owners map_tree)
   own_stay =
-      map-map own_spot (λ e. spot_of_kind ext new def map_tree e (owner_of owners_now e)) (range_with_len 0 ext.cap)
-      ∙ (listed_same ext.cap (λ e. own_spot (spot_of_kind ext new def map_tree e (owner_of owners_now e))) (λ e. own_spot (spot_of_kind before old def map_tree e (owner_of owners e))) own_stays
-      ∙ (ap (λ n. listed n (λ e. own_spot (spot_of_kind before old def map_tree e (owner_of owners e)))) shape.cap
-      ∙ sym (map-map own_spot (λ e. spot_of_kind before old def map_tree e (owner_of owners e)) (range_with_len 0 before.cap))))
+      map-map own_spot (λ e. spot_of_kind shape new def map_tree e (owner_of owners_now e)) (range_with_len 0 shape.extents)
+      ∙ (listed_same shape.extents (λ e. own_spot (spot_of_kind shape new def map_tree e (owner_of owners_now e))) (λ e. own_spot (spot_of_kind shape old def map_tree e (owner_of owners e))) own_stays
+      ∙ sym (map-map own_spot (λ e. spot_of_kind shape old def map_tree e (owner_of owners e)) (range_with_len 0 shape.extents)))
 
-pub stands_keeps : (before ext : Extents) (old new : PageList) (def : TableDef) (owners owners_now : List Kind) (forests forests_now : TableForests) → IsSameShape before ext
-    → StandsTable told_pages before old def owners forests → StandsTable told_pages ext new def owners_now forests_now → forests_now.map ≡ forests.map
-    → ((e : ℕ) → e < before.cap → owner_of owners e ≡ Block def.number → KeepsBlockPages before ext old new e) → KeepsTableBlocks before ext old new def
-stands_keeps before ext old new def owners owners_now forests forests_now shape st st_now same kept was shows =
-    let map_now : IsBlockMapSound ext owners_now def forests.map = subst (IsBlockMapSound ext owners_now def) same st_now.map in (
-      table_spots ext new def owners_now forests_now.map,
-      shows_spots told_pages ext new def owners_now forests_now st_now,
-      ap (λ tree. map own_spot (table_spots ext new def owners_now tree)) same
-          ∙ (own_stay before ext old new def owners owners_now forests.map shape st.map map_now kept ∙ ap (map own_spot) (sym (shown_spots told_pages before old def owners forests was st shows))),
+pub stands_keeps : (shape : Shape) (old new : PageList) (def : TableDef) (owners owners_now : List Kind) (forests forests_now : TableForests)
+    → StandsTable told_pages shape old def owners forests → StandsTable told_pages shape new def owners_now forests_now → forests_now.map ≡ forests.map
+    → ((e : ℕ) → e < shape.extents → owner_of owners e ≡ Block def.number → KeepsBlockPages shape old new e) → KeepsTableBlocks shape old new def
+stands_keeps shape old new def owners owners_now forests forests_now st st_now same kept was shows =
+    let map_now : IsBlockMapSound shape owners_now def forests.map = subst (IsBlockMapSound shape owners_now def) same st_now.map in (
+      table_spots shape new def owners_now forests_now.map,
+      shows_spots told_pages shape new def owners_now forests_now st_now,
+      ap (λ tree. map own_spot (table_spots shape new def owners_now tree)) same
+          ∙ (own_stay shape old new def owners owners_now forests.map st.map map_now kept ∙ ap (map own_spot) (sym (shown_spots told_pages shape old def owners forests was st shows))),
     )

@@ -6,6 +6,7 @@ use Rattle.mdc_words.specs.ByteOrder.{Entry}
 use Rattle.mdc_ast.specs.declared.definition.TableDef.{TableDef}
 use Rattle.mdc_ast.specs.Definitions.{def_at}
 use Rattle.store_api.specs.declared.pages.Pages.{Ghosts}
+use Rattle.store_api.specs.declared.shape.Shape.{Shape}
 use Rattle.extent_map.specs.Owners.{AreRightNotes}
 use Rattle.mdc_sound.specs.Placing.{Spot}
 use Rattle.mdc_sound.specs.Placing.Spot.{FreeBlock, FreeExtent, IndexExtent, OtherBlock, PendingBlock, UsedBlock}
@@ -66,40 +67,40 @@ rooms_kept def room_of was is same right =
 
 -- Sound pages, whose table pages the catalog has, behind a change of the table in one place: the tables in all other places are
 -- ready, since their blocks and what is noted of them stayed.
-module _ {S : Type 0} (g : Ghosts S) (old new : S) (before now : Tables) (view : DatabaseView) (served : AreServed before.catalog) (ready : IsReady g old before) (told : IsTrue (g.state new).is_told)
-    (sound : KeepAllRules now.ext (pages_of g new) view) (stored : AreStored (pages_of g new) now.catalog) (notes : AreRightNotes now.ext view.owners) where
-  table_beside : (t : ℕ) (def : TableDef) → def_at before.catalog t ≡ Some def → def_at now.catalog t ≡ Some def → KeepsTableBlocks before.ext now.ext (pages_of g old) (pages_of g new) def
-      → rooms_at now.rooms t ≡ rooms_at before.rooms t → (forests : TableForests) × IsReadyTable g now.ext (rooms_at now.rooms t) new def view.owners forests
+module _ {S : Type 0} (g : Ghosts S) (old new : S) (before now : Tables) (view : DatabaseView) (served : AreServed before.catalog) (shape : now.shape ≡ before.shape) (ready : IsReady g old before) (told : IsTrue (g.state new).is_told)
+    (sound : KeepAllRules before.shape (pages_of g new) view) (stored : AreStored (pages_of g new) now.catalog) (notes : AreRightNotes before.shape now.notes view.owners) where
+  table_beside : (t : ℕ) (def : TableDef) → def_at before.catalog t ≡ Some def → def_at now.catalog t ≡ Some def → KeepsTableBlocks before.shape (pages_of g old) (pages_of g new) def
+      → rooms_at now.rooms t ≡ rooms_at before.rooms t → (forests : TableForests) × IsReadyTable g before.shape now.notes (rooms_at now.rooms t) new def view.owners forests
   table_beside t def was_at at keeps same =
       let was = ready.rooms t def was_at in
       let is =
-      ready_table g now.ext new view t def (λ key. no_note) told sound notes (served_below before.catalog t def served was_at) (stored_at (pages_of g new) now.catalog t def stored at) (λ key. refl) in
-      let spots : List Spot = spots_of g before.ext old def ready.view.owners was.0 in
-      let after = keeps spots (shows_spots g before.ext old def ready.view.owners was.0 was.1.stands) in
-      let here : after.0 ≡ spots_of g now.ext new def view.owners is.0 = shown_spots g now.ext new def view.owners is.0 after.0 is.1.stands after.1 in (
+      ready_table g before.shape now.notes new view t def (λ key. no_note) told sound notes (served_below before.catalog t def served was_at) (stored_at (pages_of g new) now.catalog t def stored at) (λ key. refl) in
+      let spots : List Spot = spots_of g before.shape old def ready.view.owners was.0 in
+      let after = keeps spots (shows_spots g before.shape old def ready.view.owners was.0 was.1.stands) in
+      let here : after.0 ≡ spots_of g before.shape new def view.owners is.0 = shown_spots g before.shape new def view.owners is.0 after.0 is.1.stands after.1 in (
         is.0,
         record {
           stands = is.1.stands;
           notes = notes;
-          rooms = subst (λ (room_of : Entry → RoomNote). AreRightRooms def room_of (spots_of g now.ext new def view.owners is.0)) (sym same)
+          rooms = subst (λ (room_of : Entry → RoomNote). AreRightRooms def room_of (spots_of g before.shape new def view.owners is.0)) (sym same)
               (subst (AreRightRooms def (rooms_at before.rooms t)) here (rooms_kept def (rooms_at before.rooms t) spots after.0 after.2 was.1.rooms));
         },
       )
 
   pub ready_beside : (place : ℕ) → ((t : ℕ) → t ≢ place → def_at now.catalog t ≡ def_at before.catalog t)
-      → ((t : ℕ) (other : TableDef) → t ≢ place → def_at before.catalog t ≡ Some other → KeepsTableBlocks before.ext now.ext (pages_of g old) (pages_of g new) other)
+      → ((t : ℕ) (other : TableDef) → t ≢ place → def_at before.catalog t ≡ Some other → KeepsTableBlocks before.shape (pages_of g old) (pages_of g new) other)
       → KeepsOtherRooms before.rooms now.rooms place
-      → ((def : TableDef) → def_at now.catalog place ≡ Some def → (forests : TableForests) × IsReadyTable g now.ext (rooms_at now.rooms place) new def view.owners forests)
+      → ((def : TableDef) → def_at now.catalog place ≡ Some def → (forests : TableForests) × IsReadyTable g before.shape now.notes (rooms_at now.rooms place) new def view.owners forests)
       → IsReady g new now
   ready_beside place still keeps rooms here = record {
     told = told;
     view = view;
-    sound = sound;
+    sound = subst (λ (is : Shape). KeepAllRules is (pages_of g new) view) (sym shape) sound;
     stored = stored;
-    notes = notes;
-    rooms = λ t def at. elim (cases_eq t place) [
+    notes = subst (λ (is : Shape). AreRightNotes is now.notes view.owners) (sym shape) notes;
+    rooms = λ t def at. subst (λ (is : Shape). (forests : TableForests) × IsReadyTable g is now.notes (rooms_at now.rooms t) new def view.owners forests) (sym shape) (elim (cases_eq t place) [
       | inl e ↦
-          subst (λ (u : ℕ). (forests : TableForests) × IsReadyTable g now.ext (rooms_at now.rooms u) new def view.owners forests) (sym e) (here def (ap (def_at now.catalog) (sym e) ∙ at))
+          subst (λ (u : ℕ). (forests : TableForests) × IsReadyTable g before.shape now.notes (rooms_at now.rooms u) new def view.owners forests) (sym e) (here def (ap (def_at now.catalog) (sym e) ∙ at))
       | inr apart ↦ let was_at = sym (still t apart) ∙ at in table_beside t def was_at at (keeps t def apart was_at) (rooms t apart)
-    ];
+    ]);
   }

@@ -11,15 +11,13 @@ use Rattle.mdc_ast.specs.Definitions.{Definitions, def_at, empty_place, with_def
 use Rattle.store_api.specs.Extents.{first_page_of}
 use Rattle.store_api.specs.Frame.{OnlyPage, Touches}
 use Rattle.store_api.specs.declared.pages.Pages.{Ghosts}
+use Rattle.store_api.specs.declared.shape.Shape.{Shape}
 use Rattle.extent_map.specs.Kinds.{is_unused_place}
 use Rattle.extent_map.specs.Map.{IsSpacePage}
-use Rattle.extent_map.specs.Owners.{IsSameShape, extent_of, owner_of, place_in_extent}
-use Rattle.extent_map.specs.declared.extents.Extents.{Extents}
+use Rattle.extent_map.specs.Owners.{extent_of, owner_of, place_in_extent}
 use Rattle.extent_map.specs.declared.kind.Kind.{Kind}
 use Rattle.extent_map.specs.declared.kind.Kind.TheVariants.{Free, Block}
 use Rattle.entry_tree.specs.Standing.{IsIdlePage}
-use Rattle.entry_tree.proofs.ClaimsLemmas.{shape_none}
-use Rattle.entry_tree.proofs.UsedPagesLemmas.{shape_back}
 use Rattle.block_map.specs.MapLines.{mapped_blocks}
 use Rattle.table_trees.specs.SpaceChanges.{MakesChanges}
 use Rattle.table_trees.specs.ToldPages.{PageList, told_pages}
@@ -43,10 +41,9 @@ use Rattle.script_engine.specs.Doing.{changed_place}
 use Rattle.script_engine.specs.Others.{ComesEmpty, FreesBlocks, KeepsOthers, touched_place}
 use Rattle.script_engine.specs.Ready.{AreServed, IsReady}
 use Rattle.script_engine.specs.declared.tables.Tables.{Tables}
-use Rattle.script_engine.proofs.ComingTablesLemmas.{frees_along, no_block_along, no_block_mapped, none_comes, none_goes}
+use Rattle.script_engine.proofs.ComingTablesLemmas.{no_block_mapped, none_comes, none_goes}
 use Rattle.script_engine.proofs.OtherBlocksLemmas.{stands_keeps}
 use Rattle.script_engine.proofs.ServedDefsLemmas.{def_at_set, served_below}
-use Rattle.script_engine.proofs.ShapeLemmas.{shows_along}
 
 -- the table whose rows a statement changes is the one that it may change
 pub touched_is : (statement : Bound) (place : ℕ) → changed_place statement ≡ Some place → touched_place statement ≡ Some place
@@ -65,58 +62,47 @@ there_below defs place served there = go (def_at defs place) refl there
 
 -- ---- nothing is changed
 
--- the same pages have the same blocks, whatever is noted of the extents
-pub keeps_others_itself : (before ext : Extents) (old new : PageList) (defs now : Definitions) (place : Option ℕ) → IsSameShape before ext → new ≡ old → now ≡ defs → KeepsOthers before ext old new defs now place
-keeps_others_itself before ext old new defs now place shape pages same = record {
+-- the same pages have the same blocks
+pub keeps_others_itself : (shape : Shape) (old new : PageList) (defs now : Definitions) (place : Option ℕ) → new ≡ old → now ≡ defs → KeepsOthers shape old new defs now place
+keeps_others_itself shape old new defs now place pages same = record {
   each = λ t other apart at. (
     ap (λ all. def_at all t) same ∙ at,
-    λ was shows. (was, subst (λ all. ShowsTableSpots ext all other was) (sym pages) (shows_along before ext old other was shape shows), refl),
+    λ was shows. (was, subst (λ all. ShowsTableSpots shape all other was) (sym pages) shows, refl),
   );
   made = λ t def none some. absurd (none_comes (def_at defs t) (def_at now t) def (ap (λ all. def_at all t) same) none some);
   gone = λ t def some none. absurd (none_goes (def_at defs t) (def_at now t) def (ap (λ all. def_at all t) same) some none);
 }
 
--- and what is kept so is kept in extents of the shape at first
-pub others_along : (before ext : Extents) (old new : PageList) (defs now : Definitions) (place : Option ℕ) → IsSameShape before ext → KeepsOthers before ext old new defs now place → KeepsOthers before before old new defs now place
-others_along before ext old new defs now place shape keeps =
-    let back = shape_back before ext shape in
-    record {
-      each = λ t other apart at.
-          let kept = keeps.each t other apart at in (kept.0, λ was shows. let is = kept.1 was shows in (is.0, shows_along ext before new other is.0 back is.1, is.2));
-      made = λ t def none some. let comes = keeps.made t def none some in record { blocks = no_block_along ext before new def back comes.blocks; makes = comes.makes };
-      gone = λ t def some none. frees_along before ext before old new t back (keeps.gone t def some none);
-    }
-
 -- ---- one change after another
 
 -- what two changes one after the other keep
-pub keeps_then : (before mid ext : Extents) (old middle new : PageList) (def : TableDef) → KeepsTableBlocks before mid old middle def → KeepsTableBlocks mid ext middle new def → KeepsTableBlocks before ext old new def
-keeps_then before mid ext old middle new def first second was shows =
+pub keeps_then : (shape : Shape) (old middle new : PageList) (def : TableDef) → KeepsTableBlocks shape old middle def → KeepsTableBlocks shape middle new def → KeepsTableBlocks shape old new def
+keeps_then shape old middle new def first second was shows =
     let is = first was shows in
     let after = second is.0 is.1 in
     (after.0, after.1, after.2 ∙ is.2)
 
 -- ---- a table page is written
 
-module _ (ext : Extents) (written : TableDef) (pages : PageList) (view : DatabaseView) (keeps : KeepAllRules ext (with_table_page written pages) view) (low : written.number < 16) (t : ℕ) (table : TableView)
+module _ (shape : Shape) (written : TableDef) (pages : PageList) (view : DatabaseView) (keeps : KeepAllRules shape (with_table_page written pages) view) (low : written.number < 16) (t : ℕ) (table : TableView)
     (there : slice_get view.places t ≡ Some (Some table)) where
-  stands_now : StandsTable told_pages ext (with_table_page written pages) table.def view.owners (forests_of table)
-  stands_now = stands_of_rules ext (with_table_page written pages) view keeps.first t table there
+  stands_now : StandsTable told_pages shape (with_table_page written pages) table.def view.owners (forests_of table)
+  stands_now = stands_of_rules shape (with_table_page written pages) view keeps.first t table there
 
   -- a table that stands then stood before
-  stood : StandsTable told_pages ext pages table.def view.owners (forests_of table)
+  stood : StandsTable told_pages shape pages table.def view.owners (forests_of table)
   stood =
-      stands_still (OnlyPage (1 + written.number)) ext (with_table_page written pages) pages table.def view.owners (forests_of table) stands_now (without_table_page written pages) refl
+      stands_still (OnlyPage (1 + written.number)) shape (with_table_page written pages) pages table.def view.owners (forests_of table) stands_now (without_table_page written pages) refl
       (omega (arith, length-with_table_page written pages))
       (λ p on only. omega (arith, on.0, only, low))
       (λ p l only. omega (arith, (stands_now.trees.used p l).page.behind, only, low))
       (λ p of only. omega (arith, of.page.behind, only, low))
 
   -- and no block lies on a table page
-  pub written_keeps : KeepsTableBlocks ext ext pages (with_table_page written pages) table.def
+  pub written_keeps : KeepsTableBlocks shape pages (with_table_page written pages) table.def
   written_keeps =
-      stands_keeps ext ext pages (with_table_page written pages) table.def view.owners view.owners (forests_of table) (forests_of table) (shape_none ext) stood stands_now refl
-      (λ e within own. record { each = λ j inside. page_at-with_table_page written pages (first_page_of ext.cap ext.extent_pages e + j) (λ is. omega (arith, is, low)) })
+      stands_keeps shape pages (with_table_page written pages) table.def view.owners view.owners (forests_of table) (forests_of table) stood stands_now refl
+      (λ e within own. record { each = λ j inside. page_at-with_table_page written pages (first_page_of shape.extents shape.extent_pages e + j) (λ is. omega (arith, is, low)) })
 
 -- ---- rows of one table were changed
 
@@ -125,13 +111,13 @@ pub elsewhere : (defs now : Definitions) (place t : ℕ) (def : Option TableDef)
 elsewhere defs now place t def is apart = ap (λ all. def_at all t) is ∙ ap (option_and_then (λ d. d)) (slice_get-set_other defs place def t apart)
 
 module _ {S : Type 0} (g : Ghosts S) (old mid : S) (before now : Tables) (place number : ℕ) (same : number ≡ place) (served : AreServed before.catalog) (ready : IsReady g old before)
-    (others : KeepsOtherTables before.ext now.ext (pages_of g old) (pages_of g mid) number) where
-  others_kept : (t : ℕ) (other : TableDef) → t ≢ place → def_at before.catalog t ≡ Some other → KeepsTableBlocks before.ext now.ext (pages_of g old) (pages_of g mid) other
+    (others : KeepsOtherTables before.shape (pages_of g old) (pages_of g mid) number) where
+  others_kept : (t : ℕ) (other : TableDef) → t ≢ place → def_at before.catalog t ≡ Some other → KeepsTableBlocks before.shape (pages_of g old) (pages_of g mid) other
   others_kept t other apart at =
       others.each t other (served_below before.catalog t other served at) (λ is. apart (is ∙ same)) (stored_at (pages_of g old) before.catalog t other ready.stored at)
 
   -- no page was written besides
-  pub others_changed : now.catalog ≡ before.catalog → KeepsOthers before.ext now.ext (pages_of g old) (pages_of g mid) before.catalog now.catalog (Some place)
+  pub others_changed : now.catalog ≡ before.catalog → KeepsOthers before.shape (pages_of g old) (pages_of g mid) before.catalog now.catalog (Some place)
   others_changed catalog = record {
     each = λ t other apart at. (ap (λ defs. def_at defs t) catalog ∙ at, others_kept t other (λ is. apart (ap Some (sym is))) at);
     made = λ t def none some. absurd (none_comes (def_at before.catalog t) (def_at now.catalog t) def (ap (λ defs. def_at defs t) catalog) none some);
@@ -139,24 +125,25 @@ module _ {S : Type 0} (g : Ghosts S) (old mid : S) (before now : Tables) (place 
   }
 
   -- the page of the table was written besides
-  pub kept_written : (new : S) (written : TableDef) (view : DatabaseView) → written.number ≡ place → place < 16 → KeepAllRules now.ext (pages_of g new) view → AreStored (pages_of g new) now.catalog
+  pub kept_written : (new : S) (written : TableDef) (view : DatabaseView) → written.number ≡ place → place < 16 → KeepAllRules before.shape (pages_of g new) view → AreStored (pages_of g new) now.catalog
       → pages_of g new ≡ with_table_page written (pages_of g mid) → (t : ℕ) (other : TableDef) → t ≢ place → def_at before.catalog t ≡ Some other → def_at now.catalog t ≡ Some other
-      → KeepsTableBlocks before.ext now.ext (pages_of g old) (pages_of g new) other
+      → KeepsTableBlocks before.shape (pages_of g old) (pages_of g new) other
   kept_written new written view its_number low sound stored is t other apart at at_now =
-      let found = defined_there now.ext (pages_of g new) view t other sound (served_below before.catalog t other served at) (stored_at (pages_of g new) now.catalog t other stored at_now) in
-      let stays : KeepsTableBlocks now.ext now.ext (pages_of g mid) (with_table_page written (pages_of g mid)) other =
-      subst (λ def. KeepsTableBlocks now.ext now.ext (pages_of g mid) (with_table_page written (pages_of g mid)) def) found.same
-      (written_keeps now.ext written (pages_of g mid) view (subst (λ (pages : PageList). KeepAllRules now.ext pages view) is sound) (omega (arith, its_number, low)) t found.table found.there) in
-      subst (λ (pages : PageList). KeepsTableBlocks before.ext now.ext (pages_of g old) pages other) (sym is)
-      (keeps_then before.ext now.ext now.ext (pages_of g old) (pages_of g mid) (with_table_page written (pages_of g mid)) other (others_kept t other apart at) stays)
+      let found = defined_there before.shape (pages_of g new) view t other sound (served_below before.catalog t other served at) (stored_at (pages_of g new) now.catalog t other stored at_now) in
+      let stays : KeepsTableBlocks before.shape (pages_of g mid) (with_table_page written (pages_of g mid)) other =
+      subst (λ def. KeepsTableBlocks before.shape (pages_of g mid) (with_table_page written (pages_of g mid)) def) found.same
+      (written_keeps before.shape written (pages_of g mid) view (subst (λ (pages : PageList). KeepAllRules before.shape pages view) is sound) (omega (arith, its_number, low)) t found.table found.there) in
+      subst (λ (pages : PageList). KeepsTableBlocks before.shape (pages_of g old) pages other) (sym is)
+      (keeps_then before.shape (pages_of g old) (pages_of g mid) (with_table_page written (pages_of g mid)) other (others_kept t other apart at) stays)
 
-  pub others_written : (new : S) (written : TableDef) → written.number ≡ place → IsReady g new now → pages_of g new ≡ with_table_page written (pages_of g mid) → (def : TableDef) → def_at before.catalog place ≡ Some def
-      → now.catalog ≡ with_def before.catalog place written → KeepsOthers before.ext now.ext (pages_of g old) (pages_of g new) before.catalog now.catalog (Some place)
-  others_written new written its_number ready_now is def there catalog = record {
+  pub others_written : (new : S) (written : TableDef) → written.number ≡ place → now.shape ≡ before.shape → IsReady g new now → pages_of g new ≡ with_table_page written (pages_of g mid) → (def : TableDef) → def_at before.catalog place ≡ Some def
+      → now.catalog ≡ with_def before.catalog place written → KeepsOthers before.shape (pages_of g old) (pages_of g new) before.catalog now.catalog (Some place)
+  others_written new written its_number shape ready_now is def there catalog = record {
     each = λ t other apart at.
         let elsewhere_t : t ≢ place = λ e. apart (ap Some (sym e)) in
         let at_now : def_at now.catalog t ≡ Some other = still_elsewhere t elsewhere_t ∙ at in
-        (at_now, kept_written new written ready_now.view its_number (served_below before.catalog place def served there) ready_now.sound ready_now.stored is t other elsewhere_t at at_now);
+        let sound = subst (λ (shape : Shape). KeepAllRules shape (pages_of g new) ready_now.view) shape ready_now.sound in
+        (at_now, kept_written new written ready_now.view its_number (served_below before.catalog place def served there) sound ready_now.stored is t other elsewhere_t at at_now);
     made = λ t other none some. elim (cases_eq t place) [
       | inl here ↦ let wrong = sym there ∙ (ap (def_at before.catalog) (sym here) ∙ none) in absurd (cc)
       | inr apart ↦ absurd (none_comes (def_at before.catalog t) (def_at now.catalog t) other (still_elsewhere t apart) none some)
@@ -176,51 +163,51 @@ module _ {S : Type 0} (g : Ghosts S) (old mid : S) (before now : Tables) (place 
 -- ---- a table more, or one less
 
 -- an idle page is in no block
-idle_no_block : (ext : Extents) (owners : List Kind) (p t : ℕ) → IsIdlePage ext owners p → owner_of owners (extent_of ext p) ≡ Block t → ⊥
-idle_no_block ext owners p t idle own = elim idle.idle [
-  | inl unused ↦ let wrong = subst (λ (kind : Kind). IsTrue (is_unused_place (place_in_extent ext p) kind)) own unused.unused in absurd (cc)
+idle_no_block : (shape : Shape) (owners : List Kind) (p t : ℕ) → IsIdlePage shape owners p → owner_of owners (extent_of shape p) ≡ Block t → ⊥
+idle_no_block shape owners p t idle own = elim idle.idle [
+  | inl unused ↦ let wrong = subst (λ (kind : Kind). IsTrue (is_unused_place (place_in_extent shape p) kind)) own unused.unused in absurd (cc)
   | inr free ↦ let wrong = sym own ∙ free in absurd (cc)
 ]
 
 -- a page that holds no block: a table page, page 0, one of the extent map, or an idle one
-off_space : (ext : Extents) (owners : List Kind) (t p : ℕ) → IsBlockPageOf ext owners t p → IsSpacePage ext p ⊎ IsIdlePage ext owners p → ⊥
-off_space ext owners t p of (inl (inl zero)) = omega (arith, of.page.behind, zero)
-off_space ext owners t p of (inl (inr on)) = omega (arith, of.page.behind, on.1)
-off_space ext owners t p of (inr idle) = idle_no_block ext owners p t idle of.block
+off_space : (shape : Shape) (owners : List Kind) (t p : ℕ) → IsBlockPageOf shape owners t p → IsSpacePage shape p ⊎ IsIdlePage shape owners p → ⊥
+off_space shape owners t p of (inl (inl zero)) = omega (arith, of.page.behind, zero)
+off_space shape owners t p of (inl (inr on)) = omega (arith, of.page.behind, on.1)
+off_space shape owners t p of (inr idle) = idle_no_block shape owners p t idle of.block
 
 -- Another place of sound pages was changed, and no page of a block: the tables in all other places keep theirs.
 module _ {S : Type 0} (g : Ghosts S) (old new : S) (before now : Tables) (place : ℕ) (changed : Option TableView) (owners_now : List Kind) (ready : IsReady g old before)
-    (sound : KeepAllRules now.ext (pages_of g new) (view_with ready.view owners_now place changed)) (shape : IsSameShape before.ext now.ext) (served : AreServed before.catalog)
-    (Mine : ℕ → Type 0) (touches : Touches g Mine old new) (off : (t p : ℕ) → IsBlockPageOf before.ext ready.view.owners t p → Mine p → ⊥) where
-  others_stay : (t : ℕ) (other : TableDef) → t ≢ place → def_at before.catalog t ≡ Some other → KeepsTableBlocks before.ext now.ext (pages_of g old) (pages_of g new) other
+    (sound : KeepAllRules before.shape (pages_of g new) (view_with ready.view owners_now place changed)) (served : AreServed before.catalog)
+    (Mine : ℕ → Type 0) (touches : Touches g Mine old new) (off : (t p : ℕ) → IsBlockPageOf before.shape ready.view.owners t p → Mine p → ⊥) where
+  others_stay : (t : ℕ) (other : TableDef) → t ≢ place → def_at before.catalog t ≡ Some other → KeepsTableBlocks before.shape (pages_of g old) (pages_of g new) other
   others_stay t other apart at =
-      let found = defined_there before.ext (pages_of g old) ready.view t other ready.sound (served_below before.catalog t other served at) (stored_at (pages_of g old) before.catalog t other ready.stored at) in
+      let found = defined_there before.shape (pages_of g old) ready.view t other ready.sound (served_below before.catalog t other served at) (stored_at (pages_of g old) before.catalog t other ready.stored at) in
       let table = found.table in
-      let map = map_of_rules before.ext (pages_of g old) ready.view ready.sound.first in
+      let map = map_of_rules before.shape (pages_of g old) ready.view ready.sound.first in
       let there_now : slice_get (slice_set ready.view.places place changed) t ≡ Some (Some table) = slice_get-set_other ready.view.places place changed t apart ∙ found.there in
-      subst (λ def. KeepsTableBlocks before.ext now.ext (pages_of g old) (pages_of g new) def) found.same
-      (stands_keeps before.ext now.ext (pages_of g old) (pages_of g new) table.def ready.view.owners owners_now (forests_of table) (forests_of table) shape
-      (stands_of_rules before.ext (pages_of g old) ready.view ready.sound.first t table found.there)
-      (stands_of_rules now.ext (pages_of g new) (view_with ready.view owners_now place changed) sound.first t table there_now) refl
-      (λ e within own. block_kept Mine before.ext now.ext old new ready.view.owners table.def.number e (told_of_map g old ready.told before.ext ready.view.owners map) shape ready.told touches
+      subst (λ def. KeepsTableBlocks before.shape (pages_of g old) (pages_of g new) def) found.same
+      (stands_keeps before.shape (pages_of g old) (pages_of g new) table.def ready.view.owners owners_now (forests_of table) (forests_of table)
+      (stands_of_rules before.shape (pages_of g old) ready.view ready.sound.first t table found.there)
+      (stands_of_rules before.shape (pages_of g new) (view_with ready.view owners_now place changed) sound.first t table there_now) refl
+      (λ e within own. block_kept Mine before.shape old new ready.view.owners table.def.number e (told_of_map g old ready.told before.shape ready.view.owners map) ready.told touches
       (λ p of mine. off table.def.number p of mine) within own))
 
 -- a table is made in the lowest empty place
 pub others_created : {S : Type 0} (g : Ghosts S) (old new : S) (before now : Tables) (place : ℕ) (def : TableDef) (table : TableView) (owners_now : List Kind) (ready : IsReady g old before)
-    → KeepAllRules now.ext (pages_of g new) (view_with ready.view owners_now place (Some table)) → mapped_blocks table.map ≡ [] → table.def ≡ record def { number = place } → IsSameShape before.ext now.ext → AreServed before.catalog
-    → empty_place before.catalog ≡ Some place → now.catalog ≡ with_def before.catalog place def → Touches g (IsAddingPage g before.ext old before.catalog) old new
-    → MakesChanges before.ext (pages_of g old) (creating_changes table.def) (pages_of g new)
-    → KeepsOthers before.ext now.ext (pages_of g old) (pages_of g new) before.catalog now.catalog None
-others_created g old new before now place def table owners_now ready sound unmapped its_def shape served lowest catalog touches makes = record {
+    → KeepAllRules before.shape (pages_of g new) (view_with ready.view owners_now place (Some table)) → mapped_blocks table.map ≡ [] → table.def ≡ record def { number = place } → AreServed before.catalog
+    → empty_place before.catalog ≡ Some place → now.catalog ≡ with_def before.catalog place def → Touches g (IsAddingPage g before.shape old before.catalog) old new
+    → MakesChanges before.shape (pages_of g old) (creating_changes table.def) (pages_of g new)
+    → KeepsOthers before.shape (pages_of g old) (pages_of g new) before.catalog now.catalog None
+others_created g old new before now place def table owners_now ready sound unmapped its_def served lowest catalog touches makes = record {
   each = λ t other apart at. (
     still_elsewhere t (not_there t other at) ∙ at,
-    others_stay g old new before now place (Some table) owners_now ready sound shape served (IsAddingPage g before.ext old before.catalog) touches off t other (not_there t other at) at,
+    others_stay g old new before now place (Some table) owners_now ready sound served (IsAddingPage g before.shape old before.catalog) touches off t other (not_there t other at) at,
   );
   made = λ t other none some. elim (cases_eq t place) [
     | inl here ↦
         let same : table.def ≡ other = its_def ∙ same_Some (record def { number = place }) other (sym put_there ∙ (ap (def_at now.catalog) (sym here) ∙ some)) in
-        subst (ComesEmpty before.ext now.ext (pages_of g old) (pages_of g new)) same
-        (record { blocks = no_block_mapped now.ext (pages_of g new) (view_with ready.view owners_now place (Some table)) place table sound.first table_there unmapped; makes = makes })
+        subst (ComesEmpty before.shape (pages_of g old) (pages_of g new)) same
+        (record { blocks = no_block_mapped before.shape (pages_of g new) (view_with ready.view owners_now place (Some table)) place table sound.first table_there unmapped; makes = makes })
     | inr apart ↦ absurd (none_comes (def_at before.catalog t) (def_at now.catalog t) other (still_elsewhere t apart) none some)
   ];
   gone = λ t other some none. absurd (none_goes (def_at before.catalog t) (def_at now.catalog t) other (still_elsewhere t (not_there t other some)) some none);
@@ -236,34 +223,34 @@ others_created g old new before now place def table owners_now ready sound unmap
     put_there = ap (λ defs. def_at defs place) catalog ∙ def_at_set before.catalog place (Some (record def { number = place })) (lowest_place before.catalog place lowest).0
 
     table_there : slice_get (slice_set ready.view.places place (Some table)) place ≡ Some (Some table)
-    table_there = slice_get-set_same ready.view.places place (Some table) (omega (arith, empty_place_below before.catalog place served.limits lowest, range_length (IsTablePlaceSound before.ext (pages_of g old) ready.view.owners) 0 16 ready.view.places ready.sound.first.rule3.each))
+    table_there = slice_get-set_same ready.view.places place (Some table) (omega (arith, empty_place_below before.catalog place served.limits lowest, range_length (IsTablePlaceSound before.shape (pages_of g old) ready.view.owners) 0 16 ready.view.places ready.sound.first.rule3.each))
 
-    off : (t p : ℕ) → IsBlockPageOf before.ext ready.view.owners t p → IsAddingPage g before.ext old before.catalog p → ⊥
+    off : (t p : ℕ) → IsBlockPageOf before.shape ready.view.owners t p → IsAddingPage g before.shape old before.catalog p → ⊥
     off t p of (inl (u, empty, is)) = omega (arith, of.page.behind, is, empty_place_below before.catalog u served.limits empty)
-    off t p of (inr space) = off_space before.ext ready.view.owners t p of (space ready.view.owners (told_of_map g old ready.told before.ext ready.view.owners (map_of_rules before.ext (pages_of g old) ready.view ready.sound.first)))
+    off t p of (inr space) = off_space before.shape ready.view.owners t p of (space ready.view.owners (told_of_map g old ready.told before.shape ready.view.owners (map_of_rules before.shape (pages_of g old) ready.view ready.sound.first)))
 
 -- a table is dropped
 pub others_removed : {S : Type 0} (g : Ghosts S) (old new : S) (before now : Tables) (place : ℕ) (owners_now : List Kind) (ready : IsReady g old before)
-    → KeepAllRules now.ext (pages_of g new) (view_with ready.view owners_now place None) → ((e : ℕ) → owner_of ready.view.owners e ≡ Block place → owner_of owners_now e ≡ Free)
-    → IsSameShape before.ext now.ext → AreServed before.catalog → place < 16
-    → now.catalog ≡ without_def before.catalog place → Touches g (IsDroppingPage before.ext place) old new
-    → KeepsOthers before.ext now.ext (pages_of g old) (pages_of g new) before.catalog now.catalog (Some place)
-others_removed g old new before now place owners_now ready sound freed shape served low catalog touches = record {
+    → KeepAllRules before.shape (pages_of g new) (view_with ready.view owners_now place None) → ((e : ℕ) → owner_of ready.view.owners e ≡ Block place → owner_of owners_now e ≡ Free)
+    → AreServed before.catalog → place < 16
+    → now.catalog ≡ without_def before.catalog place → Touches g (IsDroppingPage before.shape place) old new
+    → KeepsOthers before.shape (pages_of g old) (pages_of g new) before.catalog now.catalog (Some place)
+others_removed g old new before now place owners_now ready sound freed served low catalog touches = record {
   each = λ t other apart at.
       let elsewhere_t : t ≢ place = λ e. apart (ap Some (sym e)) in (
         still_elsewhere t elsewhere_t ∙ at,
-        others_stay g old new before now place None owners_now ready sound shape served (IsDroppingPage before.ext place) touches off t other elsewhere_t at,
+        others_stay g old new before now place None owners_now ready sound served (IsDroppingPage before.shape place) touches off t other elsewhere_t at,
       );
   made = λ t def none some. elim (cases_eq t place) [
     | inl here ↦ let wrong = sym gone_there ∙ (ap (def_at now.catalog) (sym here) ∙ some) in absurd (cc)
     | inr apart ↦ absurd (none_comes (def_at before.catalog t) (def_at now.catalog t) def (still_elsewhere t apart) none some)
   ];
   gone = λ t def some none. elim (cases_eq t place) [
-    | inl here ↦ subst (FreesBlocks before.ext now.ext (pages_of g old) (pages_of g new)) (sym here) (record {
+    | inl here ↦ subst (FreesBlocks before.shape (pages_of g old) (pages_of g new)) (sym here) (record {
       owners = ready.view.owners;
       owners_now = owners_now;
-      held = map_of_rules before.ext (pages_of g old) ready.view ready.sound.first;
-      held_now = map_of_rules now.ext (pages_of g new) (view_with ready.view owners_now place None) sound.first;
+      held = map_of_rules before.shape (pages_of g old) ready.view ready.sound.first;
+      held_now = map_of_rules before.shape (pages_of g new) (view_with ready.view owners_now place None) sound.first;
       freed = freed;
     })
     | inr apart ↦ absurd (none_goes (def_at before.catalog t) (def_at now.catalog t) def (still_elsewhere t apart) some none)
@@ -276,6 +263,6 @@ others_removed g old new before now place owners_now ready sound freed shape ser
     gone_there : def_at now.catalog place ≡ None
     gone_there = ap (λ defs. def_at defs place) catalog ∙ def_at_set before.catalog place None (omega (arith, low, served.valid.places))
 
-    off : (t p : ℕ) → IsBlockPageOf before.ext ready.view.owners t p → IsDroppingPage before.ext place p → ⊥
+    off : (t p : ℕ) → IsBlockPageOf before.shape ready.view.owners t p → IsDroppingPage before.shape place p → ⊥
     off t p of (inl is) = omega (arith, of.page.behind, is, low)
     off t p of (inr on) = omega (arith, of.page.behind, on.1)

@@ -9,15 +9,14 @@ use Rattle.mdc_ast.specs.Database.{Database, PlainTable, changed_at}
 use Rattle.statement_meaning.proofs.BuiltLemmas.{built_at, no_indexes}
 use Rattle.mdc_ast.specs.Definitions.{Definitions, def_at, with_def}
 use Rattle.store_api.specs.declared.pages.Pages.{Ghosts}
+use Rattle.store_api.specs.declared.shape.Shape.{Shape}
 use Rattle.extent_map.specs.Owners.{AreRightNotes}
-use Rattle.extent_map.specs.declared.extents.Extents.{Extents}
 use Rattle.extent_map.specs.declared.kind.Kind.{Kind}
 use Rattle.mdc_ast.specs.TableLimits.{IsTableDef}
 use Rattle.table_page.proofs.TablePageLemmas.{one_definition}
 use Rattle.table_trees.specs.SpaceChanges.{MakesChanges, SpaceChange}
 use Rattle.table_trees.specs.TableTrees.{map_place}
 use Rattle.table_trees.specs.ToldPages.{HasTree, PageList, told_pages}
-use Rattle.table_trees.proofs.ShapedSpaceLemmas.{same_space_shaped}
 use Rattle.table_trees.proofs.SpaceChainsLemmas.{changes_to}
 use Rattle.mdc_sound.specs.Placing.{Spot, block_slot_count, table_spots}
 use Rattle.mdc_sound.specs.RunningFull.{ShowsTableSpots}
@@ -64,13 +63,13 @@ served_def defs place def served at =
 
 -- a table of ready pages stands with right notes, in pages that are sound as they are between two changes of rows
 pub ready_between : {S : Type 0} (g : Ghosts S) (s : S) (tables : Tables) (place : ℕ) (def : TableDef) → AreServed tables.catalog → (ready : IsReady g s tables) → def_at tables.catalog place ≡ Some def
-    → (forests : TableForests) × IsReadyBetween g tables.ext (rooms_at tables.rooms place) s def ready.view.owners forests
+    → (forests : TableForests) × IsReadyBetween g tables.shape tables.notes (rooms_at tables.rooms place) s def ready.view.owners forests
 ready_between g s tables place def served ready at =
     let is = served_def tables.catalog place def served at in
     let stored = stored_at (pages_of g s) tables.catalog place def ready.stored at in
     let table = ready.rooms place def at in
     let low : def.number < 16 = omega (arith, is.number, is.below) in
-    (table.0, record { ready = table.1; sound = between_of_rules tables.ext (pages_of g s) ready.view def ready.sound low (subst (λ t. DefinesTable (pages_of g s) t def) (sym is.number) stored) })
+    (table.0, record { ready = table.1; sound = between_of_rules tables.shape (pages_of g s) ready.view def ready.sound low (subst (λ t. DefinesTable (pages_of g s) t def) (sym is.number) stored) })
 
 -- ready pages have the definition of a table on its page, so writing it changes nothing
 pub page_is_written : {S : Type 0} (g : Ghosts S) (s : S) (tables : Tables) (place : ℕ) (def : TableDef) → AreServed tables.catalog → IsReady g s tables → def_at tables.catalog place ≡ Some def
@@ -81,8 +80,8 @@ page_is_written g s tables place def served ready at =
 -- ---- at its end
 
 -- sound pages with right notes, whose table pages the catalog has, are ready where no rooms are noted
-pub ready_of_sound : {S : Type 0} (g : Ghosts S) (s : S) (tables : Tables) (view : DatabaseView) → AreServed tables.catalog → IsTrue (g.state s).is_told → KeepAllRules tables.ext (pages_of g s) view
-    → AreStored (pages_of g s) tables.catalog → AreRightNotes tables.ext view.owners → AreForgotten tables.rooms → IsReady g s tables
+pub ready_of_sound : {S : Type 0} (g : Ghosts S) (s : S) (tables : Tables) (view : DatabaseView) → AreServed tables.catalog → IsTrue (g.state s).is_told → KeepAllRules tables.shape (pages_of g s) view
+    → AreStored (pages_of g s) tables.catalog → AreRightNotes tables.shape tables.notes view.owners → AreForgotten tables.rooms → IsReady g s tables
 ready_of_sound g s tables view served told sound stored notes rooms = record {
   told = told;
   view = view;
@@ -91,32 +90,33 @@ ready_of_sound g s tables view served told sound stored notes rooms = record {
   notes = notes;
   rooms = λ table def at.
       let is = served_def tables.catalog table def served at in
-      ready_table g tables.ext s view table def (rooms_at tables.rooms table) told sound notes is.below (stored_at (pages_of g s) tables.catalog table def stored at) (rooms table is.below);
+      ready_table g tables.shape tables.notes s view table def (rooms_at tables.rooms table) told sound notes is.below (stored_at (pages_of g s) tables.catalog table def stored at) (rooms table is.below);
 }
 
 -- what the pages are once the rows of the table in a place were changed and its page is written
 pub record EndsChange {S : Type 0} (g : Ghosts S) (old new : S) (before now : Tables) (place : ℕ) (change : PlainTable → PlainTable) : Type 0 where
   pub ready : IsReady g new now
-  pub stands_for : (db : Database) → PagesStandFor before.ext (pages_of g old) db → PagesStandFor now.ext (pages_of g new) (changed_at db place change)
+  pub stands_for : (db : Database) → PagesStandFor before.shape (pages_of g old) db → PagesStandFor now.shape (pages_of g new) (changed_at db place change)
 
 -- an INSERT: the page of the table is written with its new definition
 pub change_ends : {S : Type 0} (g : Ghosts S) (old mid new : S) (before now : Tables) (place : ℕ) (def def_now : TableDef) (owners : List Kind) (forests : TableForests) (Places : List Spot → List SpaceChange → List Spot → Type 0) (change : PlainTable → PlainTable)
-    → AreServed before.catalog → IsReady g old before → def_at before.catalog place ≡ Some def → def_now ≡ record def { next = def_now.next } → def_now.next < 18446744073709551616
-    → ChangesRowsOf g before.ext now.ext (rooms_at now.rooms place) old mid def def_now owners forests Places change
+    → AreServed before.catalog → now.shape ≡ before.shape → IsReady g old before → def_at before.catalog place ≡ Some def → def_now ≡ record def { next = def_now.next } → def_now.next < 18446744073709551616
+    → ChangesRowsOf g before.shape before.notes now.notes (rooms_at now.rooms place) old mid def def_now owners forests Places change
     → IsTrue (g.state new).is_told → pages_of g new ≡ with_table_page def_now (pages_of g mid)
     → now.catalog ≡ with_def before.catalog place def_now → KeepsOtherRooms before.rooms now.rooms place → EndsChange g old new before now place change
-change_ends g old mid new before now place def def_now owners forests Places change served ready at same small changed told written catalog rooms = record {
-  ready = ready_beside g old new before now changed.now.sound.sound.view served ready told rules stored (subst (AreRightNotes now.ext) one_owners changed.now.ready.notes) place still_elsewhere
+change_ends g old mid new before now place def def_now owners forests Places change served shape ready at same small changed told written catalog rooms = record {
+  ready = ready_beside g old new before now changed.now.sound.sound.view served shape ready told rules stored (subst (AreRightNotes before.shape now.notes) one_owners changed.now.ready.notes) place still_elsewhere
       (λ t other apart was. kept_written g old mid before now place def.number is.number served ready changed.others new def_now changed.now.sound.sound.view number is.below rules stored written t other apart was
       (still_elsewhere t apart ∙ was))
       rooms
       (λ d there.
       let is_now : def_now ≡ d = one_definition place def_now d (table_page_at (pages_of g new) place) defines (stored_at (pages_of g new) now.catalog place d stored there) in
-      (changed.forests_now, subst (λ (x : TableDef). IsReadyTable g now.ext (rooms_at now.rooms place) new x changed.now.sound.sound.view.owners changed.forests_now) is_now table_now));
+      (changed.forests_now, subst (λ (x : TableDef). IsReadyTable g before.shape now.notes (rooms_at now.rooms place) new x changed.now.sound.sound.view.owners changed.forests_now) is_now table_now));
   stands_for = λ db were.
-      let after = changed.stands_for db (subst (λ (pages : PageList). PagesStandFor before.ext pages db) (sym (page_is_written g old before place def served ready at)) were) in
-      subst (λ (pages : PageList). PagesStandFor now.ext pages (changed_at db place change)) (sym written)
-      (subst (λ (t : ℕ). PagesStandFor now.ext (with_table_page def_now (pages_of g mid)) (changed_at db t change)) is.number after);
+      let after = changed.stands_for db (subst (λ (pages : PageList). PagesStandFor before.shape pages db) (sym (page_is_written g old before place def served ready at)) were) in
+      subst (λ (is : Shape). PagesStandFor is (pages_of g new) (changed_at db place change)) (sym shape)
+      (subst (λ (pages : PageList). PagesStandFor before.shape pages (changed_at db place change)) (sym written)
+      (subst (λ (t : ℕ). PagesStandFor before.shape (with_table_page def_now (pages_of g mid)) (changed_at db t change)) is.number after));
 }
   where
     still_elsewhere : (t : ℕ) → t ≢ place → def_at now.catalog t ≡ def_at before.catalog t
@@ -131,15 +131,15 @@ change_ends g old mid new before now place def def_now owners forests Places cha
     low : def_now.number < 16
     low = omega (arith, number, is.below)
 
-    rules : KeepAllRules now.ext (pages_of g new) changed.now.sound.sound.view
+    rules : KeepAllRules before.shape (pages_of g new) changed.now.sound.sound.view
     rules =
-        subst (λ (pages : PageList). KeepAllRules now.ext pages changed.now.sound.sound.view) (sym written)
-        (rules_of_between now.ext def_now (pages_of g mid) changed.now.sound (ap (λ (d : TableDef). d.indexes) same ∙ is.no_indexes))
+        subst (λ (pages : PageList). KeepAllRules before.shape pages changed.now.sound.sound.view) (sym written)
+        (rules_of_between before.shape def_now (pages_of g mid) changed.now.sound (ap (λ (d : TableDef). d.indexes) same ∙ is.no_indexes))
 
     defines : DefinesTable (pages_of g new) place def_now
     defines =
         subst (λ (pages : PageList). DefinesTable pages place def_now) (sym written)
-        (subst (λ (t : ℕ). DefinesTable (with_table_page def_now (pages_of g mid)) t def_now) number (written_defines now.ext def_now (pages_of g mid) changed.now.sound.sound))
+        (subst (λ (t : ℕ). DefinesTable (with_table_page def_now (pages_of g mid)) t def_now) number (written_defines before.shape def_now (pages_of g mid) changed.now.sound.sound))
 
     stored : AreStored (pages_of g new) now.catalog
     stored =
@@ -151,23 +151,23 @@ change_ends g old mid new before now place def def_now owners forests Places cha
 
     one_owners : changed.owners_now ≡ changed.now.sound.sound.view.owners
     one_owners =
-        (one_standing g now.ext mid def_now changed.owners_now changed.now.sound.sound.view.owners changed.forests_now (forests_of changed.now.sound.sound.table) changed.now.ready.stands
-        (stands_of_sound g now.ext mid def_now changed.now.sound.sound changed.now.ready.stands.told)).0
+        (one_standing g before.shape mid def_now changed.owners_now changed.now.sound.sound.view.owners changed.forests_now (forests_of changed.now.sound.sound.table) changed.now.ready.stands
+        (stands_of_sound g before.shape mid def_now changed.now.sound.sound changed.now.ready.stands.told)).0
 
-    stands_now : StandsTable g now.ext new def_now changed.owners_now changed.forests_now
+    stands_now : StandsTable g before.shape new def_now changed.owners_now changed.forests_now
     stands_now =
-        stands_told g new told now.ext def_now changed.owners_now changed.forests_now
-        (subst (λ (pages : PageList). StandsTable told_pages now.ext pages def_now changed.owners_now changed.forests_now) (sym written)
-        (stands_written g now.ext mid def_now changed.owners_now changed.forests_now low changed.now.ready.stands))
+        stands_told g new told before.shape def_now changed.owners_now changed.forests_now
+        (subst (λ (pages : PageList). StandsTable told_pages before.shape pages def_now changed.owners_now changed.forests_now) (sym written)
+        (stands_written g before.shape mid def_now changed.owners_now changed.forests_now low changed.now.ready.stands))
 
-    spots_now : spots_of g now.ext mid def_now changed.owners_now changed.forests_now ≡ spots_of g now.ext new def_now changed.owners_now changed.forests_now
+    spots_now : spots_of g before.shape mid def_now changed.owners_now changed.forests_now ≡ spots_of g before.shape new def_now changed.owners_now changed.forests_now
     spots_now =
-        sym (spots_with_table_page now.ext def_now (pages_of g mid) low def_now changed.owners_now changed.forests_now.map)
-        ∙ ap (λ (pages : PageList). table_spots now.ext pages def_now changed.owners_now changed.forests_now.map) (sym written)
+        sym (spots_with_table_page before.shape def_now (pages_of g mid) low def_now changed.owners_now changed.forests_now.map)
+        ∙ ap (λ (pages : PageList). table_spots before.shape pages def_now changed.owners_now changed.forests_now.map) (sym written)
 
-    table_now : IsReadyTable g now.ext (rooms_at now.rooms place) new def_now changed.now.sound.sound.view.owners changed.forests_now
+    table_now : IsReadyTable g before.shape now.notes (rooms_at now.rooms place) new def_now changed.now.sound.sound.view.owners changed.forests_now
     table_now =
-        subst (λ (o : List Kind). IsReadyTable g now.ext (rooms_at now.rooms place) new def_now o changed.forests_now) one_owners
+        subst (λ (o : List Kind). IsReadyTable g before.shape now.notes (rooms_at now.rooms place) new def_now o changed.forests_now) one_owners
         (record { stands = stands_now; notes = changed.now.ready.notes; rooms = subst (AreRightRooms def_now (rooms_at now.rooms place)) spots_now changed.now.ready.rooms })
 
 -- a definition put where it stands
@@ -178,54 +178,53 @@ put_there (first ∷ defs) (suc place) def at = ap (λ (rest : Definitions). fir
 
 -- a DELETE or an UPDATE: the page of the table stays
 pub change_ends_unwritten : {S : Type 0} (g : Ghosts S) (old new : S) (before now : Tables) (place : ℕ) (def : TableDef) (owners : List Kind) (forests : TableForests) (Places : List Spot → List SpaceChange → List Spot → Type 0) (change : PlainTable → PlainTable)
-    → AreServed before.catalog → IsReady g old before → def_at before.catalog place ≡ Some def
-    → ChangesRowsOf g before.ext now.ext (rooms_at now.rooms place) old new def def owners forests Places change
+    → AreServed before.catalog → now.shape ≡ before.shape → IsReady g old before → def_at before.catalog place ≡ Some def
+    → ChangesRowsOf g before.shape before.notes now.notes (rooms_at now.rooms place) old new def def owners forests Places change
     → now.catalog ≡ before.catalog → KeepsOtherRooms before.rooms now.rooms place → EndsChange g old new before now place change
-change_ends_unwritten g old new before now place def owners forests Places change served ready at changed catalog rooms =
+change_ends_unwritten g old new before now place def owners forests Places change served shape ready at changed catalog rooms =
     let is = served_def before.catalog place def served at in
     let was = stored_at (pages_of g old) before.catalog place def ready.stored at in
     let defines : DefinesTable (pages_of g new) place def = record { limits = was.limits; printed = changed.table_pages.each place is.below ∙ was.printed } in
-    change_ends g old new new before now place def def owners forests Places change served ready at refl was.limits.next changed changed.now.ready.stands.told
+    change_ends g old new new before now place def def owners forests Places change served shape ready at refl was.limits.next changed changed.now.ready.stands.told
     (sym (written_already (pages_of g new) place def is.number defines))
     (catalog ∙ sym (put_as_it_is before.catalog place def was.limits ∙ put_there before.catalog place def (def_there before.catalog place def at)))
     rooms
 
 -- the spots of a table are shown still where its page is written with another next row number
-shown_written : {S : Type 0} (g : Ghosts S) (ext : Extents) (mid : S) (pages : PageList) (def def_now : TableDef) (owners : List Kind) (forests : TableForests) → def_now ≡ record def { next = def_now.next }
-    → def_now.number < 16 → StandsTable g ext mid def_now owners forests → pages ≡ with_table_page def_now (pages_of g mid) → ShowsTableSpots ext pages def (spots_of g ext mid def_now owners forests)
-shown_written g ext mid pages def def_now owners forests same low stands written =
-    let st = subst (λ (p : PageList). StandsTable told_pages ext p def_now owners forests) (sym written) (stands_written g ext mid def_now owners forests low stands) in
-    let shown = shows_spots told_pages ext pages def_now owners forests st in
-    let spots : spots_of g ext mid def_now owners forests ≡ table_spots ext pages def_now owners forests.map =
-    sym (spots_with_table_page ext def_now (pages_of g mid) low def_now owners forests.map) ∙ ap (λ (p : PageList). table_spots ext p def_now owners forests.map) (sym written) in
+shown_written : {S : Type 0} (g : Ghosts S) (shape : Shape) (mid : S) (pages : PageList) (def def_now : TableDef) (owners : List Kind) (forests : TableForests) → def_now ≡ record def { next = def_now.next }
+    → def_now.number < 16 → StandsTable g shape mid def_now owners forests → pages ≡ with_table_page def_now (pages_of g mid) → ShowsTableSpots shape pages def (spots_of g shape mid def_now owners forests)
+shown_written g shape mid pages def def_now owners forests same low stands written =
+    let st = subst (λ (p : PageList). StandsTable told_pages shape p def_now owners forests) (sym written) (stands_written g shape mid def_now owners forests low stands) in
+    let shown = shows_spots told_pages shape pages def_now owners forests st in
+    let spots : spots_of g shape mid def_now owners forests ≡ table_spots shape pages def_now owners forests.map =
+    sym (spots_with_table_page shape def_now (pages_of g mid) low def_now owners forests.map) ∙ ap (λ (p : PageList). table_spots shape p def_now owners forests.map) (sym written) in
     record {
       owners = shown.owners;
       map_tree = shown.map_tree;
       has_extents = shown.has_extents;
       has_map = subst (λ (d : TableDef). HasTree pages (map_place d) shown.map_tree) same shown.has_map;
-      spots_are = spots ∙ (shown.spots_are ∙ ap (λ (d : TableDef). table_spots ext pages d shown.owners shown.map_tree) same);
+      spots_are = spots ∙ (shown.spots_are ∙ ap (λ (d : TableDef). table_spots shape pages d shown.owners shown.map_tree) same);
     }
 
 -- rows went where the statement's placing says, on the pages as they are shown
 pub places_shown : {S : Type 0} {room room_now : Entry → RoomNote} (g : Ghosts S) (old mid new : S) (before now : Tables) (def def_now : TableDef) (owners : List Kind) (forests : TableForests) (Places : List Spot → List SpaceChange → List Spot → Type 0) (change : PlainTable → PlainTable) (statement : Bound)
-    → IsReady g old before → def_now ≡ record def { next = def_now.next } → IsReadyBetween g before.ext room old def owners forests
-    → ChangesRowsOf g before.ext now.ext room_now old mid def def_now owners forests Places change
-    → pages_of g new ≡ with_table_page def_now (pages_of g mid) → ((was : List Spot) (space : List SpaceChange) (is : List Spot) → Places was space is → PlacesRows def (block_slot_count before.ext def) was space is statement)
-    → PlacesOnPages before.ext now.ext (pages_of g old) (pages_of g new) def statement
+    → IsReady g old before → def_now ≡ record def { next = def_now.next } → IsReadyBetween g before.shape before.notes room old def owners forests
+    → ChangesRowsOf g before.shape before.notes now.notes room_now old mid def def_now owners forests Places change
+    → pages_of g new ≡ with_table_page def_now (pages_of g mid) → ((was : List Spot) (space : List SpaceChange) (is : List Spot) → Places was space is → PlacesRows def (block_slot_count before.shape def) was space is statement)
+    → PlacesOnPages before.shape (pages_of g old) (pages_of g new) def statement
 places_shown g old mid new before now def def_now owners forests Places change statement ready same between changed written turns = record {
-  was = spots_of g before.ext old def owners forests;
-  is = spots_of g now.ext mid def_now changed.owners_now changed.forests_now;
-  shown_before = shows_spots g before.ext old def owners forests between.ready.stands;
-  shown_after = shown_written g now.ext mid (pages_of g new) def def_now changed.owners_now changed.forests_now same (number_is_low now.ext def_now (pages_of g mid) changed.now.sound.sound) changed.now.ready.stands written;
+  was = spots_of g before.shape old def owners forests;
+  is = spots_of g before.shape mid def_now changed.owners_now changed.forests_now;
+  shown_before = shows_spots g before.shape old def owners forests between.ready.stands;
+  shown_after = shown_written g before.shape mid (pages_of g new) def def_now changed.owners_now changed.forests_now same (number_is_low before.shape def_now (pages_of g mid) changed.now.sound.sound) changed.now.ready.stands written;
   space = changed.space;
-  places = turns (spots_of g before.ext old def owners forests) changed.space (spots_of g now.ext mid def_now changed.owners_now changed.forests_now) changed.places;
-  makes = subst (λ (pages : PageList). MakesChanges before.ext (pages_of g old) changed.space pages) (sym written)
-      (changes_to before.ext (pages_of g old) (pages_of g mid) (with_table_page def_now (pages_of g mid)) changed.space changed.makes
-      (same_space_shaped before.ext now.ext changed.changes.shape (pages_of g mid) (with_table_page def_now (pages_of g mid))
-      (space_written g now.ext mid def_now changed.owners_now changed.forests_now (number_is_low now.ext def_now (pages_of g mid) changed.now.sound.sound) changed.now.ready.stands)));
+  places = turns (spots_of g before.shape old def owners forests) changed.space (spots_of g before.shape mid def_now changed.owners_now changed.forests_now) changed.places;
+  makes = subst (λ (pages : PageList). MakesChanges before.shape (pages_of g old) changed.space pages) (sym written)
+      (changes_to before.shape (pages_of g old) (pages_of g mid) (with_table_page def_now (pages_of g mid)) changed.space changed.makes
+      (space_written g before.shape mid def_now changed.owners_now changed.forests_now (number_is_low before.shape def_now (pages_of g mid) changed.now.sound.sound) changed.now.ready.stands));
   defined = (
     def_now.next,
     subst (λ (pages : PageList). DefinesTable pages def.number (record def { next = def_now.next })) (sym written)
-        (subst (λ (d : TableDef). DefinesTable (with_table_page def_now (pages_of g mid)) d.number d) same (written_defines now.ext def_now (pages_of g mid) changed.now.sound.sound)),
+        (subst (λ (d : TableDef). DefinesTable (with_table_page def_now (pages_of g mid)) d.number d) same (written_defines before.shape def_now (pages_of g mid) changed.now.sound.sound)),
   );
 }

@@ -9,8 +9,8 @@ use Rattle.store_api.specs.Works.{Steady}
 use Rattle.store_api.specs.declared.fault.Damage.{Damage}
 use Rattle.store_api.specs.declared.pages.Pages.{Ghosts}
 use Rattle.store_api.proofs.WorksLemmas.{steady_rollback, steady_then}
-use Rattle.extent_map.specs.Owners.{AreRightNotes, IsSameShape}
-use Rattle.extent_map.specs.declared.extents.Extents.{Extents}
+use Rattle.extent_map.specs.Owners.{AreRightNotes}
+use Rattle.store_api.specs.declared.shape.Shape.{Shape}
 use Rattle.extent_map.specs.declared.kind.Kind.{Kind}
 use Rattle.table_trees.specs.ToldPages.{PageList}
 use Rattle.mdc_sound.specs.SoundDatabase.{IsSoundDatabase}
@@ -26,11 +26,11 @@ use Rattle.script_engine.proofs.CatalogLemmas.{no_broken_pages}
 
 module _ {S : Type 0} (g : Ghosts S) where
   -- pages of a sound database name no damage
-  pub no_damage : (s : S) (ext : Extents) (damage : Damage) → IsTrue (g.state s).is_told → IsSoundDatabase ext (pages_of g s) → BreaksTablePages g s damage → ⊥
-  no_damage s ext damage told sound broken = no_broken_pages g s ext sound.0 told sound.1 damage broken
+  pub no_damage : (s : S) (shape : Shape) (damage : Damage) → IsTrue (g.state s).is_told → IsSoundDatabase shape (pages_of g s) → BreaksTablePages g s damage → ⊥
+  no_damage s shape damage told sound broken = no_broken_pages g s shape sound.0 told sound.1 damage broken
 
   module _ (old back new : S) (before now : Tables) (rolls : RollsBack (g.state old) (g.state back)) (count : g.disk_faults back ≡ g.disk_faults old) (say : g.say_faults back ≡ g.say_faults old)
-      (time : OverTime g.clock g.left (OnlyBase (g.state old)) old back) (shape : IsSameShape before.ext now.ext) (notes : (owners : List Kind) → AreRightNotes now.ext owners) (rooms : AreForgotten now.rooms) where
+      (time : OverTime g.clock g.left (OnlyBase (g.state old)) old back) (same_shape : now.shape ≡ before.shape) (notes : (owners : List Kind) → AreRightNotes now.shape now.notes owners) (rooms : AreForgotten now.rooms) where
     went_back : Steady g old back
     went_back = steady_rollback rolls count say time
 
@@ -38,13 +38,13 @@ module _ {S : Type 0} (g : Ghosts S) where
     base_again = ap (λ s. s.work) rolls
 
     -- the catalog couldn't be read
-    pub reload_stops : (ext : Extents) (result : Result Bool EngineStop) (stop : EngineStop) → IsErrAnd result (λ e. e ≡ stop) → LoadsExactly g ext (Err stop) back new → Reloads g result old new before now
-    reload_stops ext (Ok served) stop is loads = absurd is
-    reload_stops ext (Err e) stop is loads = subst (λ (x : EngineStop). Reloads g (Err x) old new before now) (sym is) (record {
+    pub reload_stops : (shape : Shape) (result : Result Bool EngineStop) (stop : EngineStop) → IsErrAnd result (λ e. e ≡ stop) → LoadsExactly g shape (Err stop) back new → Reloads g result old new before now
+    reload_stops shape (Ok served) stop is loads = absurd is
+    reload_stops shape (Err e) stop is loads = subst (λ (x : EngineStop). Reloads g (Err x) old new before now) (sym is) (record {
       steady = steady_then went_back loads.reads.steady;
       work = loads.reads.work ∙ base_again;
       unmarked = loads.reads.marked ∙ ap (λ s. s.marked) rolls;
-      shape = shape;
+      shape = same_shape;
       notes = notes;
       rooms = rooms;
       stored = tt;
@@ -58,12 +58,12 @@ module _ {S : Type 0} (g : Ghosts S) where
     })
 
     -- it was read
-    pub reload_done : (ext : Extents) (served : Bool) → LoadsExactly g ext (Ok now.catalog) back new → served ≡ are_built now.catalog → Reloads g (Ok served) old new before now
-    reload_done ext served loads built = record {
+    pub reload_done : (shape : Shape) (served : Bool) → LoadsExactly g shape (Ok now.catalog) back new → served ≡ are_built now.catalog → Reloads g (Ok served) old new before now
+    reload_done shape served loads built = record {
       steady = steady_then went_back loads.reads.steady;
       work = loads.reads.work ∙ base_again;
       unmarked = loads.reads.marked ∙ ap (λ s. s.marked) rolls;
-      shape = shape;
+      shape = same_shape;
       notes = notes;
       rooms = rooms;
       stored = λ told. subst (λ (pages : PageList). AreStored pages now.catalog) base_again (loads.stored (subst IsTrue (sym went_back.is_told) told));

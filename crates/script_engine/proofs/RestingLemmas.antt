@@ -3,7 +3,6 @@ use Rattle.std.proofs.Common.{[], Ok, refl}
 use Rattle.mdc_words.proofs.FaultsLemmas.{counts_fault_none}
 use Rattle.mdc_words.proofs.TimeLemmas.{over_time_none}
 use Rattle.store_api.specs.declared.pages.Pages.{Ghosts}
-use Rattle.entry_tree.proofs.ClaimsLemmas.{shape_none}
 use Rattle.script_engine.specs.Resting.{Settles, nothing}
 use Rattle.script_engine.specs.Serving.{MayCall, held_by}
 use Rattle.script_engine.specs.declared.engine.Engine.{Engine}
@@ -21,7 +20,7 @@ settles_still g engine may = record {
   exact = λ damage is. absurd (cc);
   going = λ damage is. absurd (cc);
   committed = λ damage is. absurd (cc);
-  shape = shape_none engine.tables.ext;
+  shape = refl;
   device = counts_fault_none (λ is. absurd (cc));
   output = λ is. absurd (cc);
   say_faults = refl;

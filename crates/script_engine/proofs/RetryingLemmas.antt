@@ -12,8 +12,9 @@ use Rattle.store_api.specs.RunsOverPages.{RunsOverPages}
 use Rattle.store_api.specs.declared.fault.Damage.{Damage}
 use Rattle.store_api.specs.declared.fault.StoreFault.{StoreFault}
 use Rattle.store_api.specs.declared.pages.Pages.{Ghosts}
+use Rattle.store_api.specs.declared.shape.Shape.{Shape}
 use Rattle.store_api.proofs.WorksLemmas.{steady_then}
-use Rattle.extent_map.specs.Owners.{AreRightNotes, IsSameShape}
+use Rattle.extent_map.specs.Owners.{AreRightNotes}
 use Rattle.extent_map.specs.declared.kind.Kind.{Kind}
 use Rattle.table_trees.specs.ToldPages.{PageList}
 use Rattle.mdc_sound.specs.SoundDatabase.{IsSoundDatabase, KeepAllRules}
@@ -33,7 +34,6 @@ use Rattle.script_engine.specs.declared.tables.Tables.{Tables}
 use Rattle.script_engine.proofs.CatalogLemmas.{served_of}
 use Rattle.script_engine.proofs.OpeningLemmas.{unopened_names}
 use Rattle.script_engine.proofs.ReadyTablesLemmas.{ready_of_sound}
-use Rattle.script_engine.proofs.ShapeLemmas.{keeps_along}
 use Rattle.script_engine.proofs.TryingLemmas.{stop_names}
 
 -- a catalog that was read, and put into the place of another
@@ -43,17 +43,18 @@ served_read catalog now is limits differ built = subst AreServed (sym is) (serve
 module _ {S : Type 0} (g : Ghosts S) (old read : S) (before tables : Tables) where
   -- sound pages have a catalog that can be read
   pub unbroken_read : {X : Type 0} (result : Result X EngineStop) (fault : StoreFault) → IsErrAnd result (λ e. e ≡ stop_of fault) → RunsOverPages g NoPage IsAnyTablePage (BreaksTablePages g old) old read (Some fault)
-      → (damage : Damage) → result ≡ Err (Damaged damage) → IsTrue (g.state old).is_told → IsSoundDatabase before.ext (g.state old).work → ⊥
+      → (damage : Damage) → result ≡ Err (Damaged damage) → IsTrue (g.state old).is_told → IsSoundDatabase before.shape (g.state old).work → ⊥
   unbroken_read (Ok x) fault is runs damage r = absurd is
-  unbroken_read (Err e) fault is runs damage r = unopened_names g before.ext fault e old read is runs damage (cc)
+  unbroken_read (Err e) fault is runs damage r = unopened_names g before.shape fault e old read is runs damage (cc)
 
   -- by which sound pages are ready
   pub ready_read : (catalog : Definitions) → RunsOverPages g NoPage IsAnyTablePage (BreaksTablePages g old) old read None → (g.state read).work ≡ (g.state old).work → tables.catalog ≡ catalog
-      → (IsTrue (g.state old).is_told → AreStored (g.state old).work catalog) → AreWithinLimits catalog → AllDefsDiffer catalog → are_built catalog ≡ true → IsSameShape before.ext tables.ext
-      → ((owners : List Kind) → AreRightNotes tables.ext owners) → AreForgotten tables.rooms → IsTrue (g.state old).is_told → IsSoundDatabase before.ext (g.state old).work → IsReady g read tables
+      → (IsTrue (g.state old).is_told → AreStored (g.state old).work catalog) → AreWithinLimits catalog → AllDefsDiffer catalog → are_built catalog ≡ true → tables.shape ≡ before.shape
+      → ((owners : List Kind) → AreRightNotes tables.shape tables.notes owners) → AreForgotten tables.rooms → IsTrue (g.state old).is_told → IsSoundDatabase before.shape (g.state old).work → IsReady g read tables
   ready_read catalog runs same is stored limits differ built shape notes rooms told sound =
       ready_of_sound g read tables sound.0 (served_read catalog tables.catalog is limits differ built) (subst IsTrue (sym runs.works.steady.is_told) told)
-      (subst (λ (pages : PageList). KeepAllRules tables.ext pages sound.0) (sym same) (keeps_along before.ext tables.ext (g.state old).work sound.0 shape sound.1))
+      (subst (λ (pages : PageList). KeepAllRules tables.shape pages sound.0) (sym same)
+      (subst (λ (of : Shape). KeepAllRules of (g.state old).work sound.0) (sym shape) sound.1))
       (subst (λ (pages : PageList). AreStored pages tables.catalog) (sym same) (subst (λ (defs : Definitions). AreStored (g.state old).work defs) (sym is) (stored told)))
       (notes sound.0.owners) rooms
 
@@ -68,7 +69,7 @@ tries_again g stmt first second met old mid new before tables now is tries anew 
       steady = steady_then tries.steady anew.steady;
       unmarked = anew.unmarked;
       served = anew.served;
-      shape = record { cap = anew.shape.cap ∙ tries.shape.cap; extent_pages = anew.shape.extent_pages ∙ tries.shape.extent_pages };
+      shape = anew.shape ∙ tries.shape;
       back = λ damage r.
           let back = anew.back damage r in
           record { leaves = left_twice was.leaves back.leaves; unmarked = back.unmarked };
@@ -86,7 +87,7 @@ tries_again g stmt first second met old mid new before tables now is tries anew 
 
     by_result : pages_of g mid ≡ pages_of g old → (IsReady g old before → ⊥) → (result : Result Outcome EngineStop) → TriesAnew g stmt result mid new tables now
         → IfOk result (λ outcome. IsReady g old before → DoesStep g old new before now stmt outcome ⊎ IsRefusedFull g old new before now stmt outcome)
-        × OnOk result (IsReady g old before → FetchesForQuery g before.ext old new before.catalog (bound_of before.catalog stmt)) × OnOk result (is_reading stmt ≡ true → pages_of g new ≡ pages_of g old)
+        × OnOk result (IsReady g old before → FetchesForQuery g before.shape old new before.catalog (bound_of before.catalog stmt)) × OnOk result (is_reading stmt ≡ true → pages_of g new ≡ pages_of g old)
     by_result pages unready (Ok outcome) again = (λ ready. absurd (unready ready), (λ ready. absurd (unready ready)), λ reads. again.reads reads ∙ pages)
     by_result pages unready (Err stop) again = (tt, tt, tt)
 

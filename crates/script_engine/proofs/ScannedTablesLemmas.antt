@@ -18,8 +18,8 @@ use Rattle.store_api.specs.Frame.{NoPage}
 use Rattle.store_api.specs.RunsOverPages.{RunsOverPages}
 use Rattle.store_api.specs.declared.fault.StoreFault.{StoreFault}
 use Rattle.store_api.specs.declared.pages.Pages.{Ghosts}
+use Rattle.store_api.specs.declared.shape.Shape.{Shape}
 use Rattle.store_api.proofs.RunsOverPagesLemmas.{runs_wider}
-use Rattle.extent_map.specs.declared.extents.Extents.{Extents}
 use Rattle.extent_map.specs.declared.kind.Kind.{Kind}
 use Rattle.block_map.specs.MapLines.{used_blocks}
 use Rattle.block_map.proofs.MapLinesLemmas.{contains_cases}
@@ -96,26 +96,26 @@ module _ {S : Type 0} (g : Ghosts S) (old new : S) (told : (g.state new).is_told
   ready_still tables ready = record {
     told = subst IsTrue (sym told) ready.told;
     view = ready.view;
-    sound = subst (λ pages. KeepAllRules tables.ext pages ready.view) (sym same) ready.sound;
+    sound = subst (λ pages. KeepAllRules tables.shape pages ready.view) (sym same) ready.sound;
     stored = subst (λ pages. AreStored pages tables.catalog) (sym same) ready.stored;
     notes = ready.notes;
     rooms = λ table def at. let was = ready.rooms table def at in (
       was.0,
       record {
-        stands = stands_same tables.ext old new def ready.view.owners was.0 told same was.1.stands;
+        stands = stands_same tables.shape old new def ready.view.owners was.0 told same was.1.stands;
         notes = was.1.notes;
-        rooms = subst (λ pages. AreRightRooms def (rooms_at tables.rooms table) (table_spots tables.ext pages def ready.view.owners was.0.map)) (sym same) was.1.rooms;
+        rooms = subst (λ pages. AreRightRooms def (rooms_at tables.rooms table) (table_spots tables.shape pages def ready.view.owners was.0.map)) (sym same) was.1.rooms;
       },
     );
   }
 
   -- and the same rows are found
-  pub found_still : (ext : Extents) (def : TableDef) (pred : Option Pred) (hits : List Hit) (owners : List Kind) (forests : TableForests)
-      → ((owners : List Kind) (forests : TableForests) → StandsTable g ext old def owners forests → FindsRows g ext old def pred hits forests) → StandsTable g ext new def owners forests
-      → FindsRows g ext new def pred hits forests
-  found_still ext def pred hits owners forests finds st =
-      let found = finds owners forests (stands_same ext new old def owners forests (sym told) (sym same) st) in record {
-        found = subst (λ pages. IsPermutation (filter (λ placed. qualifies pred placed.row.values) (rows_in_table ext pages def forests.map)) (map placed_row hits)) (sym same) found.found;
+  pub found_still : (shape : Shape) (def : TableDef) (pred : Option Pred) (hits : List Hit) (owners : List Kind) (forests : TableForests)
+      → ((owners : List Kind) (forests : TableForests) → StandsTable g shape old def owners forests → FindsRows g shape old def pred hits forests) → StandsTable g shape new def owners forests
+      → FindsRows g shape new def pred hits forests
+  found_still shape def pred hits owners forests finds st =
+      let found = finds owners forests (stands_same shape new old def owners forests (sym told) (sym same) st) in record {
+        found = subst (λ pages. IsPermutation (filter (λ placed. qualifies pred placed.row.values) (rows_in_table shape pages def forests.map)) (map placed_row hits)) (sym same) found.found;
         in_order = found.in_order;
       }
 
@@ -130,49 +130,49 @@ pub record HasHits (db : Database) (place : ℕ) (def : TableDef) (pred : Option
   pub are : map (λ hit. hit.row) hits ≡ filter (λ row. qualifies pred row.values) table.rows
 
 -- a plain table has the rows that a query takes: they are those that qualify
-pub record HasQueryRows {S : Type 0} (g : Ghosts S) (ext : Extents) (s : S) (def : TableDef) (forests : TableForests) (db : Database) (place : ℕ) (pred : Option Pred) : Type 0 where
+pub record HasQueryRows {S : Type 0} (g : Ghosts S) (shape : Shape) (s : S) (def : TableDef) (forests : TableForests) (db : Database) (place : ℕ) (pred : Option Pred) : Type 0 where
   pub table : PlainTable
   pub at : table_at db place ≡ Some table
   pub def_is : table.def ≡ rootless def
-  pub rows : AreQueryRows g ext s def pred forests (filter (λ row. qualifies pred row.values) table.rows)
+  pub rows : AreQueryRows g shape s def pred forests (filter (λ row. qualifies pred row.values) table.rows)
 
-module _ {S : Type 0} (g : Ghosts S) (ext : Extents) (s : S) (def : TableDef) (owners : List Kind) (forests : TableForests) (st : StandsTable g ext s def owners forests) where
+module _ {S : Type 0} (g : Ghosts S) (shape : Shape) (s : S) (def : TableDef) (owners : List Kind) (forests : TableForests) (st : StandsTable g shape s def owners forests) where
   -- its rows
   abbrev rows_here : List PlacedRow
-  rows_here = rows_in_table ext (pages_of g s) def forests.map
+  rows_here = rows_in_table shape (pages_of g s) def forests.map
 
   row_fits : (placed : PlacedRow) → Contains rows_here placed → RowFits def placed.row
   row_fits placed there =
-      let of = flat_contains (rows_in_block ext (pages_of g s) def) (used_blocks forests.map) placed there in
-      each_of (λ (p : PlacedRow). RowFits def p.row) (rows_in_block ext (pages_of g s) def of.0) placed
-      (each_of (AreBlockRowsSound ext (pages_of g s) def) (used_blocks forests.map) of.0 st.rows of.1).rows of.2
+      let of = flat_contains (rows_in_block shape (pages_of g s) def) (used_blocks forests.map) placed there in
+      each_of (λ (p : PlacedRow). RowFits def p.row) (rows_in_block shape (pages_of g s) def of.0) placed
+      (each_of (AreBlockRowsSound shape (pages_of g s) def) (used_blocks forests.map) of.0 st.rows of.1).rows of.2
 
   -- the plain table in its place
-  plain_here : (place : ℕ) (table : PlainTable) → DefinesTable (pages_of g s) place def → HoldsTable ext (pages_of g s) place table → IsPlainTable def rows_here table
+  plain_here : (place : ℕ) (table : PlainTable) → DefinesTable (pages_of g s) place def → HoldsTable shape (pages_of g s) place table → IsPlainTable def rows_here table
   plain_here place table defines holds =
       let pages = pages_of g s in
       let same : holds.def ≡ def = one_definition place holds.def def (table_page_at pages place) holds.defines defines in
       let has : HasTree pages (map_place def) holds.map_tree = subst (λ (d : TableDef). HasTree pages (map_place d) holds.map_tree) same holds.has_map in
       let tree : holds.map_tree ≡ forests.map = one_tree_at pages (map_place def) holds.map_tree forests.map has (tree_of_told g s st.told (map_place def) forests.map st.trees.held.0) in
-      let rows : rows_in_table ext pages holds.def holds.map_tree ≡ rows_here =
-      ap (λ (d : TableDef). rows_in_table ext pages d holds.map_tree) same ∙ ap (λ (t : Forest). rows_in_table ext pages def t) tree in record {
+      let rows : rows_in_table shape pages holds.def holds.map_tree ≡ rows_here =
+      ap (λ (d : TableDef). rows_in_table shape pages d holds.map_tree) same ∙ ap (λ (t : Forest). rows_in_table shape pages def t) tree in record {
         def_is = holds.def_is ∙ ap rootless same;
         same_rows = subst (λ (all : List PlacedRow). IsPermutation (map (λ (p : PlacedRow). p.row) all) table.rows) rows holds.same_rows;
         rising = holds.rising;
       }
 
   -- the plain table, whichever database the pages stand for
-  plain_of : (defs : Definitions) (place : ℕ) (db : Database) (table : PlainTable) → AreStored (pages_of g s) defs → def_at defs place ≡ Some def → PagesStandFor ext (pages_of g s) db
+  plain_of : (defs : Definitions) (place : ℕ) (db : Database) (table : PlainTable) → AreStored (pages_of g s) defs → def_at defs place ≡ Some def → PagesStandFor shape (pages_of g s) db
       → table_at db place ≡ Some table → IsPlainTable def rows_here table
   plain_of defs place db table stored at stands is =
       let here : 0 + place ≡ place = omega arith in
-      let holds : HoldsTable ext (pages_of g s) place table =
-      subst (λ u. HoldsTable ext (pages_of g s) u table) here (range_at (HoldsPlace ext (pages_of g s)) 0 16 db place (Some table) stands (table_there db place table is)).1 in
+      let holds : HoldsTable shape (pages_of g s) place table =
+      subst (λ u. HoldsTable shape (pages_of g s) u table) here (range_at (HoldsPlace shape (pages_of g s)) 0 16 db place (Some table) stands (table_there db place table is)).1 in
       plain_here place table (stored_at (pages_of g s) defs place def stored at) holds
 
   -- the rows that a query takes of it are those of the plain table that qualify
   pub query_rows_of : (pred : Option Pred) (defs : Definitions) (place : ℕ) (db : Database) (table : PlainTable) → AreStored (pages_of g s) defs → def_at defs place ≡ Some def
-      → PagesStandFor ext (pages_of g s) db → table_at db place ≡ Some table → HasQueryRows g ext s def forests db place pred
+      → PagesStandFor shape (pages_of g s) db → table_at db place ≡ Some table → HasQueryRows g shape s def forests db place pred
   query_rows_of pred defs place db table stored at stands is =
       let plain = plain_of defs place db table stored at stands is in
       let q : Row → Bool = λ row. qualifies pred row.values in
@@ -186,7 +186,7 @@ module _ {S : Type 0} (g : Ghosts S) (ext : Extents) (s : S) (def : TableDef) (o
         };
       }
 
-  module _ (pred : Option Pred) (hits : List Hit) (found : FindsRows g ext s def pred hits forests) where
+  module _ (pred : Option Pred) (hits : List Hit) (found : FindsRows g shape s def pred hits forests) where
     hit_there : (placed : PlacedRow) → Contains (map placed_row hits) placed → Contains rows_here placed × (qualifies pred placed.row.values ≡ true)
     hit_there placed there =
         let q : PlacedRow → Bool = λ p. qualifies pred p.row.values in
@@ -200,30 +200,30 @@ module _ {S : Type 0} (g : Ghosts S) (ext : Extents) (s : S) (def : TableDef) (o
     pub hits_qualify : AllByRecursion (λ hit. qualifies pred hit.row.values ≡ true) hits
     hits_qualify = each_in (λ (hit : Hit). qualifies pred hit.row.values ≡ true) hits (λ hit there. (hit_there (placed_row hit) (in_map placed_row hits hit there)).1)
 
-    module _ (between : IsSoundBetweenChanges ext def (pages_of g s)) where
+    module _ (between : IsSoundBetweenChanges shape def (pages_of g s)) where
       rises : AllPairs (λ a b. a.row.number < b.row.number) hits
-      rises = found_rows_rise g ext s def pred hits forests found (numbers_here g ext s def owners forests between st)
+      rises = found_rows_rise g shape s def pred hits forests found (numbers_here g shape s def owners forests between st)
 
       -- they are the qualifying rows of its spots, by rising number
-      pub qualifying : AreQualifying (spots_of g ext s def owners forests) pred (map placed_row hits)
+      pub qualifying : AreQualifying (spots_of g shape s def owners forests) pred (map placed_row hits)
       qualifying =
           let q : PlacedRow → Bool = λ p. qualifies pred p.row.values in
-          let spots : List PlacedRow = rows_from_spot 0 (spots_of g ext s def owners forests) in record {
+          let spots : List PlacedRow = rows_from_spot 0 (spots_of g shape s def owners forests) in record {
             are = IsPermutation-trans (filter q spots) (filter q rows_here) (map placed_row hits)
-                (IsPermutation-sym (filter q rows_here) (filter q spots) (perm_filter q rows_here spots (rows_of_standing g ext s def owners forests st))) found.found;
+                (IsPermutation-sym (filter q rows_here) (filter q spots) (perm_filter q rows_here spots (rows_of_standing g shape s def owners forests st))) found.found;
             rising = placed_rise hits rises;
           }
 
       -- they lie in their places, by rising number
-      pub these_rows : HasTheseRows g ext s def (map placed_row hits) owners forests
+      pub these_rows : HasTheseRows g shape s def (map placed_row hits) owners forests
       these_rows = record {
-        each = each_in (λ (placed : PlacedRow). HasThisRow g ext s def placed.rid placed.row owners forests) (map placed_row hits)
-            (λ placed there. let lies = row_lies g ext s def owners forests st placed (hit_there placed there).0 in record { slots = lies.0; lies = lies.1 });
+        each = each_in (λ (placed : PlacedRow). HasThisRow g shape s def placed.rid placed.row owners forests) (map placed_row hits)
+            (λ placed there. let lies = row_lies g shape s def owners forests st placed (hit_there placed there).0 in record { slots = lies.0; lies = lies.1 });
         rising = placed_rise hits rises;
       }
 
       -- and they are those of the plain table, whichever database the pages stand for
-      pub hits_of : (defs : Definitions) (place : ℕ) (db : Database) (table : PlainTable) → AreStored (pages_of g s) defs → def_at defs place ≡ Some def → PagesStandFor ext (pages_of g s) db
+      pub hits_of : (defs : Definitions) (place : ℕ) (db : Database) (table : PlainTable) → AreStored (pages_of g s) defs → def_at defs place ≡ Some def → PagesStandFor shape (pages_of g s) db
           → table_at db place ≡ Some table → HasHits db place def pred hits
       hits_of defs place db table stored at stands is =
           let plain = plain_of defs place db table stored at stands is in record {
@@ -231,7 +231,7 @@ module _ {S : Type 0} (g : Ghosts S) (ext : Extents) (s : S) (def : TableDef) (o
             at = is;
             def_is = plain.def_is;
             rising = plain.rising;
-            are = found_hits g ext s def pred hits forests found table.rows plain.same_rows plain.rising rises;
+            are = found_hits g shape s def pred hits forests found table.rows plain.same_rows plain.rising rises;
           }
 
 -- ---- ready pages
@@ -242,32 +242,32 @@ is_defined None def P at is = absurd is
 is_defined (Some other) def P at is = subst P (same_Some other def at) is
 
 -- a table of ready pages stands
-pub record StandsReady {S : Type 0} (g : Ghosts S) (ext : Extents) (s : S) (def : TableDef) : Type 0 where
+pub record StandsReady {S : Type 0} (g : Ghosts S) (shape : Shape) (s : S) (def : TableDef) : Type 0 where
   pub owners : List Kind
   pub forests : TableForests
-  pub stands : StandsTable g ext s def owners forests
-  pub between : IsSoundBetweenChanges ext def (pages_of g s)
+  pub stands : StandsTable g shape s def owners forests
+  pub between : IsSoundBetweenChanges shape def (pages_of g s)
 
 pub stands_ready : {S : Type 0} (g : Ghosts S) (s : S) (tables : Tables) (place : ℕ) (def : TableDef) → AreServed tables.catalog → IsReady g s tables → def_at tables.catalog place ≡ Some def
-    → StandsReady g tables.ext s def
+    → StandsReady g tables.shape s def
 stands_ready g s tables place def served ready at =
     let is = served_def tables.catalog place def served at in
     let defines : DefinesTable (pages_of g s) def.number def = subst (λ t. DefinesTable (pages_of g s) t def) (sym is.number) (stored_at (pages_of g s) tables.catalog place def ready.stored at) in
-    let between = between_of_rules tables.ext (pages_of g s) ready.view def ready.sound (omega (arith, is.number, is.below)) defines in record {
+    let between = between_of_rules tables.shape (pages_of g s) ready.view def ready.sound (omega (arith, is.number, is.below)) defines in record {
       owners = between.sound.view.owners;
       forests = forests_of between.sound.table;
-      stands = stands_of_sound g tables.ext s def between.sound ready.told;
+      stands = stands_of_sound g tables.shape s def between.sound ready.told;
       between = between;
     }
 
 -- a query of it meets damage where they weren't
 pub runs_query : {S : Type 0} (g : Ghosts S) (old new : S) (tables : Tables) (select : BoundSelect) (def : TableDef) {fault : Option StoreFault} → AreServed tables.catalog
-    → def_at tables.catalog select.table ≡ Some def → RunsOverPages g NoPage (IsQueryPage g tables.ext old def select) (BreaksTable g tables.ext old def) old new fault → RunsOverPages g NoPage AnyPage (BreaksDatabase g old tables) old new fault
+    → def_at tables.catalog select.table ≡ Some def → RunsOverPages g NoPage (IsQueryPage g tables.shape old def select) (BreaksTable g tables.shape old def) old new fault → RunsOverPages g NoPage AnyPage (BreaksDatabase g old tables) old new fault
 runs_query g old new tables select def served at run =
     runs_wider run (λ p there none. none) (λ p of. tt) (λ damage breaks ready. let st = stands_ready g old tables select.table def served ready at in breaks.broken st.owners st.forests st.stands)
 
 -- and so does a scan
 pub runs_scan : {S : Type 0} (g : Ghosts S) (old new : S) (tables : Tables) (place : ℕ) (def : TableDef) {pred : Option Pred} {fault : Option StoreFault} → AreServed tables.catalog
-    → def_at tables.catalog place ≡ Some def → RunsOverPages g NoPage (IsScannedPage g tables.ext old def pred) (BreaksTable g tables.ext old def) old new fault → RunsOverPages g NoPage AnyPage (BreaksDatabase g old tables) old new fault
+    → def_at tables.catalog place ≡ Some def → RunsOverPages g NoPage (IsScannedPage g tables.shape old def pred) (BreaksTable g tables.shape old def) old new fault → RunsOverPages g NoPage AnyPage (BreaksDatabase g old tables) old new fault
 runs_scan g old new tables place def served at run =
     runs_wider run (λ p there none. none) (λ p of. tt) (λ damage breaks ready. let st = stands_ready g old tables place def served ready at in breaks.broken st.owners st.forests st.stands)

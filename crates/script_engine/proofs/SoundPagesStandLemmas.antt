@@ -7,7 +7,7 @@ use Rattle.std.proofs.lemmas.List.Elements.{Contains-get_or}
 use Rattle.std.proofs.lemmas.List.Sorted.{Contains-permutation, IsPermutation-append_comm, IsPermutation-append_left, IsPermutation-cons, IsPermutation-refl, IsPermutation-sym, IsPermutation-trans}
 use Rattle.mdc_ast.specs.declared.row.Row.{Row}
 use Rattle.mdc_ast.specs.Database.{Database, PlainTable}
-use Rattle.extent_map.specs.declared.extents.Extents.{Extents}
+use Rattle.store_api.specs.declared.shape.Shape.{Shape}
 use Rattle.extent_map.specs.declared.kind.Kind.{Kind}
 use Rattle.table_trees.specs.TableTrees.{tree_places}
 use Rattle.table_trees.specs.ToldPages.{HasTree, PageList}
@@ -95,15 +95,15 @@ put_in_order (first ∷ placed) differ =
 -- ---- a place
 
 -- the plain table, or none, that stands in a place
-record StandsThere (ext : Extents) (pages : PageList) (t : ℕ) : Type 0 where
+record StandsThere (shape : Shape) (pages : PageList) (t : ℕ) : Type 0 where
   pub table : Option PlainTable
-  pub holds : HoldsPlace ext pages t table
+  pub holds : HoldsPlace shape pages t table
 
 -- a sound table page stands for its definition and its rows
-table_stands : (ext : Extents) (pages : PageList) (t : ℕ) (table : TableView) → DefinesTable pages t table.def → AllZip (HasTree pages) (tree_places table.def) (trees_of_table table)
-    → AreRowNumbersSound table.def (rows_in_table ext pages table.def table.map) → StandsThere ext pages t
-table_stands ext pages t table defines trees numbers =
-    let rows : InOrder (rows_alone (rows_in_table ext pages table.def table.map)) = put_in_order (rows_in_table ext pages table.def table.map) numbers.differ in
+table_stands : (shape : Shape) (pages : PageList) (t : ℕ) (table : TableView) → DefinesTable pages t table.def → AllZip (HasTree pages) (tree_places table.def) (trees_of_table table)
+    → AreRowNumbersSound table.def (rows_in_table shape pages table.def table.map) → StandsThere shape pages t
+table_stands shape pages t table defines trees numbers =
+    let rows : InOrder (rows_alone (rows_in_table shape pages table.def table.map)) = put_in_order (rows_in_table shape pages table.def table.map) numbers.differ in
     record {
       table = Some (record { def = rootless table.def; rows = rows.ordered });
       holds = record {
@@ -120,22 +120,22 @@ table_stands ext pages t table defines trees numbers =
 -- ---- all places
 
 -- places that are sound, with the trees and the row numbers of their tables, stand for plain tables
-places_stand : (ext : Extents) (pages : PageList) (owners : List Kind) (ts : List ℕ) (places : List (Option TableView)) → AllZip (IsTablePlaceSound ext pages owners) ts places
+places_stand : (shape : Shape) (pages : PageList) (owners : List Kind) (ts : List ℕ) (places : List (Option TableView)) → AllZip (IsTablePlaceSound shape pages owners) ts places
     → AllByRecursion (λ table. AllZip (HasTree pages) (tree_places table.def) (trees_of_table table)) (tables_there places)
-    → AllByRecursion (λ table. AreRowNumbersSound table.def (rows_in_table ext pages table.def table.map)) (tables_there places)
-    → (db : Database) × AllZip (HoldsPlace ext pages) ts db
-places_stand ext pages owners [] [] sound trees numbers = ([], tt)
-places_stand ext pages owners [] (place ∷ places) sound trees numbers = absurd sound
-places_stand ext pages owners (t ∷ ts) [] sound trees numbers = absurd sound
-places_stand ext pages owners (t ∷ ts) (None ∷ places) sound trees numbers =
-    let rest = places_stand ext pages owners ts places sound.1 trees numbers in
+    → AllByRecursion (λ table. AreRowNumbersSound table.def (rows_in_table shape pages table.def table.map)) (tables_there places)
+    → (db : Database) × AllZip (HoldsPlace shape pages) ts db
+places_stand shape pages owners [] [] sound trees numbers = ([], tt)
+places_stand shape pages owners [] (place ∷ places) sound trees numbers = absurd sound
+places_stand shape pages owners (t ∷ ts) [] sound trees numbers = absurd sound
+places_stand shape pages owners (t ∷ ts) (None ∷ places) sound trees numbers =
+    let rest = places_stand shape pages owners ts places sound.1 trees numbers in
     (None ∷ rest.0, (sound.0, rest.1))
-places_stand ext pages owners (t ∷ ts) (Some table ∷ places) sound trees numbers =
-    let first : StandsThere ext pages t = table_stands ext pages t table sound.0.0 trees.0 numbers.0 in
-    let rest = places_stand ext pages owners ts places sound.1 trees.1 numbers.1 in
+places_stand shape pages owners (t ∷ ts) (Some table ∷ places) sound trees numbers =
+    let first : StandsThere shape pages t = table_stands shape pages t table sound.0.0 trees.0 numbers.0 in
+    let rest = places_stand shape pages owners ts places sound.1 trees.1 numbers.1 in
     (first.table ∷ rest.0, (first.holds, rest.1))
 
 -- sound pages stand for a database
-pub sound_pages_stand : (ext : Extents) (pages : PageList) → IsSoundDatabase ext pages → (db : Database) × PagesStandFor ext pages db
-sound_pages_stand ext pages (view, keeps) =
-    places_stand ext pages view.owners (range_with_len 0 16) view.places keeps.first.rule3.each keeps.first.rule4 keeps.rule12.numbers
+pub sound_pages_stand : (shape : Shape) (pages : PageList) → IsSoundDatabase shape pages → (db : Database) × PagesStandFor shape pages db
+sound_pages_stand shape pages (view, keeps) =
+    places_stand shape pages view.owners (range_with_len 0 16) view.places keeps.first.rule3.each keeps.first.rule4 keeps.rule12.numbers

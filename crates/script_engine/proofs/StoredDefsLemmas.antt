@@ -1,6 +1,7 @@
 -- Statements on the definitions of a catalog, and on those of the plain database that its pages stand for, which have no roots.
 use Rattle.std.proofs.Common.{◌≡◌, ◌+◌, ℕ, zero, suc, List, [], ◌∷◌, ◌++◌, ◌∙◌, refl, sym, ap, subst, map}
 use Rattle.std.specs.Prelude.{◌&&◌, Option, Some, None, cond, flat_map, is_none, is_some, option_and_then, option_map, true, false, if◌then◌else◌}
+use Rattle.store_api.specs.declared.shape.Shape.{Shape}
 use Rattle.std.specs.List.{list_all, AllZip, position_from, range_with_len}
 use Rattle.mdc_ast.specs.declared.bound.Bound.{Bound}
 use Rattle.mdc_ast.specs.declared.definition.ColumnDef.{ColumnDef}
@@ -22,7 +23,6 @@ use Rattle.statement_meaning.specs.Step.{Refused, faults, step, step_by}
 use Rattle.statement_meaning.specs.Built.{are_built, is_built_step, is_built_place, is_empty}
 use Rattle.statement_meaning.proofs.DatabaseLemmas.{def_at-defs_of, def_of}
 use Rattle.mdc_ast.proofs.TestsLemmas.{some_is}
-use Rattle.extent_map.specs.declared.extents.Extents.{Extents}
 use Rattle.table_page.proofs.TablePageLemmas.{no_blank_table, one_definition}
 use Rattle.table_page.specs.TablePage.{IsTablePageOf}
 use Rattle.table_trees.specs.ToldPages.{PageList}
@@ -38,26 +38,26 @@ without_roots defs = map (option_map rootless) defs
 
 -- ---- place by place
 
-one_place : (ext : Extents) (pages : PageList) (t : ℕ) (def : Option TableDef) (table : Option PlainTable) → IsStoredPlace pages t def → HoldsPlace ext pages t table → def_of table ≡ option_map rootless def
-one_place ext pages t None None stored holds = refl
-one_place ext pages t (Some def) None stored holds = absurd (no_blank_table t def (subst (IsTablePageOf t def) holds stored))
-one_place ext pages t None (Some table) stored holds = absurd (no_blank_table t holds.def (subst (IsTablePageOf t holds.def) stored holds.defines))
-one_place ext pages t (Some def) (Some table) stored holds =
+one_place : (shape : Shape) (pages : PageList) (t : ℕ) (def : Option TableDef) (table : Option PlainTable) → IsStoredPlace pages t def → HoldsPlace shape pages t table → def_of table ≡ option_map rootless def
+one_place shape pages t None None stored holds = refl
+one_place shape pages t (Some def) None stored holds = absurd (no_blank_table t def (subst (IsTablePageOf t def) holds stored))
+one_place shape pages t None (Some table) stored holds = absurd (no_blank_table t holds.def (subst (IsTablePageOf t holds.def) stored holds.defines))
+one_place shape pages t (Some def) (Some table) stored holds =
     ap Some (holds.def_is ∙ ap rootless (one_definition t holds.def def (table_page_at pages t) holds.defines stored))
 
-each_place : (ext : Extents) (pages : PageList) (places : List ℕ) (defs : Definitions) (db : Database) → AllZip (IsStoredPlace pages) places defs → AllZip (HoldsPlace ext pages) places db
+each_place : (shape : Shape) (pages : PageList) (places : List ℕ) (defs : Definitions) (db : Database) → AllZip (IsStoredPlace pages) places defs → AllZip (HoldsPlace shape pages) places db
     → defs_of db ≡ without_roots defs
-each_place ext pages [] [] [] stored stands = refl
-each_place ext pages [] [] (table ∷ db) stored stands = absurd stands
-each_place ext pages [] (def ∷ defs) db stored stands = absurd stored
-each_place ext pages (t ∷ places) [] db stored stands = absurd stored
-each_place ext pages (t ∷ places) (def ∷ defs) [] stored stands = absurd stands
-each_place ext pages (t ∷ places) (def ∷ defs) (table ∷ db) stored stands =
-    ap (λ first. first ∷ defs_of db) (one_place ext pages t def table stored.0 stands.0)
-    ∙ ap (λ rest. option_map rootless def ∷ rest) (each_place ext pages places defs db stored.1 stands.1)
+each_place shape pages [] [] [] stored stands = refl
+each_place shape pages [] [] (table ∷ db) stored stands = absurd stands
+each_place shape pages [] (def ∷ defs) db stored stands = absurd stored
+each_place shape pages (t ∷ places) [] db stored stands = absurd stored
+each_place shape pages (t ∷ places) (def ∷ defs) [] stored stands = absurd stands
+each_place shape pages (t ∷ places) (def ∷ defs) (table ∷ db) stored stands =
+    ap (λ first. first ∷ defs_of db) (one_place shape pages t def table stored.0 stands.0)
+    ∙ ap (λ rest. option_map rootless def ∷ rest) (each_place shape pages places defs db stored.1 stands.1)
 
-pub stored_defs : (ext : Extents) (pages : PageList) (defs : Definitions) (db : Database) → AreStored pages defs → PagesStandFor ext pages db → defs_of db ≡ without_roots defs
-stored_defs ext pages defs db stored stands = each_place ext pages (range_with_len 0 16) defs db stored stands
+pub stored_defs : (shape : Shape) (pages : PageList) (defs : Definitions) (db : Database) → AreStored pages defs → PagesStandFor shape pages db → defs_of db ≡ without_roots defs
+stored_defs shape pages defs db stored stands = each_place shape pages (range_with_len 0 16) defs db stored stands
 
 -- ---- looking up without roots
 

@@ -22,9 +22,10 @@ use Rattle.store_api.specs.declared.fault.Damage.{Damage}
 use Rattle.store_api.specs.declared.fault.StoreFault.{StoreFault}
 use Rattle.store_api.specs.declared.fault.StoreFault.TheVariants as store
 use Rattle.store_api.specs.declared.pages.Pages.{Ghosts}
+use Rattle.store_api.specs.declared.shape.Shape.{Shape}
 use Rattle.store_api.proofs.WorksLemmas.{steady_keep, steady_mark, steady_then, steady_undo}
 use Rattle.extent_map.specs.Damages.{IfFull, store_part_of}
-use Rattle.extent_map.specs.Owners.{AreRightNotes, IsSameShape}
+use Rattle.extent_map.specs.Owners.{AreRightNotes}
 use Rattle.extent_map.specs.declared.fault.SpaceFault.{SpaceFault}
 use Rattle.extent_map.specs.declared.fault.SpaceFault.TheVariants as space
 use Rattle.extent_map.specs.declared.kind.Kind.{Kind}
@@ -47,7 +48,6 @@ use Rattle.script_engine.specs.declared.tables.Tables.{Tables}
 use Rattle.script_engine.proofs.FetchesForQueryLemmas.{fetches_marked}
 use Rattle.script_engine.proofs.ReadyTablesLemmas.{ready_of_sound}
 use Rattle.script_engine.proofs.SameWorkLemmas.{ready_same}
-use Rattle.script_engine.proofs.ShapeLemmas.{keeps_along}
 
 -- which stops a call on a database ends with
 pub stop_device : (e : StoreFault) → stop_of e ≡ Device → e ≡ store.Device
@@ -74,10 +74,10 @@ module _ {S : Type 0} (g : Ghosts S) where
   pub does_marked : (old marked new : S) (before now : Tables) (stmt : Stmt) (outcome : Outcome) → pages_of g marked ≡ pages_of g old → DoesStep g marked new before now stmt outcome → DoesStep g old new before now stmt outcome
   does_marked old marked new before now stmt outcome same does = record {
     ready = does.ready;
-    stands = subst (λ (pages : PageList). (db : _) → PagesStandFor before.ext pages db → StandsAfter now.ext (pages_of g new) (step db stmt) outcome) same does.stands;
+    stands = subst (λ (pages : PageList). (db : _) → PagesStandFor before.shape pages db → StandsAfter now.shape (pages_of g new) (step db stmt) outcome) same does.stands;
     places = subst (λ (pages : PageList). (reply : _) → outcome ≡ said.Done reply → (place : ℕ) (def : TableDef) → changed_place (bound_of before.catalog stmt) ≡ Some place → def_at before.catalog place ≡ Some def
-        → PlacesOnPages before.ext now.ext pages (pages_of g new) def (bound_of before.catalog stmt)) same does.places;
-    others = subst (λ (pages : PageList). KeepsOthers before.ext now.ext pages (pages_of g new) before.catalog now.catalog (touched_place (bound_of before.catalog stmt))) same does.others;
+        → PlacesOnPages before.shape pages (pages_of g new) def (bound_of before.catalog stmt)) same does.places;
+    others = subst (λ (pages : PageList). KeepsOthers before.shape pages (pages_of g new) before.catalog now.catalog (touched_place (bound_of before.catalog stmt))) same does.others;
   }
 
   -- and a store that is kept afterwards is what it was
@@ -85,10 +85,10 @@ module _ {S : Type 0} (g : Ghosts S) where
       → DoesStep g old mid before now stmt outcome → DoesStep g old new before now stmt outcome
   does_kept old mid new before now stmt outcome told same does = record {
     ready = ready_same g mid new now told same does.ready;
-    stands = subst (λ (pages : PageList). (db : _) → PagesStandFor before.ext (pages_of g old) db → StandsAfter now.ext pages (step db stmt) outcome) (sym same) does.stands;
+    stands = subst (λ (pages : PageList). (db : _) → PagesStandFor before.shape (pages_of g old) db → StandsAfter now.shape pages (step db stmt) outcome) (sym same) does.stands;
     places = subst (λ (pages : PageList). (reply : _) → outcome ≡ said.Done reply → (place : ℕ) (def : TableDef) → changed_place (bound_of before.catalog stmt) ≡ Some place → def_at before.catalog place ≡ Some def
-        → PlacesOnPages before.ext now.ext (pages_of g old) pages def (bound_of before.catalog stmt)) (sym same) does.places;
-    others = subst (λ (pages : PageList). KeepsOthers before.ext now.ext (pages_of g old) pages before.catalog now.catalog (touched_place (bound_of before.catalog stmt))) (sym same) does.others;
+        → PlacesOnPages before.shape (pages_of g old) pages def (bound_of before.catalog stmt)) (sym same) does.places;
+    others = subst (λ (pages : PageList). KeepsOthers before.shape (pages_of g old) pages before.catalog now.catalog (touched_place (bound_of before.catalog stmt))) (sym same) does.others;
   }
 
   -- ---- a mark, and what comes then
@@ -108,15 +108,15 @@ module _ {S : Type 0} (g : Ghosts S) where
       run_so_far : Steady g old mid
       run_so_far = steady_then begun runs.works.steady
 
-      fetched_so_far : (new : S) → (g.state new).fetched ≡ (g.state mid).fetched → FetchesForQuery g before.ext marked mid before.catalog (bound_of before.catalog stmt)
-          → FetchesForQuery g before.ext old new before.catalog (bound_of before.catalog stmt)
+      fetched_so_far : (new : S) → (g.state new).fetched ≡ (g.state mid).fetched → FetchesForQuery g before.shape marked mid before.catalog (bound_of before.catalog stmt)
+          → FetchesForQuery g before.shape old new before.catalog (bound_of before.catalog stmt)
       fetched_so_far new same fetches =
-          fetches_marked g before.ext before.catalog old marked begun.is_told same_work mid new (bound_of before.catalog stmt) (ap (λ s. s.fetched) marks) same fetches
+          fetches_marked g before.shape before.catalog old marked begun.is_told same_work mid new (bound_of before.catalog stmt) (ap (λ s. s.fetched) marks) same fetches
 
       -- a fault of the store: all is as it was
       pub try_stops : (e : StoreFault) (stop : EngineStop) (new : S) (last : Tables) → result ≡ Err (space.Store e) → stop ≡ stop_of e → Undoes (g.state mid) (g.state new)
           → g.disk_faults new ≡ g.disk_faults mid → g.say_faults new ≡ g.say_faults mid → OverTime g.clock g.left (OnlyBase (g.state mid)) mid new
-          → now.catalog ≡ before.catalog → last.catalog ≡ now.catalog → IsSameShape now.ext last.ext → TriesStep g stmt (Err stop) old new before last
+          → now.catalog ≡ before.catalog → last.catalog ≡ now.catalog → last.shape ≡ now.shape → TriesStep g stmt (Err stop) old new before last
       try_stops e stop new last is names undone count_undone say_undone time_undone catalog forgot shape =
           let fault : store_fault_in store_part_of result ≡ Some e = ap (store_fault_in store_part_of) is in
           let ending : Steady g mid new = steady_undo undone count_undone say_undone time_undone in
@@ -125,7 +125,7 @@ module _ {S : Type 0} (g : Ghosts S) where
             steady = steady_then run_so_far ending;
             unmarked = tt;
             served = tt;
-            shape = record { cap = shape.cap ∙ keeps.shape.cap; extent_pages = shape.extent_pages ∙ keeps.shape.extent_pages };
+            shape = shape ∙ keeps.shape;
             back = λ damage r. record { leaves = record { pages = work; catalog = forgot ∙ catalog }; unmarked = ap (λ s. s.marked) undone };
             does = tt;
             refused = λ refusal r. absurd (cc);
@@ -141,7 +141,7 @@ module _ {S : Type 0} (g : Ghosts S) where
       pub try_kept : (outcome : Outcome) (new : S) → result ≡ Ok outcome → Keeps (g.state mid) (g.state new) → g.disk_faults new ≡ g.disk_faults mid → g.say_faults new ≡ g.say_faults mid
           → OverTime g.clock g.left (OnlyBase (g.state mid)) mid new → (IsReady g marked before → DoesStep g marked mid before now stmt outcome)
           → ((refusal : Refusal) → outcome ≡ said.Refused refusal → LeavesAll g marked mid before now) → (is_reading stmt ≡ true → pages_of g mid ≡ pages_of g marked)
-          → FetchesForQuery g before.ext marked mid before.catalog (bound_of before.catalog stmt) → TriesStep g stmt (Ok outcome) old new before now
+          → FetchesForQuery g before.shape marked mid before.catalog (bound_of before.catalog stmt) → TriesStep g stmt (Ok outcome) old new before now
       try_kept outcome new is kept count_kept say_kept time_kept does leaves reads fetches =
           let ending : Steady g mid new = steady_keep (Ok tt) kept tt (omega (arith, count_kept)) say_kept time_kept in
           let work : pages_of g new ≡ pages_of g mid = ap (λ s. s.work) kept in
@@ -167,19 +167,19 @@ module _ {S : Type 0} (g : Ghosts S) where
       -- it runs full: all is as it was
       pub try_full : (cap : ℕ) (fault : SpaceFault) (refusal : Refusal) (new : S) (last : Tables) → result ≡ Err fault → fault ≡ space.Full cap → refusal ≡ refusal_of (FileFull cap) → Undoes (g.state mid) (g.state new)
           → g.disk_faults new ≡ g.disk_faults mid → g.say_faults new ≡ g.say_faults mid → OverTime g.clock g.left (OnlyBase (g.state mid)) mid new
-          → IfFull fault (λ n. (n ≡ before.ext.cap) × (IsReady g marked before → StepRunsFull before.ext (pages_of g marked) before.catalog stmt))
+          → IfFull fault (λ n. (n ≡ before.shape.extents) × (IsReady g marked before → StepRunsFull before.shape (pages_of g marked) before.catalog stmt))
           → now.catalog ≡ before.catalog → AreServed before.catalog
-          → last.catalog ≡ now.catalog → IsSameShape now.ext last.ext → ((owners : List Kind) → AreRightNotes last.ext owners) → AreForgotten last.rooms
-          → FetchesForQuery g before.ext marked mid before.catalog (bound_of before.catalog stmt) → TriesStep g stmt (Ok (said.Refused refusal)) old new before last
+          → last.catalog ≡ now.catalog → last.shape ≡ now.shape → ((owners : List Kind) → AreRightNotes last.shape last.notes owners) → AreForgotten last.rooms
+          → FetchesForQuery g before.shape marked mid before.catalog (bound_of before.catalog stmt) → TriesStep g stmt (Ok (said.Refused refusal)) old new before last
       try_full cap fault refusal new last is is_full refuses undone count_undone say_undone time_undone full catalog served forgot shape notes rooms fetches =
-          let filled : (cap ≡ before.ext.cap) × (IsReady g marked before → StepRunsFull before.ext (pages_of g marked) before.catalog stmt) =
-          subst (λ (f : SpaceFault). IfFull f (λ n. (n ≡ before.ext.cap) × (IsReady g marked before → StepRunsFull before.ext (pages_of g marked) before.catalog stmt))) is_full full in
+          let filled : (cap ≡ before.shape.extents) × (IsReady g marked before → StepRunsFull before.shape (pages_of g marked) before.catalog stmt) =
+          subst (λ (f : SpaceFault). IfFull f (λ n. (n ≡ before.shape.extents) × (IsReady g marked before → StepRunsFull before.shape (pages_of g marked) before.catalog stmt))) is_full full in
           let ending : Steady g mid new = steady_undo undone count_undone say_undone time_undone in
           let none : store_fault_in store_part_of result ≡ None = ap (store_fault_in store_part_of) (is ∙ ap Err is_full) in
           let quiet = counts_fault_then count (subst (λ (f : Option StoreFault). CountsFault (f ≡ Some store.Device) (g.disk_faults marked) (g.disk_faults mid)) none runs.cause.device) in
           let work : pages_of g new ≡ pages_of g old = ap (λ s. s.work) undone ∙ ap (λ o. unwrap_or o (g.state mid).work) (runs.works.marked ∙ ap (λ s. s.marked) marks) in
           let steady = steady_then run_so_far ending in
-          let whole : IsSameShape before.ext last.ext = record { cap = shape.cap ∙ keeps.shape.cap; extent_pages = shape.extent_pages ∙ keeps.shape.extent_pages } in
+          let whole : last.shape ≡ before.shape = shape ∙ keeps.shape in
           let same : last.catalog ≡ before.catalog = forgot ∙ catalog in
           let valid : AreServed last.catalog = subst AreServed (sym same) served in
           let leaves : LeavesAll g old new before last = record { pages = work; catalog = same } in
@@ -192,9 +192,10 @@ module _ {S : Type 0} (g : Ghosts S) where
             does = λ ready. inr (record {
               says = ap said.Refused (refuses ∙ ap (λ n. refusal_of (FileFull n)) filled.0);
               leaves = leaves;
-              full = subst (λ (pages : PageList). StepRunsFull before.ext pages before.catalog stmt) same_work (filled.1 (ready_marked ready));
+              full = subst (λ (pages : PageList). StepRunsFull before.shape pages before.catalog stmt) same_work (filled.1 (ready_marked ready));
               ready = ready_of_sound g new last ready.view valid (subst IsTrue (sym steady.is_told) ready.told)
-                  (subst (λ (pages : PageList). KeepAllRules last.ext pages ready.view) (sym work) (keeps_along before.ext last.ext (pages_of g old) ready.view whole ready.sound))
+                  (subst (λ (pages : PageList). KeepAllRules last.shape pages ready.view) (sym work)
+                  (subst (λ (of : Shape). KeepAllRules of (pages_of g old) ready.view) (sym whole) ready.sound))
                   (subst (λ (defs : Definitions). AreStored (pages_of g new) defs) (sym same) (subst (λ (pages : PageList). AreStored pages before.catalog) (sym work) ready.stored))
                   (notes ready.view.owners) rooms;
             });

@@ -22,8 +22,7 @@ use Rattle.store_api.specs.declared.fault.Damage.{Damage}
 use Rattle.store_api.specs.declared.pages.Pages.{Ghosts}
 use Rattle.store_api.proofs.MomentsLemmas.{base_or_now-steady}
 use Rattle.store_api.proofs.WorksLemmas.{rests_steady, steady_none, steady_then}
-use Rattle.extent_map.specs.Owners.{IsSameShape}
-use Rattle.extent_map.specs.declared.extents.Extents.{Extents}
+use Rattle.store_api.specs.declared.shape.Shape.{Shape}
 use Rattle.table_trees.specs.ToldPages.{PageList}
 use Rattle.mdc_sound.specs.SoundDatabase.{KeepAllRules}
 use Rattle.mdc_sound.specs.StandingTable.{pages_of}
@@ -48,7 +47,6 @@ use Rattle.script_engine.specs.declared.stop.EngineStop.TheVariants.{Damaged, De
 use Rattle.script_engine.specs.declared.tables.Tables.{Tables}
 use Rattle.script_engine.specs.declared.transactions.Control.{Control}
 use Rattle.script_engine.specs.declared.transactions.Control.TheVariants as control
-use Rattle.script_engine.proofs.BreakingLemmas.{exact_along}
 use Rattle.script_engine.proofs.CatalogLemmas.{built_defs, one_catalog, served_of}
 use Rattle.script_engine.proofs.FetchesForListingLemmas.{lists_other}
 use Rattle.script_engine.proofs.FetchesForQueryLemmas.{fetches_counted}
@@ -56,7 +54,6 @@ use Rattle.script_engine.proofs.LeavingLemmas.{leaves_steady, leaves_then}
 use Rattle.script_engine.proofs.LeavingOthersLemmas.{leaves_others_done, leaves_others_still}
 use Rattle.script_engine.proofs.ReadyTablesLemmas.{ready_of_sound}
 use Rattle.script_engine.proofs.SameWorkLemmas.{ready_same}
-use Rattle.script_engine.proofs.ShapeLemmas.{keeps_along, places_along, stands_for_along}
 
 -- ---- what is held
 
@@ -114,19 +111,19 @@ keeps_work old new (statement.ListBlocks name) other changing reads = absurd (cc
 keeps_work old new stmt other changing reads = tt
 
 -- the kept database behind a step, whether a transaction is open or not
-kept_on : (ext : Extents) (base work : PageList) (kept db : Database) (is_open : Bool) → PagesStandFor ext work db → (is_open ≡ true → PagesStandFor ext base kept) → (is_open ≡ false → base ≡ work)
-    → PagesStandFor ext base (cond is_open kept db)
-kept_on ext base work kept db true stands on closed = on refl
-kept_on ext base work kept db false stands on closed = subst (λ (pages : PageList). PagesStandFor ext pages db) (sym (closed refl)) stands
+kept_on : (shape : Shape) (base work : PageList) (kept db : Database) (is_open : Bool) → PagesStandFor shape work db → (is_open ≡ true → PagesStandFor shape base kept) → (is_open ≡ false → base ≡ work)
+    → PagesStandFor shape base (cond is_open kept db)
+kept_on shape base work kept db true stands on closed = on refl
+kept_on shape base work kept db false stands on closed = subst (λ (pages : PageList). PagesStandFor shape pages db) (sym (closed refl)) stands
 
 -- pages that stand for the end of a step on a session's working database stand for the session behind it; a refusal changed nothing
-stands_stepped : (ext : Extents) (old new : HeldPages) (stmt : Stmt) (session : Session) (end_ : Database × Answer) (outcome : Outcome) → StandsForSession ext old session → KeepsBase old new → new.open_ ≡ old.open_
-    → KeepsSettings old new → ((refusal : Refusal) → outcome ≡ said.Refused refusal → new ≡ old) → StandsAfter ext new.work end_ outcome → StandsForTurn ext old stmt (stepped session end_) outcome new
-stands_stepped ext old new stmt session (db, answer) (said.Done reply) stands keeps is_open set refused after =
-    subst (λ (a : Answer). StandsForTurn ext old stmt (stepped session (db, a)) (said.Done reply) new) (sym after.answers) (record {
+stands_stepped : (shape : Shape) (old new : HeldPages) (stmt : Stmt) (session : Session) (end_ : Database × Answer) (outcome : Outcome) → StandsForSession shape old session → KeepsBase old new → new.open_ ≡ old.open_
+    → KeepsSettings old new → ((refusal : Refusal) → outcome ≡ said.Refused refusal → new ≡ old) → StandsAfter shape new.work end_ outcome → StandsForTurn shape old stmt (stepped session end_) outcome new
+stands_stepped shape old new stmt session (db, answer) (said.Done reply) stands keeps is_open set refused after =
+    subst (λ (a : Answer). StandsForTurn shape old stmt (stepped session (db, a)) (said.Done reply) new) (sym after.answers) (record {
       session = record {
-        kept = kept_on ext new.base new.work session.kept db session.open_ after.pages_are
-            (λ opened. subst (λ (pages : PageList). PagesStandFor ext pages session.kept) (sym (keeps.is_open (is_open ∙ (sym stands.is_open ∙ opened)))) stands.kept)
+        kept = kept_on shape new.base new.work session.kept db session.open_ after.pages_are
+            (λ opened. subst (λ (pages : PageList). PagesStandFor shape pages session.kept) (sym (keeps.is_open (is_open ∙ (sym stands.is_open ∙ opened)))) stands.kept)
             (λ shut. keeps.closed (is_open ∙ (sym stands.is_open ∙ shut)));
         working = after.pages_are;
         is_open = stands.is_open ∙ sym is_open;
@@ -135,21 +132,21 @@ stands_stepped ext old new stmt session (db, answer) (said.Done reply) stands ke
       };
       answers = refl;
     })
-stands_stepped ext old new stmt session (db, answer) (said.Refused refusal) stands keeps is_open set refused after =
-    subst (λ (a : Answer). StandsForTurn ext old stmt (stepped session (db, a)) (said.Refused refusal) new) (sym after.answers) (record {
-      session = subst (λ (held : HeldPages). StandsForSession ext held session) (sym (refused refusal refl)) stands;
+stands_stepped shape old new stmt session (db, answer) (said.Refused refusal) stands keeps is_open set refused after =
+    subst (λ (a : Answer). StandsForTurn shape old stmt (stepped session (db, a)) (said.Refused refusal) new) (sym after.answers) (record {
+      session = subst (λ (held : HeldPages). StandsForSession shape held session) (sym (refused refusal refl)) stands;
       answers = refl;
     })
 
 -- a COMMIT makes the pages those of the last commit
-commit_steps : (ext : Extents) (old new : HeldPages) → old.open_ ≡ true → new.open_ ≡ false → new.base ≡ old.work → new.work ≡ old.work → new.defs ≡ old.defs → KeepsSettings old new
-    → StepsOnPages ext old statement.Commit (said.Done reply.Done) new
-commit_steps ext old new is_open shut base work defs set = turns
+commit_steps : (shape : Shape) (old new : HeldPages) → old.open_ ≡ true → new.open_ ≡ false → new.base ≡ old.work → new.work ≡ old.work → new.defs ≡ old.defs → KeepsSettings old new
+    → StepsOnPages shape old statement.Commit (said.Done reply.Done) new
+commit_steps shape old new is_open shut base work defs set = turns
     (λ session stands.
-    subst (λ (b : Bool). StandsForTurn ext old statement.Commit (committed session b) (said.Done reply.Done) new) (sym (stands.is_open ∙ is_open)) (record {
+    subst (λ (b : Bool). StandsForTurn shape old statement.Commit (committed session b) (said.Done reply.Done) new) (sym (stands.is_open ∙ is_open)) (record {
       session = record {
-        kept = subst (λ (pages : PageList). PagesStandFor ext pages session.working) (sym base) stands.working;
-        working = subst (λ (pages : PageList). PagesStandFor ext pages session.working) (sym work) stands.working;
+        kept = subst (λ (pages : PageList). PagesStandFor shape pages session.working) (sym base) stands.working;
+        working = subst (λ (pages : PageList). PagesStandFor shape pages session.working) (sym work) stands.working;
         is_open = sym shut;
         settings = stands.settings ∙ sym set.settings;
         pass = stands.pass ∙ sym set.pass;
@@ -157,7 +154,7 @@ commit_steps ext old new is_open shut base work defs set = turns
       answers = refl;
     }))
     (record { closed = λ closed. base ∙ sym work; is_open = λ opened. let wrong : true ≡ false = sym opened ∙ shut in absurd (cc) }) work
-    (leaves_others_still ext statement.Commit old new work defs) (λ refusal is. absurd (cc))
+    (leaves_others_still shape statement.Commit old new work defs) (λ refusal is. absurd (cc))
     (λ done says place def changed at. absurd (cc))
 
 -- by these two
@@ -167,24 +164,24 @@ same_settings settings pass = record { settings = settings; pass = pass }
 module _ {S : Type 0} (g : Ghosts S) where
   -- a step on pages, from what it does to the work and what becomes of the base
   steps_done : (old : Engine S) (new : HeldPages) (mid : S) (now : Tables) (stmt : Stmt) (outcome : Outcome) → control_of stmt ≡ control.Other → is_listing stmt ≡ false → DoesStep g old.store mid old.tables now stmt outcome
-      → new.work ≡ pages_of g mid → new.defs ≡ now.catalog → KeepsBase (held_by g old) new → (is_reading stmt ≡ true → pages_of g mid ≡ pages_of g old.store) → new.open_ ≡ old.is_open → KeepsSettings (held_by g old) new → IsSameShape old.tables.ext now.ext
-      → ((refusal : Refusal) → outcome ≡ said.Refused refusal → new ≡ held_by g old) → StepsOnPages old.tables.ext (held_by g old) stmt outcome new
+      → new.work ≡ pages_of g mid → new.defs ≡ now.catalog → KeepsBase (held_by g old) new → (is_reading stmt ≡ true → pages_of g mid ≡ pages_of g old.store) → new.open_ ≡ old.is_open → KeepsSettings (held_by g old) new → now.shape ≡ old.tables.shape
+      → ((refusal : Refusal) → outcome ≡ said.Refused refusal → new ≡ held_by g old) → StepsOnPages old.tables.shape (held_by g old) stmt outcome new
   steps_done old new mid now stmt outcome other changing does work defs keeps reads is_open set shape refused = turns
       (λ session stands.
       let after = does.stands session.working stands.working in
-      let here : StandsAfter old.tables.ext new.work (step session.working stmt) outcome =
+      let here : StandsAfter old.tables.shape new.work (step session.working stmt) outcome =
       record {
-        pages_are = subst (λ (pages : PageList). PagesStandFor old.tables.ext pages (step session.working stmt).0) (sym work)
-            (stands_for_along now.ext old.tables.ext (pages_of g mid) (step session.working stmt).0 (record { cap = sym shape.cap; extent_pages = sym shape.extent_pages }) after.pages_are);
+        pages_are = subst (λ (pages : PageList). PagesStandFor old.tables.shape pages (step session.working stmt).0) (sym work)
+            (subst (λ (of : Shape). PagesStandFor of (pages_of g mid) (step session.working stmt).0) shape after.pages_are);
         answers = after.answers;
       } in
-      subst (λ (end_ : Session × Answer). StandsForTurn old.tables.ext (held_by g old) stmt end_ outcome new) (sym (turn_other session stmt other changing))
-      (stands_stepped old.tables.ext (held_by g old) new stmt session (step session.working stmt) outcome stands keeps is_open set refused here))
+      subst (λ (end_ : Session × Answer). StandsForTurn old.tables.shape (held_by g old) stmt end_ outcome new) (sym (turn_other session stmt other changing))
+      (stands_stepped old.tables.shape (held_by g old) new stmt session (step session.working stmt) outcome stands keeps is_open set refused here))
       keeps (keeps_work (held_by g old) new stmt other changing (λ is. work ∙ reads is))
-      (leaves_others_done g old new mid now stmt outcome shape work defs does) refused
+      (leaves_others_done g old new mid now stmt outcome work defs does) refused
       (λ reply done place def changed at.
-      subst (λ (pages : PageList). PlacesOnPages old.tables.ext old.tables.ext (pages_of g old.store) pages def (bound_of old.tables.catalog stmt)) (sym work)
-      (places_along old.tables.ext now.ext (pages_of g old.store) (pages_of g mid) def (bound_of old.tables.catalog stmt) shape (does.places reply done place def changed at)))
+      subst (λ (pages : PageList). PlacesOnPages old.tables.shape (pages_of g old.store) pages def (bound_of old.tables.catalog stmt)) (sym work)
+      (does.places reply done place def changed at))
 
   -- ---- the outside
 
@@ -272,8 +269,8 @@ module _ {S : Type 0} (g : Ghosts S) where
   -- ---- a stop
 
   pub executes_stop : {X Y : Type 0} (stmt : Stmt) (result : Result Outcome EngineStop) (stop : EngineStop) (old new : Engine S) → IsErrAnd result (λ e. e ≡ stop)
-      → ((damage : Damage) → stop ≡ Damaged damage → IsReadyEngine g old → ⊥) → NamesExactly {X = Y} g old.tables.ext (Err stop) new.store → ((damage : Damage) → stop ≡ Damaged damage → StaysAtDamage g old new)
-      → (IsReadyEngine g old → LeavesCommitted g stmt old new) → IsSameShape old.tables.ext new.tables.ext
+      → ((damage : Damage) → stop ≡ Damaged damage → IsReadyEngine g old → ⊥) → NamesExactly {X = Y} g old.tables.shape (Err stop) new.store → ((damage : Damage) → stop ≡ Damaged damage → StaysAtDamage g old new)
+      → (IsReadyEngine g old → LeavesCommitted g stmt old new) → new.tables.shape ≡ old.tables.shape
       → LeavesOutside {X = X} g (Err stop) old new → Executes g stmt result old new
   executes_stop stmt (Ok outcome) stop old new is damaged exact stays leaves shape left = absurd is
   executes_stop stmt (Err e) stop old new is damaged exact stays leaves shape left = subst (λ (x : EngineStop). Executes g stmt (Err x) old new) (sym is) (record {
@@ -296,13 +293,10 @@ module _ {S : Type 0} (g : Ghosts S) where
     outside = outside_as stop old new left;
   })
 
-  no_shape : (ext : Extents) → IsSameShape ext ext
-  no_shape ext = record { cap = refl; extent_pages = refl }
-
   -- ---- COMMIT
 
   sound_root : (s : S) (tables : Tables) → IsReady g s tables → HasSoundRoot g s
-  sound_root s tables ready = record { told = ready.told; ext = tables.ext; sound = ready.sound.first.rule1 }
+  sound_root s tables ready = record { told = ready.told; shape = tables.shape; sound = ready.sound.first.rule1 }
 
   -- the work that is committed is sound, and so is the base then
   ready_committed : (old new : Engine S) (mid : S) (now : Tables) → IsReady g mid now → AreServed now.catalog → new.served ≡ true → new.tables ≡ now → CommitsWork {X = Unit {0}} g (Ok tt) mid new.store → IsReadyEngine g new
@@ -313,7 +307,7 @@ module _ {S : Type 0} (g : Ghosts S) where
         served = served;
         work = here;
         base_view = here.view;
-        base_sound = subst (λ (pages : PageList). KeepAllRules new.tables.ext pages here.view) (sym same) here.sound;
+        base_sound = subst (λ (pages : PageList). KeepAllRules new.tables.shape pages here.view) (sym same) here.sound;
         base_defs = new.tables.catalog;
         base_stored = subst (λ (pages : PageList). AreStored pages new.tables.catalog) (sym same) here.stored;
         base_valid = built_defs new.tables.catalog (subst (λ (t : Tables). AreServed t.catalog) (sym tables) valid);
@@ -321,10 +315,10 @@ module _ {S : Type 0} (g : Ghosts S) where
       }
 
   -- the pages that a COMMIT makes those of the last commit
-  work_left : (old : Engine S) → MayCall g old → old.is_open ≡ true → IsReadyEngine g old → MayBeLeft old.tables.ext (held_by g old) statement.Commit (g.state old.store).work
+  work_left : (old : Engine S) → MayCall g old → old.is_open ≡ true → IsReadyEngine g old → MayBeLeft old.tables.shape (held_by g old) statement.Commit (g.state old.store).work
   work_left old may is_open ready =
       let work = (g.state old.store).work in
-      MayBeLeft.after (said.Done reply.Done) (held_with work work old.tables.catalog false old.settings old.pass) (commit_steps old.tables.ext (held_by g old) (held_with work work old.tables.catalog false old.settings old.pass) is_open refl refl refl refl (same_settings refl refl)) refl refl
+      MayBeLeft.after (said.Done reply.Done) (held_with work work old.tables.catalog false old.settings old.pass) (commit_steps old.tables.shape (held_by g old) (held_with work work old.tables.catalog false old.settings old.pass) is_open refl refl refl refl (same_settings refl refl)) refl refl
       (ready.work.view, ready.work.sound) ready.work.stored (built_defs old.tables.catalog (may.served ready.served))
 
   -- a commit that found another count of pages committed nothing
@@ -341,20 +335,20 @@ module _ {S : Type 0} (g : Ghosts S) where
       }
 
   pub commit_stops : (result : Result Outcome EngineStop) (stop : EngineStop) (old : Engine S) (store : S) → MayCall g old → old.is_open ≡ true → IsErrAnd result (λ e. e ≡ stop)
-      → CommitsWork {X = Unit {0}} g (Err stop) old.store store → (Rests g old.store → Rests g store) → NamesExactly {X = Unit {0}} g old.tables.ext (Err stop) store
+      → CommitsWork {X = Unit {0}} g (Err stop) old.store store → (Rests g old.store → Rests g store) → NamesExactly {X = Unit {0}} g old.tables.shape (Err stop) store
       → Executes g statement.Commit result old (record old { store = store })
   commit_stops result stop old store may is_open is commits rests exact =
       let new : Engine S = record old { store = store } in
       executes_stop {Y = Unit {0}} statement.Commit result stop old new is (λ damage e ready. commits.damaged damage (ap Err e) (sound_root old.store old.tables ready.work)) exact
       (λ damage e. record (stays_uncounted old new old.store steady_none may.unmarked may.going refl (commits.uncounted damage (ap Err e)) commits.work) { holds = HoldsAtDamage.before commits.work })
-      (λ ready. leaves_then g (Err stop) statement.Commit old new old.store steady_none commits (work_left old may is_open ready)) (no_shape old.tables.ext) (outside_commit (Err stop) old new commits rests)
+      (λ ready. leaves_then g (Err stop) statement.Commit old new old.store steady_none commits (work_left old may is_open ready)) refl (outside_commit (Err stop) old new commits rests)
 
   pub commit_done : (old : Engine S) (store : S) → MayCall g old → old.is_open ≡ true → CommitsWork {X = Unit {0}} g (Ok tt) old.store store
       → (Rests g old.store → Rests g store) → Executes g statement.Commit (Ok (said.Done reply.Done)) old (record old { store = store; is_open = false })
   commit_done old store may is_open commits rests =
       let new : Engine S = record old { store = store; is_open = false } in
       record {
-        steps = λ ready. (commit_steps old.tables.ext (held_by g old) (held_by g new) is_open refl commits.base commits.work refl (same_settings refl refl), ready_committed old new old.store old.tables ready.work (may.served ready.served) ready.served refl commits);
+        steps = λ ready. (commit_steps old.tables.shape (held_by g old) (held_by g new) is_open refl commits.base commits.work refl (same_settings refl refl), ready_committed old new old.store old.tables ready.work (may.served ready.served) ready.served refl commits);
         may = record { going = commits.going; unmarked = commits.unmarked; served = may.served };
         keeps = λ all. record { closed = λ shut. commits.base ∙ sym commits.work; is_open = λ opened. absurd (cc) };
         keeps_work = commits.work;
@@ -369,19 +363,19 @@ module _ {S : Type 0} (g : Ghosts S) where
         opens = refl;
         exact = λ damage e. absurd (cc);
         stays = λ damage e. absurd (cc);
-        shape = no_shape old.tables.ext;
+        shape = refl;
         outside = outside_done old new commits rests;
       }
 
   -- ---- ROLLBACK
 
   pub roll_back_stops : (result : Result Outcome EngineStop) (stop : EngineStop) (old : Engine S) (store : S) (tables : Tables) → MayCall g old → IsErrAnd result (λ e. e ≡ stop)
-      → Reloads g (Err stop) old.store store old.tables tables → NamesExactly {X = Bool} g old.tables.ext (Err stop) store
+      → Reloads g (Err stop) old.store store old.tables tables → NamesExactly {X = Bool} g old.tables.shape (Err stop) store
       → Executes g statement.Rollback result old (record old { store = store; tables = tables })
   roll_back_stops result stop old store tables may is reloads exact =
       let new : Engine S = record old { store = store; tables = tables } in
       executes_stop {X = Bool} {Y = Bool} statement.Rollback result stop old new is
-      (λ damage e ready. reloads.damaged damage (ap Err e) ready.work.told old.tables.ext (ready.base_view, ready.base_sound)) exact
+      (λ damage e ready. reloads.damaged damage (ap Err e) ready.work.told old.tables.shape (ready.base_view, ready.base_sound)) exact
       (λ damage e. record {
         base = reloads.steady.base;
         going = reloads.steady.ended ∙ may.going;
@@ -392,15 +386,15 @@ module _ {S : Type 0} (g : Ghosts S) where
       (λ ready. leaves_steady g statement.Rollback old new reloads.steady) reloads.shape (outside_steady (Err stop) old new reloads.steady reloads.device reloads.output)
 
   roll_back_steps : (old : Engine S) (store : S) (tables : Tables) (served : Bool) → old.is_open ≡ true → Reloads g (Ok served) old.store store old.tables tables
-      → StepsOnPages old.tables.ext (held_by g old) statement.Rollback (said.Done reply.Done) (held_by g (record old { store = store; tables = tables; served = served; is_open = false }))
+      → StepsOnPages old.tables.shape (held_by g old) statement.Rollback (said.Done reply.Done) (held_by g (record old { store = store; tables = tables; served = served; is_open = false }))
   roll_back_steps old store tables served is_open reloads =
       let new : Engine S = record old { store = store; tables = tables; served = served; is_open = false } in
       turns
       (λ session stands.
-      subst (λ (b : Bool). StandsForTurn old.tables.ext (held_by g old) statement.Rollback (rolled_back session b) (said.Done reply.Done) (held_by g new)) (sym (stands.is_open ∙ is_open)) (record {
+      subst (λ (b : Bool). StandsForTurn old.tables.shape (held_by g old) statement.Rollback (rolled_back session b) (said.Done reply.Done) (held_by g new)) (sym (stands.is_open ∙ is_open)) (record {
         session = record {
-          kept = subst (λ (pages : PageList). PagesStandFor old.tables.ext pages session.kept) (sym reloads.steady.base) stands.kept;
-          working = subst (λ (pages : PageList). PagesStandFor old.tables.ext pages session.kept) (sym reloads.work) stands.kept;
+          kept = subst (λ (pages : PageList). PagesStandFor old.tables.shape pages session.kept) (sym reloads.steady.base) stands.kept;
+          working = subst (λ (pages : PageList). PagesStandFor old.tables.shape pages session.kept) (sym reloads.work) stands.kept;
           is_open = refl;
           settings = stands.settings;
           pass = stands.pass;
@@ -417,14 +411,14 @@ module _ {S : Type 0} (g : Ghosts S) where
       let is_told = subst IsTrue (sym reloads.steady.is_told) ready.work.told in
       let same : tables.catalog ≡ ready.base_defs = one_catalog (g.state old.store).base tables.catalog ready.base_defs (reloads.stored ready.work.told) ready.base_stored in
       let built : are_built tables.catalog ≡ true = ap are_built same ∙ ready.base_valid.built in
-      let sound = keeps_along old.tables.ext tables.ext (g.state old.store).base ready.base_view reloads.shape ready.base_sound in
+      let sound = subst (λ (of : Shape). KeepAllRules of (g.state old.store).base ready.base_view) (sym reloads.shape) ready.base_sound in
       record {
         served = reloads.built ∙ built;
         work = ready_of_sound g store tables ready.base_view (served_of tables.catalog reloads.limits reloads.names built) is_told
-            (subst (λ (pages : PageList). KeepAllRules tables.ext pages ready.base_view) (sym reloads.work) sound)
+            (subst (λ (pages : PageList). KeepAllRules tables.shape pages ready.base_view) (sym reloads.work) sound)
             (subst (λ (pages : PageList). AreStored pages tables.catalog) (sym reloads.work) (reloads.stored ready.work.told)) (reloads.notes ready.base_view.owners) reloads.rooms;
         base_view = ready.base_view;
-        base_sound = subst (λ (pages : PageList). KeepAllRules tables.ext pages ready.base_view) (sym base_kept) sound;
+        base_sound = subst (λ (pages : PageList). KeepAllRules tables.shape pages ready.base_view) (sym base_kept) sound;
         base_defs = ready.base_defs;
         base_stored = subst (λ (pages : PageList). AreStored pages ready.base_defs) (sym base_kept) ready.base_stored;
         base_valid = ready.base_valid;
@@ -475,7 +469,7 @@ module _ {S : Type 0} (g : Ghosts S) where
   kept_steps : (old : Engine S) (store : S) (tables : Tables) (stmt : Stmt) (outcome : Outcome) → control_of stmt ≡ control.Other → is_listing stmt ≡ false → IsReadyEngine g old
       → TriesStep g stmt (Ok outcome) old.store store old.tables tables → (old.is_open || is_refusal outcome) ≡ true
       → DoesStep g old.store store old.tables tables stmt outcome ⊎ IsRefusedFull g old.store store old.tables tables stmt outcome
-      → StepsOnPages old.tables.ext (held_by g old) stmt outcome (held_by g (record old { store = store; tables = tables }))
+      → StepsOnPages old.tables.shape (held_by g old) stmt outcome (held_by g (record old { store = store; tables = tables }))
   kept_steps old store tables stmt outcome other changing ready tries kept (inl does) =
       steps_done old (held_by g (record old { store = store; tables = tables })) store tables stmt outcome other changing does refl refl (base_tried old store tables stmt outcome ready.closed tries kept) tries.reads refl (same_settings refl refl) tries.shape
       (λ refusal is. held_left old store tables tries.steady (tries.refused refusal (ap Ok is)))
@@ -494,8 +488,8 @@ module _ {S : Type 0} (g : Ghosts S) where
         served = ready.served;
         work = ready_tried old.store store old.tables tables stmt outcome (tries.does ready.work);
         base_view = ready.base_view;
-        base_sound = subst (λ (pages : PageList). KeepAllRules tables.ext pages ready.base_view) (sym same)
-            (keeps_along old.tables.ext tables.ext (g.state old.store).base ready.base_view tries.shape ready.base_sound);
+        base_sound = subst (λ (pages : PageList). KeepAllRules tables.shape pages ready.base_view) (sym same)
+            (subst (λ (of : Shape). KeepAllRules of (g.state old.store).base ready.base_view) (sym tries.shape) ready.base_sound);
         base_defs = ready.base_defs;
         base_stored = subst (λ (pages : PageList). AreStored pages ready.base_defs) (sym same) ready.base_stored;
         base_valid = ready.base_valid;
@@ -533,7 +527,7 @@ module _ {S : Type 0} (g : Ghosts S) where
   -- a statement that was done, whose pages are committed
   committed_steps : (old : Engine S) (new : HeldPages) (mid : S) (tables : Tables) (stmt : Stmt) (outcome : Outcome) → control_of stmt ≡ control.Other → is_listing stmt ≡ false → is_refusal outcome ≡ false → old.is_open ≡ false → new.open_ ≡ false
       → new.base ≡ pages_of g mid → new.work ≡ pages_of g mid → new.defs ≡ tables.catalog → KeepsSettings (held_by g old) new → TriesStep g stmt (Ok outcome) old.store mid old.tables tables
-      → DoesStep g old.store mid old.tables tables stmt outcome ⊎ IsRefusedFull g old.store mid old.tables tables stmt outcome → StepsOnPages old.tables.ext (held_by g old) stmt outcome new
+      → DoesStep g old.store mid old.tables tables stmt outcome ⊎ IsRefusedFull g old.store mid old.tables tables stmt outcome → StepsOnPages old.tables.shape (held_by g old) stmt outcome new
   committed_steps old new mid tables stmt outcome other changing done shut still base work defs set tries (inl does) =
       steps_done old new mid tables stmt outcome other changing does work defs
       (record { closed = λ closed. base ∙ sym work; is_open = λ opened. let wrong : true ≡ false = sym opened ∙ still in absurd (cc) }) tries.reads (still ∙ sym shut) set tries.shape
@@ -543,13 +537,13 @@ module _ {S : Type 0} (g : Ghosts S) where
 
   -- the pages that it makes those of the last commit
   made_left : (old : Engine S) (mid : S) (tables : Tables) (stmt : Stmt) (outcome : Outcome) → control_of stmt ≡ control.Other → is_listing stmt ≡ false → is_refusal outcome ≡ false → old.is_open ≡ false
-      → TriesStep g stmt (Ok outcome) old.store mid old.tables tables → IsReadyEngine g old → MayBeLeft old.tables.ext (held_by g old) stmt (g.state mid).work
+      → TriesStep g stmt (Ok outcome) old.store mid old.tables tables → IsReadyEngine g old → MayBeLeft old.tables.shape (held_by g old) stmt (g.state mid).work
   made_left old mid tables stmt outcome other changing done shut tries ready =
       let work = (g.state mid).work in
       let now = ready_tried old.store mid old.tables tables stmt outcome (tries.does ready.work) in
       MayBeLeft.after outcome (held_with work work tables.catalog false old.settings old.pass)
       (committed_steps old (held_with work work tables.catalog false old.settings old.pass) mid tables stmt outcome other changing done shut refl refl refl refl (same_settings refl refl) tries (tries.does ready.work)) refl refl
-      (now.view, keeps_along tables.ext old.tables.ext work now.view (record { cap = sym tries.shape.cap; extent_pages = sym tries.shape.extent_pages }) now.sound) now.stored (built_defs tables.catalog tries.served)
+      (now.view, subst (λ (of : Shape). KeepAllRules of work now.view) tries.shape now.sound) now.stored (built_defs tables.catalog tries.served)
 
   pub change_committed : (old : Engine S) (mid store : S) (tables : Tables) (stmt : Stmt) (outcome : Outcome) → MayCall g old → old.served ≡ true → control_of stmt ≡ control.Other → is_listing stmt ≡ false
       → TriesStep g stmt (Ok outcome) old.store mid old.tables tables → (old.is_open || is_refusal outcome) ≡ false → CommitsWork {X = Unit {0}} g (Ok tt) mid store
@@ -570,7 +564,7 @@ module _ {S : Type 0} (g : Ghosts S) where
         controls = answers_other old.is_open stmt outcome other;
         built = λ was. served ∙ sym tries.served.built;
         leaves = λ ready. leaves_then g (Ok tt) stmt old new mid tries.steady commits (made_left old mid tables stmt outcome other changing done shut tries ready);
-        fetches = λ ready. fetches_counted g old.tables.ext old.tables.catalog old.store mid store (bound_of old.tables.catalog stmt) (tries.fetches ready.work) commits.brings;
+        fetches = λ ready. fetches_counted g old.tables.shape old.tables.catalog old.store mid store (bound_of old.tables.catalog stmt) (tries.fetches ready.work) commits.brings;
         lists = λ ready. lists_other g old.store store old.tables.catalog stmt changing;
         refused = λ refusal is. absurd (not_done outcome refusal done (same_outcome (Ok outcome) outcome (said.Refused refusal) refl is));
         unserved = λ unserved other outcome is. let wrong : true ≡ false = sym served ∙ unserved in absurd (cc);
@@ -584,21 +578,21 @@ module _ {S : Type 0} (g : Ghosts S) where
 
   pub change_stops : (result : Result Outcome EngineStop) (stop : EngineStop) (old : Engine S) (mid store : S) (tables : Tables) (stmt : Stmt) (outcome : Outcome) → MayCall g old → IsErrAnd result (λ e. e ≡ stop) → control_of stmt ≡ control.Other → is_listing stmt ≡ false
       → TriesStep g stmt (Ok outcome) old.store mid old.tables tables → (old.is_open || is_refusal outcome) ≡ false → CommitsWork {X = Unit {0}} g (Err stop) mid store
-      → (Rests g mid → Rests g store) → NamesExactly {X = Unit {0}} g tables.ext (Err stop) store → Executes g stmt result old (record old { store = store; tables = tables })
+      → (Rests g mid → Rests g store) → NamesExactly {X = Unit {0}} g tables.shape (Err stop) store → Executes g stmt result old (record old { store = store; tables = tables })
   change_stops result stop old mid store tables stmt outcome may is other changing tries kept commits rests exact =
       let new : Engine S = record old { store = store; tables = tables } in
       let both = neither old.is_open (is_refusal outcome) kept in
       let still : g.disk_faults mid ≡ g.disk_faults old.store = tries.device.still (λ is. absurd (cc)) in
       executes_stop {Y = Unit {0}} stmt result stop old new is
       (λ damage e ready. commits.damaged damage (ap Err e) (sound_root mid tables (ready_tried old.store mid old.tables tables stmt outcome (tries.does ready.work))))
-      (exact_along g old.tables.ext tables.ext (Err stop) store tries.shape exact)
+      (subst (λ (of : Shape). NamesExactly {X = Unit {0}} g of (Err stop) store) tries.shape exact)
       (λ damage e. stays_uncounted old new mid tries.steady tries.unmarked may.going refl (commits.uncounted damage (ap Err e)) commits.work)
       (λ ready. leaves_then g (Err stop) stmt old new mid tries.steady commits (made_left old mid tables stmt outcome other changing both.1 both.0 tries ready)) tries.shape
       (outside_then (Err stop) old new mid tries.steady still commits rests)
 
   -- the execution stopped
   pub change_untried : (result : Result Outcome EngineStop) (stop : EngineStop) (old : Engine S) (store : S) (tables : Tables) (stmt : Stmt) → MayCall g old → IsErrAnd result (λ e. e ≡ stop)
-      → TriesStep g stmt (Err stop) old.store store old.tables tables → NamesExactly {X = Outcome} g old.tables.ext (Err stop) store
+      → TriesStep g stmt (Err stop) old.store store old.tables tables → NamesExactly {X = Outcome} g old.tables.shape (Err stop) store
       → Executes g stmt result old (record old { store = store; tables = tables })
   change_untried result stop old store tables stmt may is tries exact =
       let new : Engine S = record old { store = store; tables = tables } in
@@ -623,7 +617,7 @@ module _ {S : Type 0} (g : Ghosts S) where
     served = ready.served;
     work = ready_same g old.store store old.tables told work ready.work;
     base_view = ready.base_view;
-    base_sound = subst (λ (pages : PageList). KeepAllRules old.tables.ext pages ready.base_view) (sym base) ready.base_sound;
+    base_sound = subst (λ (pages : PageList). KeepAllRules old.tables.shape pages ready.base_view) (sym base) ready.base_sound;
     base_defs = ready.base_defs;
     base_stored = subst (λ (pages : PageList). AreStored pages ready.base_defs) (sym base) ready.base_stored;
     base_valid = ready.base_valid;

@@ -6,7 +6,7 @@ use Rattle.mdc_ast.specs.Definitions.{Definitions}
 use Rattle.store_api.specs.Works.{Steady}
 use Rattle.store_api.specs.declared.fault.Damage.{Damage}
 use Rattle.store_api.specs.declared.pages.Pages.{Ghosts}
-use Rattle.extent_map.specs.declared.extents.Extents.{Extents}
+use Rattle.store_api.specs.declared.shape.Shape.{Shape}
 use Rattle.mdc_sound.specs.Breaks.{IsFirstBreak}
 use Rattle.mdc_sound.specs.SoundDatabase.{IsSoundDatabase}
 use Rattle.stored_catalog.specs.StoredDefinitions.{AreStored, AreWithinLimits}
@@ -16,12 +16,12 @@ use Rattle.script_engine.specs.declared.stop.EngineStop.{EngineStop}
 use Rattle.script_engine.specs.declared.stop.EngineStop.TheVariants.{Damaged, Device, Output}
 
 -- where the store tells its pages, the damage is the first rule that they break, and the lowest page that breaks it
-abbrev pub IsExactDamage : {S : Type 0} → Ghosts S → Extents → S → Damage → Type 0
-IsExactDamage g ext s damage = IsTrue (g.state s).is_told → IsFirstBreak ext (g.state s).work damage.rule damage.page
+abbrev pub IsExactDamage : {S : Type 0} → Ghosts S → Shape → S → Damage → Type 0
+IsExactDamage g shape s damage = IsTrue (g.state s).is_told → IsFirstBreak shape (g.state s).work damage.rule damage.page
 
 -- the damage that a call answers is that of the pages as it leaves them
-abbrev pub NamesExactly : {S X : Type 0} → Ghosts S → Extents → Result X EngineStop → S → Type 0
-NamesExactly g ext result s = (damage : Damage) → result ≡ Err (Damaged damage) → IsExactDamage g ext s damage
+abbrev pub NamesExactly : {S X : Type 0} → Ghosts S → Shape → Result X EngineStop → S → Type 0
+NamesExactly g shape result s = (damage : Damage) → result ≡ Err (Damaged damage) → IsExactDamage g shape s damage
 
 -- Pages were read alone: all is as it was, but for the page at hand.
 pub record OnlyReads {S : Type 0} (g : Ghosts S) (old new : S) : Type 0 where
@@ -30,21 +30,21 @@ pub record OnlyReads {S : Type 0} (g : Ghosts S) (old new : S) : Type 0 where
   pub marked : (g.state new).marked ≡ (g.state old).marked
 
 -- The pages were judged: the damage that is named is exact, where they aren't sound.
-pub record JudgesDamage {S : Type 0} (g : Ghosts S) (ext : Extents) (stop : EngineStop) (old new : S) : Type 0 where
+pub record JudgesDamage {S : Type 0} (g : Ghosts S) (shape : Shape) (stop : EngineStop) (old new : S) : Type 0 where
   pub reads : OnlyReads g old new
   pub device : CountsFault (stop ≡ Device) (g.disk_faults old) (g.disk_faults new)
-  pub exact : (damage : Damage) → stop ≡ Damaged damage → (IsTrue (g.state new).is_told → IsSoundDatabase ext (g.state new).work → ⊥) → IsExactDamage g ext new damage
+  pub exact : (damage : Damage) → stop ≡ Damaged damage → (IsTrue (g.state new).is_told → IsSoundDatabase shape (g.state new).work → ⊥) → IsExactDamage g shape new damage
   pub output : stop ≡ Output → ⊥
 
 -- The catalog of the table pages was read, or exact damage is named, which sound pages don't have.
-pub record LoadsExactly {S : Type 0} (g : Ghosts S) (ext : Extents) (result : Result Definitions EngineStop) (old new : S) : Type 0 where
+pub record LoadsExactly {S : Type 0} (g : Ghosts S) (shape : Shape) (result : Result Definitions EngineStop) (old new : S) : Type 0 where
   pub reads : OnlyReads g old new
   pub stored : IfOk result (λ catalog. IsTrue (g.state old).is_told → AreStored (g.state old).work catalog)
   pub limits : IfOk result AreWithinLimits
   pub names : IfOk result AllDefsDiffer
   pub device : CountsFault (IsErrOf result Device) (g.disk_faults old) (g.disk_faults new)
-  pub damaged : (damage : Damage) → result ≡ Err (Damaged damage) → IsTrue (g.state old).is_told → (shape : Extents) → IsSoundDatabase shape (g.state old).work → ⊥
-  pub exact : NamesExactly g ext result new
+  pub damaged : (damage : Damage) → result ≡ Err (Damaged damage) → IsTrue (g.state old).is_told → (shape : Shape) → IsSoundDatabase shape (g.state old).work → ⊥
+  pub exact : NamesExactly g shape result new
   pub output : IsErrOf result Output → ⊥
 
 -- The pages that an engine holds where damage is named: those that it held, those of the last commit, or, where a commit finds

@@ -9,7 +9,7 @@ use Rattle.store_api.specs.StoreState.{stated_count}
 use Rattle.store_api.specs.Works.{Steady}
 use Rattle.store_api.specs.declared.fault.Damage.{Damage}
 use Rattle.store_api.specs.declared.pages.Pages.{Ghosts}
-use Rattle.extent_map.specs.declared.extents.Extents.{Extents}
+use Rattle.store_api.specs.declared.shape.Shape.{Shape}
 use Rattle.table_trees.specs.ToldPages.{PageList}
 use Rattle.mdc_sound.specs.SpaceRules.{IsRootSound}
 use Rattle.script_engine.specs.declared.stop.EngineStop.{EngineStop}
@@ -18,8 +18,8 @@ use Rattle.script_engine.specs.declared.stop.EngineStop.TheVariants.{Damaged, De
 -- the pages are told, and the root page is sound
 pub record HasSoundRoot {S : Type 0} (g : Ghosts S) (s : S) : Type 0 where
   pub told : IsTrue (g.state s).is_told
-  pub ext : Extents
-  pub sound : IsRootSound ext (g.state s).work
+  pub shape : Shape
+  pub sound : IsRootSound shape (g.state s).work
 
 -- there is no page, or page 0 doesn't state how many there are
 abbrev pub IsUncounted : PageList → Type 0

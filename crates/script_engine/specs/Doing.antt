@@ -17,7 +17,7 @@ use Rattle.statement_meaning.specs.Doing.{causes_of_rows, changed_row}
 use Rattle.mdc_ast.specs.Truth.{qualifies}
 use Rattle.statement_meaning.specs.Step.{Answer, faults, step}
 use Rattle.store_api.specs.declared.pages.Pages.{Ghosts}
-use Rattle.extent_map.specs.declared.extents.Extents.{Extents}
+use Rattle.store_api.specs.declared.shape.Shape.{Shape}
 use Rattle.table_trees.specs.SpaceChanges.{MakesChanges, SpaceChange}
 use Rattle.table_trees.specs.ToldPages.{PageList}
 use Rattle.mdc_sound.specs.RunningFull.{CreateRunsFull, InsertRunsFull, ShowsTableSpots, UpdateRunsFull}
@@ -35,8 +35,8 @@ use Rattle.script_engine.specs.declared.tables.Tables.{Tables}
 -- ---- the plain database
 
 -- the pages stand for the database that the end of a statement is, and the outcome says its answer
-pub record StandsAfter (ext : Extents) (pages : PageList) (end_ : Database × Answer) (outcome : Outcome) : Type 0 where
-  pub pages_are : PagesStandFor ext pages end_.0
+pub record StandsAfter (shape : Shape) (pages : PageList) (end_ : Database × Answer) (outcome : Outcome) : Type 0 where
+  pub pages_are : PagesStandFor shape pages end_.0
   pub answers : end_.1 ≡ answer_of outcome
 
 -- ---- where its rows go
@@ -61,14 +61,14 @@ pub data PlacesRows (def : TableDef) (n : ℕ) (was : List Spot) (space : List S
 
 -- The same on pages: they show the table's spots before and after, trees took no more space than these changes, and the table's
 -- definition stays but for its next row number.
-pub record PlacesOnPages (before ext : Extents) (old new : PageList) (def : TableDef) (statement : Bound) : Type 0 where
+pub record PlacesOnPages (shape : Shape) (old new : PageList) (def : TableDef) (statement : Bound) : Type 0 where
   pub was : List Spot
   pub is : List Spot
-  pub shown_before : ShowsTableSpots before old def was
-  pub shown_after : ShowsTableSpots ext new def is
+  pub shown_before : ShowsTableSpots shape old def was
+  pub shown_after : ShowsTableSpots shape new def is
   pub space : List SpaceChange
-  pub places : PlacesRows def (block_slot_count before def) was space is statement
-  pub makes : MakesChanges before old space new
+  pub places : PlacesRows def (block_slot_count shape def) was space is statement
+  pub makes : MakesChanges shape old space new
   pub defined : (n : ℕ) × DefinesTable new def.number (record def { next = n })
 
 -- the place of the table whose rows a statement changes, if it changes any
@@ -85,18 +85,18 @@ changed_place statement = Option.None
 -- these ask for, and other tables stay.
 pub record DoesStatement {S : Type 0} (g : Ghosts S) (old new : S) (before now : Tables) (statement : Bound) (outcome : Outcome) : Type 0 where
   pub ready : IsReady g new now
-  pub stands : (db : Database) → PagesStandFor before.ext (pages_of g old) db → StandsAfter now.ext (pages_of g new) (done db statement) outcome
+  pub stands : (db : Database) → PagesStandFor before.shape (pages_of g old) db → StandsAfter now.shape (pages_of g new) (done db statement) outcome
   pub places : (reply : _) → outcome ≡ said.Done reply → (place : ℕ) (def : TableDef) → changed_place statement ≡ Some place → def_at before.catalog place ≡ Some def
-      → PlacesOnPages before.ext now.ext (pages_of g old) (pages_of g new) def statement
-  pub others : KeepsOthers before.ext now.ext (pages_of g old) (pages_of g new) before.catalog now.catalog (touched_place statement)
+      → PlacesOnPages before.shape (pages_of g old) (pages_of g new) def statement
+  pub others : KeepsOthers before.shape (pages_of g old) (pages_of g new) before.catalog now.catalog (touched_place statement)
 
 -- A statement was executed on ready pages: the same of its text.
 pub record DoesStep {S : Type 0} (g : Ghosts S) (old new : S) (before now : Tables) (stmt : Stmt) (outcome : Outcome) : Type 0 where
   pub ready : IsReady g new now
-  pub stands : (db : Database) → PagesStandFor before.ext (pages_of g old) db → StandsAfter now.ext (pages_of g new) (step db stmt) outcome
+  pub stands : (db : Database) → PagesStandFor before.shape (pages_of g old) db → StandsAfter now.shape (pages_of g new) (step db stmt) outcome
   pub places : (reply : _) → outcome ≡ said.Done reply → (place : ℕ) (def : TableDef) → changed_place (bound_of before.catalog stmt) ≡ Some place → def_at before.catalog place ≡ Some def
-      → PlacesOnPages before.ext now.ext (pages_of g old) (pages_of g new) def (bound_of before.catalog stmt)
-  pub others : KeepsOthers before.ext now.ext (pages_of g old) (pages_of g new) before.catalog now.catalog (touched_place (bound_of before.catalog stmt))
+      → PlacesOnPages before.shape (pages_of g old) (pages_of g new) def (bound_of before.catalog stmt)
+  pub others : KeepsOthers before.shape (pages_of g old) (pages_of g new) before.catalog now.catalog (touched_place (bound_of before.catalog stmt))
 
 -- a refused statement left the pages and the definitions
 pub record LeavesAll {S : Type 0} (g : Ghosts S) (old new : S) (before now : Tables) : Type 0 where
@@ -118,20 +118,20 @@ is_reading statement = false
 -- ---- running full
 
 -- a statement runs full on these pages
-pub data StatementRunsFull (ext : Extents) (work : PageList) (defs : Definitions) : Bound → Type 0 where
-  create : {def : TableDef} → CreateRunsFull ext work def → StatementRunsFull ext work defs (bound.CreateTable def)
-  insert : {place : ℕ} {tuples : _} (def : TableDef) → def_at defs place ≡ Some def → InsertRunsFull ext work def (numbered def.next tuples)
-      → StatementRunsFull ext work defs (bound.Insert place tuples)
+pub data StatementRunsFull (shape : Shape) (work : PageList) (defs : Definitions) : Bound → Type 0 where
+  create : {def : TableDef} → CreateRunsFull shape work def → StatementRunsFull shape work defs (bound.CreateTable def)
+  insert : {place : ℕ} {tuples : _} (def : TableDef) → def_at defs place ≡ Some def → InsertRunsFull shape work def (numbered def.next tuples)
+      → StatementRunsFull shape work defs (bound.Insert place tuples)
   update : {place : ℕ} {sets : List BoundSet} {pred : Option Pred} (def : TableDef) (spots : List Spot) (rows : List PlacedRow) → def_at defs place ≡ Some def
-      → ShowsTableSpots ext work def spots → AreQualifying spots pred rows → UpdateRunsFull ext work def (with_changed sets pred rows)
-      → StatementRunsFull ext work defs (bound.Update place sets pred)
+      → ShowsTableSpots shape work def spots → AreQualifying spots pred rows → UpdateRunsFull shape work def (with_changed sets pred rows)
+      → StatementRunsFull shape work defs (bound.Update place sets pred)
 
 -- A bound statement runs full and nothing else is said against it: 70 comes last in the order of refusals.
-pub record RunsFullAlone (ext : Extents) (work : PageList) (defs : Definitions) (statement : Bound) : Type 0 where
-  pub full : StatementRunsFull ext work defs statement
-  pub faultless : (db : Database) → PagesStandFor ext work db → causes_of_rows db statement ≡ []
+pub record RunsFullAlone (shape : Shape) (work : PageList) (defs : Definitions) (statement : Bound) : Type 0 where
+  pub full : StatementRunsFull shape work defs statement
+  pub faultless : (db : Database) → PagesStandFor shape work db → causes_of_rows db statement ≡ []
 
 -- the same of a statement's text
-pub record StepRunsFull (ext : Extents) (work : PageList) (defs : Definitions) (stmt : Stmt) : Type 0 where
-  pub full : StatementRunsFull ext work defs (bound_of defs stmt)
-  pub faultless : (db : Database) → PagesStandFor ext work db → faults db stmt ≡ []
+pub record StepRunsFull (shape : Shape) (work : PageList) (defs : Definitions) (stmt : Stmt) : Type 0 where
+  pub full : StatementRunsFull shape work defs (bound_of defs stmt)
+  pub faultless : (db : Database) → PagesStandFor shape work db → faults db stmt ≡ []

@@ -1,4 +1,5 @@
 -- What is held between two statements over pages, and what a statement may do to it.
+use Rattle.store_api.specs.declared.shape.Shape.{Shape}
 use Rattle.std.specs.Prelude.{◌≡◌, ℕ, [], Bool, true, false, Some}
 use Rattle.mdc_ast.specs.declared.definition.TableDef.{TableDef}
 use Rattle.mdc_ast.specs.declared.reply.Outcome.{Outcome}
@@ -13,7 +14,6 @@ use Rattle.statement_meaning.specs.Session.{AgreesWith, Session, turn}
 use Rattle.statement_meaning.specs.Step.{Answer, faults}
 use Rattle.statement_meaning.specs.declared.pass.Pass.{Pass}
 use Rattle.statement_meaning.specs.declared.settings.Settings.{Settings}
-use Rattle.extent_map.specs.declared.extents.Extents.{Extents}
 use Rattle.table_trees.specs.ToldPages.{PageList}
 use Rattle.mdc_sound.specs.StandsForDatabase.{PagesStandFor}
 use Rattle.script_engine.specs.Doing.{PlacesOnPages, StatementRunsFull, changed_place}
@@ -33,17 +33,17 @@ pub record HeldPages : Type 0 where
   pub pass : Pass
 
 -- they stand for the session, of one shape
-pub record StandsForSession (ext : Extents) (held : HeldPages) (session : Session) : Type 0 where
-  pub kept : PagesStandFor ext held.base session.kept
-  pub working : PagesStandFor ext held.work session.working
+pub record StandsForSession (shape : Shape) (held : HeldPages) (session : Session) : Type 0 where
+  pub kept : PagesStandFor shape held.base session.kept
+  pub working : PagesStandFor shape held.work session.working
   pub is_open : session.open_ ≡ held.open_
   pub settings : session.settings ≡ held.settings
   pub pass : session.pass ≡ held.pass
 
 -- the session after a statement, and its answer, as the pages and the outcome have them; what lists of rows don't give, the pages
 -- before it tell
-pub record StandsForTurn (ext : Extents) (old : HeldPages) (stmt : Stmt) (turned : Session × Answer) (outcome : Outcome) (new : HeldPages) : Type 0 where
-  pub session : StandsForSession ext new turned.0
+pub record StandsForTurn (shape : Shape) (old : HeldPages) (stmt : Stmt) (turned : Session × Answer) (outcome : Outcome) (new : HeldPages) : Type 0 where
+  pub session : StandsForSession shape new turned.0
   pub answers : AgreesWith (PagesTell old.work old.defs stmt) turned.1 outcome
 
 -- Where no transaction is open, the pages are those of the last commit; where one is, these stay.
@@ -62,20 +62,20 @@ KeepsWork Rollback old new = old.open_ ≡ true → new.work ≡ old.base
 KeepsWork stmt old new = Unit {0}
 
 -- The tables that a statement doesn't change keep their definitions and blocks. Going back makes the work the base, and so of its own.
-abbrev pub LeavesOthers : Extents → Stmt → HeldPages → HeldPages → Type 0
-LeavesOthers ext Rollback old new = Unit {0}
-LeavesOthers ext stmt old new = KeepsOthers ext ext old.work new.work old.defs new.defs (touched_place (bound_of old.defs stmt))
+abbrev pub LeavesOthers : Shape → Stmt → HeldPages → HeldPages → Type 0
+LeavesOthers shape Rollback old new = Unit {0}
+LeavesOthers shape stmt old new = KeepsOthers shape old.work new.work old.defs new.defs (touched_place (bound_of old.defs stmt))
 
 -- What a statement may do to what is held: it turns whatever session that stands for, rows go where placing says, trees take no
 -- more space than these ask for, and other tables stay, where a refusal changes nothing; or it is refused with 70, where it runs
 -- full and nothing else is said against it, and nothing changes.
-pub data StepsOnPages (ext : Extents) (old : HeldPages) (stmt : Stmt) (outcome : Outcome) (new : HeldPages) : Type 0 where
-  turns : ((session : Session) → StandsForSession ext old session → StandsForTurn ext old stmt (turn session stmt) outcome new) → KeepsBase old new → KeepsWork stmt old new
-      → LeavesOthers ext stmt old new → ((refusal : _) → outcome ≡ said.Refused refusal → new ≡ old)
+pub data StepsOnPages (shape : Shape) (old : HeldPages) (stmt : Stmt) (outcome : Outcome) (new : HeldPages) : Type 0 where
+  turns : ((session : Session) → StandsForSession shape old session → StandsForTurn shape old stmt (turn session stmt) outcome new) → KeepsBase old new → KeepsWork stmt old new
+      → LeavesOthers shape stmt old new → ((refusal : _) → outcome ≡ said.Refused refusal → new ≡ old)
       → ((done : _) → outcome ≡ said.Done done → (place : ℕ) (def : TableDef) → changed_place (bound_of old.defs stmt) ≡ Some place → def_at old.defs place ≡ Some def
-      → PlacesOnPages ext ext old.work new.work def (bound_of old.defs stmt)) → StepsOnPages ext old stmt outcome new
-  full : outcome ≡ said.Refused (refusal_of (FileFull ext.cap)) → new ≡ old → StatementRunsFull ext old.work old.defs (bound_of old.defs stmt)
-      → ((session : Session) → StandsForSession ext old session → faults session.working stmt ≡ []) → StepsOnPages ext old stmt outcome new
+      → PlacesOnPages shape old.work new.work def (bound_of old.defs stmt)) → StepsOnPages shape old stmt outcome new
+  full : outcome ≡ said.Refused (refusal_of (FileFull shape.extents)) → new ≡ old → StatementRunsFull shape old.work old.defs (bound_of old.defs stmt)
+      → ((session : Session) → StandsForSession shape old session → faults session.working stmt ≡ []) → StepsOnPages shape old stmt outcome new
 
 -- ---- which statements there are
 

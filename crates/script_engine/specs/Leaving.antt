@@ -5,7 +5,7 @@ use Rattle.mdc_ast.specs.declared.statement.Stmt.{Stmt}
 use Rattle.statement_meaning.specs.Built.{AreBuiltDefs}
 use Rattle.store_api.specs.Moments.{Outcomes}
 use Rattle.store_api.specs.StoreState.{StoreState}
-use Rattle.extent_map.specs.declared.extents.Extents.{Extents}
+use Rattle.store_api.specs.declared.shape.Shape.{Shape}
 use Rattle.table_trees.specs.ToldPages.{PageList}
 use Rattle.mdc_sound.specs.SoundDatabase.{IsSoundDatabase}
 use Rattle.stored_catalog.specs.StoredDefinitions.{AreStored}
@@ -17,12 +17,12 @@ IsAllCommitted held = held.open_ ≡ false → held.base ≡ held.work
 
 -- What a crash within a statement, or a stop of it, may leave as the pages of the last commit: those before it, or, where it is
 -- committed, those that it makes, which are sound and of built forms.
-pub data MayBeLeft (ext : Extents) (old : HeldPages) (stmt : Stmt) (pages : PageList) : Type 0 where
-  before : pages ≡ old.base → MayBeLeft ext old stmt pages
-  after : (outcome : Outcome) (new : HeldPages) → StepsOnPages ext old stmt outcome new → new.open_ ≡ false → pages ≡ new.base
-      → IsSoundDatabase ext pages → AreStored pages new.defs → AreBuiltDefs new.defs → MayBeLeft ext old stmt pages
+pub data MayBeLeft (shape : Shape) (old : HeldPages) (stmt : Stmt) (pages : PageList) : Type 0 where
+  before : pages ≡ old.base → MayBeLeft shape old stmt pages
+  after : (outcome : Outcome) (new : HeldPages) → StepsOnPages shape old stmt outcome new → new.open_ ≡ false → pages ≡ new.base
+      → IsSoundDatabase shape pages → AreStored pages new.defs → AreBuiltDefs new.defs → MayBeLeft shape old stmt pages
 
 -- the pages to which the file reopens after a crash within a statement, with the bytes told before it, where they are told
-abbrev pub LeftWithin : Extents → HeldPages → Stmt → StoreState → Outcomes
-LeftWithin ext old stmt s left told =
-    ((pages : PageList) × (left ≡ Some pages) × MayBeLeft ext old stmt pages) × IfSome s.told (λ bytes. told ≡ bytes)
+abbrev pub LeftWithin : Shape → HeldPages → Stmt → StoreState → Outcomes
+LeftWithin shape old stmt s left told =
+    ((pages : PageList) × (left ≡ Some pages) × MayBeLeft shape old stmt pages) × IfSome s.told (λ bytes. told ≡ bytes)

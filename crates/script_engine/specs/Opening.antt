@@ -5,15 +5,15 @@ use Rattle.mdc_ast.specs.Definitions.{Definitions}
 use Rattle.statement_meaning.specs.Built.{AreBuiltDefs}
 use Rattle.store_api.specs.Moments.{OnlyBase}
 use Rattle.store_api.specs.declared.pages.Pages.{Ghosts}
-use Rattle.extent_map.specs.declared.extents.Extents.{Extents}
+use Rattle.store_api.specs.declared.shape.Shape.{Shape}
 use Rattle.mdc_sound.specs.SoundDatabase.{IsSoundDatabase}
 use Rattle.mdc_sound.specs.StandingTable.{pages_of}
 use Rattle.stored_catalog.specs.StoredDefinitions.{AreStored}
 
 -- A store tells a sound database of tables of built forms, all of which is committed.
-pub record IsSoundStore {S : Type 0} (g : Ghosts S) (ext : Extents) (s : S) : Type 0 where
+pub record IsSoundStore {S : Type 0} (g : Ghosts S) (shape : Shape) (s : S) : Type 0 where
   pub told : IsTrue (g.state s).is_told
-  pub sound : IsSoundDatabase ext (pages_of g s)
+  pub sound : IsSoundDatabase shape (pages_of g s)
   pub defs : Definitions
   pub stored : AreStored (pages_of g s) defs
   pub valid : AreBuiltDefs defs

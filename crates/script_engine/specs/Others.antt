@@ -7,8 +7,8 @@ use Rattle.mdc_ast.specs.declared.definition.TableDef.{TableDef}
 use Rattle.mdc_ast.specs.Definitions.{Definitions, def_at}
 use Rattle.extent_map.specs.Map.{HoldsMap}
 use Rattle.extent_map.specs.Owners.{owner_of}
-use Rattle.extent_map.specs.declared.extents.Extents.{Extents}
 use Rattle.extent_map.specs.declared.kind.Kind.{Kind}
+use Rattle.store_api.specs.declared.shape.Shape.{Shape}
 use Rattle.extent_map.specs.declared.kind.Kind.TheVariants as kind
 use Rattle.table_trees.specs.SpaceChanges.{MakesChanges}
 use Rattle.table_trees.specs.ToldPages.{PageList, told_pages}
@@ -26,28 +26,28 @@ touched_place (bound.Update place sets pred) = Some place
 touched_place statement = None
 
 -- a table has no block
-pub record HasNoBlock (ext : Extents) (pages : PageList) (def : TableDef) : Type 0 where
+pub record HasNoBlock (shape : Shape) (pages : PageList) (def : TableDef) : Type 0 where
   pub spots : List Spot
-  pub shown : ShowsTableSpots ext pages def spots
+  pub shown : ShowsTableSpots shape pages def spots
   pub none : AllByRecursion (λ spot. own_spot spot ≡ OtherBlock) spots
 
 -- a table came: it has no block, and trees took no more space than making its own asks for
-pub record ComesEmpty (before ext : Extents) (old new : PageList) (def : TableDef) : Type 0 where
-  pub blocks : HasNoBlock ext new def
-  pub makes : MakesChanges before old (creating_changes def) new
+pub record ComesEmpty (shape : Shape) (old new : PageList) (def : TableDef) : Type 0 where
+  pub blocks : HasNoBlock shape new def
+  pub makes : MakesChanges shape old (creating_changes def) new
 
 -- the extents that were blocks of table t are free
-pub record FreesBlocks (before ext : Extents) (old new : PageList) (t : ℕ) : Type 0 where
+pub record FreesBlocks (shape : Shape) (old new : PageList) (t : ℕ) : Type 0 where
   pub owners : List Kind
   pub owners_now : List Kind
-  pub held : HoldsMap told_pages before old owners
-  pub held_now : HoldsMap told_pages ext new owners_now
+  pub held : HoldsMap told_pages shape old owners
+  pub held_now : HoldsMap told_pages shape new owners_now
   pub freed : (e : ℕ) → owner_of owners e ≡ kind.Block t → owner_of owners_now e ≡ kind.Free
 
 -- The tables in all other places have the definitions that they had, and their blocks, each in its state, with its rows in their
 -- slots. One that comes has no block, for the space that its trees ask for, and the blocks of one that goes are free.
-pub record KeepsOthers (before ext : Extents) (old new : PageList) (defs now : Definitions) (place : Option ℕ) : Type 0 where
+pub record KeepsOthers (shape : Shape) (old new : PageList) (defs now : Definitions) (place : Option ℕ) : Type 0 where
   pub each : (t : ℕ) (other : TableDef) → (place ≡ Some t → ⊥) → def_at defs t ≡ Some other
-      → (def_at now t ≡ Some other) × KeepsTableBlocks before ext old new other
-  pub made : (t : ℕ) (def : TableDef) → def_at defs t ≡ None → def_at now t ≡ Some def → ComesEmpty before ext old new def
-  pub gone : (t : ℕ) (def : TableDef) → def_at defs t ≡ Some def → def_at now t ≡ None → FreesBlocks before ext old new t
+      → (def_at now t ≡ Some other) × KeepsTableBlocks shape old new other
+  pub made : (t : ℕ) (def : TableDef) → def_at defs t ≡ None → def_at now t ≡ Some def → ComesEmpty shape old new def
+  pub gone : (t : ℕ) (def : TableDef) → def_at defs t ≡ Some def → def_at now t ≡ None → FreesBlocks shape old new t

@@ -6,8 +6,8 @@ use Rattle.mdc_ast.specs.Definitions.{Definitions, def_at}
 use Rattle.statement_meaning.specs.Built.{are_built}
 use Rattle.store_api.specs.declared.fault.Damage.{Damage}
 use Rattle.store_api.specs.declared.pages.Pages.{Ghosts}
-use Rattle.extent_map.specs.Owners.{AreRightNotes, IsSameShape}
-use Rattle.extent_map.specs.declared.extents.Extents.{Extents}
+use Rattle.store_api.specs.declared.shape.Shape.{Shape}
+use Rattle.extent_map.specs.Owners.{AreRightNotes}
 use Rattle.extent_map.specs.declared.kind.Kind.{Kind}
 use Rattle.mdc_sound.specs.SoundDatabase.{KeepAllRules}
 use Rattle.mdc_sound.specs.SpaceRules.{DatabaseView}
@@ -27,22 +27,22 @@ pub record AreServed (defs : Definitions) : Type 0 where
 pub record IsReady {S : Type 0} (g : Ghosts S) (s : S) (tables : Tables) : Type 0 where
   pub told : IsTrue (g.state s).is_told
   pub view : DatabaseView
-  pub sound : KeepAllRules tables.ext (pages_of g s) view
+  pub sound : KeepAllRules tables.shape (pages_of g s) view
   pub stored : AreStored (pages_of g s) tables.catalog
-  pub notes : AreRightNotes tables.ext view.owners
+  pub notes : AreRightNotes tables.shape tables.notes view.owners
   pub rooms : (table : ℕ) (def : TableDef) → def_at tables.catalog table ≡ Some def
-      → (forests : TableForests) × IsReadyTable g tables.ext (rooms_at tables.rooms table) s def view.owners forests
+      → (forests : TableForests) × IsReadyTable g tables.shape tables.notes (rooms_at tables.rooms table) s def view.owners forests
 
 -- what may be named as damage: the pages weren't ready
 abbrev pub BreaksDatabase : {S : Type 0} → Ghosts S → S → Tables → Damage → Type 0
 BreaksDatabase g s tables damage = IsReady g s tables → ⊥
 
 -- the table wasn't told to stand
-abbrev pub IsNoStandingTable : {S : Type 0} → Ghosts S → Extents → S → TableDef → Damage → Type 0
-IsNoStandingTable g ext s def damage = (owners : List Kind) (forests : TableForests) → StandsTable g ext s def owners forests → ⊥
+abbrev pub IsNoStandingTable : {S : Type 0} → Ghosts S → Shape → S → TableDef → Damage → Type 0
+IsNoStandingTable g shape s def damage = (owners : List Kind) (forests : TableForests) → StandsTable g shape s def owners forests → ⊥
 
 -- A statement left the shape of the database, and definitions of built forms; after a fault they are those that there were.
 pub record KeepsServed {X E : Type 0} (result : Result X E) (old new : Tables) : Type 0 where
-  pub shape : IsSameShape old.ext new.ext
+  pub shape : new.shape ≡ old.shape
   pub served : AreServed new.catalog
   pub kept : OnErr result (new.catalog ≡ old.catalog)

@@ -5,8 +5,8 @@ use Rattle.mdc_ast.specs.ValidDatabase.{AllDefsDiffer}
 use Rattle.store_api.specs.Works.{Steady}
 use Rattle.store_api.specs.declared.fault.Damage.{Damage}
 use Rattle.store_api.specs.declared.pages.Pages.{Ghosts}
-use Rattle.extent_map.specs.Owners.{AreRightNotes, IsSameShape}
-use Rattle.extent_map.specs.declared.extents.Extents.{Extents}
+use Rattle.store_api.specs.declared.shape.Shape.{Shape}
+use Rattle.extent_map.specs.Owners.{AreRightNotes}
 use Rattle.extent_map.specs.declared.kind.Kind.{Kind}
 use Rattle.mdc_sound.specs.SoundDatabase.{IsSoundDatabase}
 use Rattle.stored_catalog.specs.StoredDefinitions.{AreStored, AreWithinLimits}
@@ -22,13 +22,13 @@ pub record Reloads {S : Type 0} (g : Ghosts S) (result : Result Bool EngineStop)
   pub steady : Steady g old new
   pub work : (g.state new).work ≡ (g.state old).base
   pub unmarked : (g.state new).marked ≡ None
-  pub shape : IsSameShape before.ext now.ext
-  pub notes : (owners : List Kind) → AreRightNotes now.ext owners
+  pub shape : now.shape ≡ before.shape
+  pub notes : (owners : List Kind) → AreRightNotes now.shape now.notes owners
   pub rooms : AreForgotten now.rooms
   pub stored : OnOk result (IsTrue (g.state old).is_told → AreStored (g.state old).base now.catalog)
   pub limits : OnOk result (AreWithinLimits now.catalog)
   pub names : OnOk result (AllDefsDiffer now.catalog)
   pub built : IfOk result (λ served. served ≡ are_built now.catalog)
   pub device : CountsFault (IsErrOf result Device) (g.disk_faults old) (g.disk_faults new)
-  pub damaged : (damage : Damage) → result ≡ Err (Damaged damage) → IsTrue (g.state old).is_told → (ext : Extents) → IsSoundDatabase ext (g.state old).base → ⊥
+  pub damaged : (damage : Damage) → result ≡ Err (Damaged damage) → IsTrue (g.state old).is_told → (shape : Shape) → IsSoundDatabase shape (g.state old).base → ⊥
   pub output : IsErrOf result Output → ⊥

@@ -9,8 +9,7 @@ use Rattle.store_api.specs.StoreState.{StoreState}
 use Rattle.store_api.specs.Works.{Rests}
 use Rattle.store_api.specs.declared.fault.Damage.{Damage}
 use Rattle.store_api.specs.declared.pages.Pages.{Ghosts}
-use Rattle.extent_map.specs.Owners.{IsSameShape}
-use Rattle.extent_map.specs.declared.extents.Extents.{Extents}
+use Rattle.store_api.specs.declared.shape.Shape.{Shape}
 use Rattle.table_trees.specs.ToldPages.{PageList}
 use Rattle.mdc_sound.specs.SoundDatabase.{IsSoundDatabase}
 use Rattle.stored_catalog.specs.StoredDefinitions.{AreStored}
@@ -28,21 +27,21 @@ use Rattle.script_engine.specs.declared.stop.EngineStop.TheVariants.{Damaged, De
 
 -- A step where no transaction is open: its pages are sound and committed, and stand for every session that those before stood for,
 -- but for how far the pass is. Definitions, which are of built forms, and settings stay.
-pub record RestsOnce (ext : Extents) (old new : HeldPages) : Type 0 where
+pub record RestsOnce (shape : Shape) (old new : HeldPages) : Type 0 where
   pub was_shut : old.open_ ≡ false
   pub is_shut : new.open_ ≡ false
   pub committed : new.base ≡ new.work
-  pub sound : IsSoundDatabase ext new.work
-  pub stands : (session : Session) → StandsForSession ext old session → StandsForSession ext new (rested session new.pass)
+  pub sound : IsSoundDatabase shape new.work
+  pub stands : (session : Session) → StandsForSession shape old session → StandsForSession shape new (rested session new.pass)
   pub defs : new.defs ≡ old.defs
   pub stored : AreStored new.work new.defs
   pub valid : AreBuiltDefs new.defs
   pub settings : new.settings ≡ old.settings
 
 -- steps, each from where the one before ends, behind which this is held
-pub data RestsOnPages (ext : Extents) : HeldPages → List HeldPages → Type 0 where
-  nothing : {held : HeldPages} → RestsOnPages ext held []
-  one : {held next : HeldPages} {rests : List HeldPages} → RestsOnce ext held next → RestsOnPages ext next rests → RestsOnPages ext held (next ∷ rests)
+pub data RestsOnPages (shape : Shape) : HeldPages → List HeldPages → Type 0 where
+  nothing : {held : HeldPages} → RestsOnPages shape held []
+  one : {held next : HeldPages} {rests : List HeldPages} → RestsOnce shape held next → RestsOnPages shape next rests → RestsOnPages shape held (next ∷ rests)
 
 -- what is held behind the last of them
 abbrev pub held_behind : HeldPages → List HeldPages → HeldPages
@@ -71,7 +70,7 @@ LeftTold s left told = ((pages : PageList) × (left ≡ Some pages)) × IfSome s
 -- A sound engine took such steps: it is sound behind the last, or it stopped, and then the last was perhaps not committed.
 pub record TakesSteps {S : Type 0} (g : Ghosts S) (result : Result (Unit {0}) EngineStop) (old new : Engine S) : Type 0 where
   pub rests : List HeldPages
-  pub steps : RestsOnPages old.tables.ext (held_by g old) rests
+  pub steps : RestsOnPages old.tables.shape (held_by g old) rests
   pub last : OnOk result ((held_by g new ≡ held_behind (held_by g old) rests) × IsReadyEngine g new)
   pub base : IsBaseWithin (held_by g old) rests (g.state new.store).base
   pub time : OverTime g.clock g.left (LeftResting (held_by g old) rests (g.state old.store)) old.store new.store
@@ -92,10 +91,10 @@ pub record Settles {S : Type 0} (g : Ghosts S) (result : Result (Unit {0}) Engin
   pub keeps : OnOk result (IsAllCommitted (held_by g old) → IsAllCommitted (held_by g new))
   pub opens : new.is_open ≡ old.is_open
   pub damaged : (damage : Damage) → result ≡ Err (Damaged damage) → IsReadyEngine g old → ⊥
-  pub exact : NamesExactly g old.tables.ext result new.store
+  pub exact : NamesExactly g old.tables.shape result new.store
   pub going : (damage : Damage) → result ≡ Err (Damaged damage) → (g.state new.store).ended ≡ false
   pub committed : (damage : Damage) → result ≡ Err (Damaged damage) → IsAllCommitted (held_by g old) → HoldsCommitted g new
-  pub shape : IsSameShape old.tables.ext new.tables.ext
+  pub shape : new.tables.shape ≡ old.tables.shape
   pub device : CountsFault (IsErrOf result Device) (g.disk_faults old.store) (g.disk_faults new.store)
   pub output : IsErrOf result Output → ⊥
   pub say_faults : g.say_faults new.store ≡ g.say_faults old.store

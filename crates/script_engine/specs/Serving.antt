@@ -33,7 +33,7 @@ pub record IsReadyEngine {S : Type 0} (g : Ghosts S) (engine : Engine S) : Type 
   pub served : engine.served ≡ true
   pub work : IsReady g engine.store engine.tables
   pub base_view : DatabaseView
-  pub base_sound : KeepAllRules engine.tables.ext (g.state engine.store).base base_view
+  pub base_sound : KeepAllRules engine.tables.shape (g.state engine.store).base base_view
   pub base_defs : Definitions
   pub base_stored : AreStored (g.state engine.store).base base_defs
   pub base_valid : AreBuiltDefs base_defs

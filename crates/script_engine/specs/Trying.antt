@@ -14,8 +14,8 @@ use Rattle.mdc_ast.specs.Definitions.{Definitions, def_named}
 use Rattle.store_api.specs.Works.{Steady}
 use Rattle.store_api.specs.declared.fault.Damage.{Damage}
 use Rattle.store_api.specs.declared.pages.Pages.{Ghosts}
-use Rattle.extent_map.specs.Owners.{AreRightNotes, IsSameShape}
-use Rattle.extent_map.specs.declared.extents.Extents.{Extents}
+use Rattle.store_api.specs.declared.shape.Shape.{Shape}
+use Rattle.extent_map.specs.Owners.{AreRightNotes}
 use Rattle.extent_map.specs.declared.kind.Kind.{Kind}
 use Rattle.table_trees.specs.ToldPages.{PageList}
 use Rattle.mdc_sound.specs.SoundDatabase.{IsSoundDatabase}
@@ -34,9 +34,9 @@ use Rattle.script_engine.specs.declared.tables.Tables.{Tables}
 
 -- a statement that runs full, against which nothing else is said, was refused with 70, and left all as it was
 pub record IsRefusedFull {S : Type 0} (g : Ghosts S) (old new : S) (before now : Tables) (stmt : Stmt) (outcome : Outcome) : Type 0 where
-  pub says : outcome ≡ said.Refused (refusal_of (FileFull before.ext.cap))
+  pub says : outcome ≡ said.Refused (refusal_of (FileFull before.shape.extents))
   pub leaves : LeavesAll g old new before now
-  pub full : StepRunsFull before.ext (pages_of g old) before.catalog stmt
+  pub full : StepRunsFull before.shape (pages_of g old) before.catalog stmt
   pub ready : IsReady g new now
 
 -- where damage is named, all is as it was, and no mark is open
@@ -50,12 +50,12 @@ pub record TriesStep {S : Type 0} (g : Ghosts S) (stmt : Stmt) (result : Result 
   pub steady : Steady g old new
   pub unmarked : OnOk result ((g.state new).marked ≡ None)
   pub served : OnOk result (AreServed now.catalog)
-  pub shape : IsSameShape before.ext now.ext
+  pub shape : now.shape ≡ before.shape
   pub back : (damage : Damage) → result ≡ Err (Damaged damage) → GoesBack g old new before now
   pub does : IfOk result (λ outcome. IsReady g old before → DoesStep g old new before now stmt outcome ⊎ IsRefusedFull g old new before now stmt outcome)
   pub refused : (refusal : Refusal) → result ≡ Ok (said.Refused refusal) → LeavesAll g old new before now
   pub reads : OnOk result (is_reading stmt ≡ true → pages_of g new ≡ pages_of g old)
-  pub fetches : OnOk result (IsReady g old before → FetchesForQuery g before.ext old new before.catalog (bound_of before.catalog stmt))
+  pub fetches : OnOk result (IsReady g old before → FetchesForQuery g before.shape old new before.catalog (bound_of before.catalog stmt))
   pub device : CountsFault (IsErrOf result Device) (g.disk_faults old) (g.disk_faults new)
   pub damaged : (damage : Damage) → result ≡ Err (Damaged damage) → IsReady g old before → ⊥
   pub output : IsErrOf result Output → ⊥
@@ -65,7 +65,7 @@ pub record TriesAnew {S : Type 0} (g : Ghosts S) (stmt : Stmt) (result : Result 
   pub steady : Steady g old new
   pub unmarked : OnOk result ((g.state new).marked ≡ None)
   pub served : OnOk result (AreServed now.catalog)
-  pub shape : IsSameShape before.ext now.ext
+  pub shape : now.shape ≡ before.shape
   pub back : (damage : Damage) → result ≡ Err (Damaged damage) → GoesBack g old new before now
   pub refused : (refusal : Refusal) → result ≡ Ok (said.Refused refusal) → LeavesAll g old new before now
   pub reads : OnOk result (is_reading stmt ≡ true → pages_of g new ≡ pages_of g old)
@@ -73,10 +73,10 @@ pub record TriesAnew {S : Type 0} (g : Ghosts S) (stmt : Stmt) (result : Result 
   pub output : IsErrOf result Output → ⊥
 
 -- What is kept of the pages was read from them anew: the catalog of their table pages, for a database of this shape, and no notes.
-pub record AreReadAnew {S : Type 0} (g : Ghosts S) (s : S) (ext : Extents) (read : Tables) : Type 0 where
+pub record AreReadAnew {S : Type 0} (g : Ghosts S) (s : S) (given : Shape) (read : Tables) : Type 0 where
   pub stored : AreStored (pages_of g s) read.catalog
-  pub shape : IsSameShape ext read.ext
-  pub notes : (owners : List Kind) → AreRightNotes read.ext owners
+  pub shape : read.shape ≡ given
+  pub notes : (owners : List Kind) → AreRightNotes read.shape read.notes owners
   pub rooms : AreForgotten read.rooms
 
 -- A statement did its step by what was read, or was refused with 70. One that is done leaves what the step made of it.
@@ -89,20 +89,20 @@ pub record DoesAnew {S : Type 0} (g : Ghosts S) (stmt : Stmt) (outcome : Outcome
 -- isn't built, and does its step where none is.
 pub record AnswersAnew {S : Type 0} (g : Ghosts S) (stmt : Stmt) (outcome : Outcome) (old new : S) (before now : Tables) : Type 0 where
   pub read : Tables
-  pub is_read : AreReadAnew g old before.ext read
+  pub is_read : AreReadAnew g old before.shape read
   pub unbuilt : are_built read.catalog ≡ false → outcome ≡ said.Refused (refusal_of NotBuilt)
   pub does : are_built read.catalog ≡ true → DoesAnew g stmt outcome old new read now
 
 -- where the pages are told and sound, an answer is one by what was read of them anew
 abbrev pub AnswersBySoundPages : {S : Type 0} → Ghosts S → Stmt → Result Outcome EngineStop → S → S → Tables → Tables → Type 0
 AnswersBySoundPages g stmt result old new before now =
-    IfOk result (λ outcome. IsTrue (g.state old).is_told → IsSoundDatabase before.ext (pages_of g old) → AnswersAnew g stmt outcome old new before now)
+    IfOk result (λ outcome. IsTrue (g.state old).is_told → IsSoundDatabase before.shape (pages_of g old) → AnswersAnew g stmt outcome old new before now)
 
 -- LIST BLOCKS was tried once more, by the catalog of the pages themselves: pages were read alone, and the catalog is as it was.
 pub record ListsAnew {S : Type 0} (g : Ghosts S) (result : Result Outcome EngineStop) (old new : S) (before now : Tables) : Type 0 where
   pub reads : OnlyReads g old new
   pub catalog : now.catalog ≡ before.catalog
-  pub shape : IsSameShape before.ext now.ext
+  pub shape : now.shape ≡ before.shape
   pub device : CountsFault (IsErrOf result Device) (g.disk_faults old) (g.disk_faults new)
   pub output : IsErrOf result Output → ⊥
 

@@ -14,7 +14,6 @@ use Rattle.store_api.specs.Moments.{BaseOrNow}
 use Rattle.store_api.specs.Works.{Rests}
 use Rattle.store_api.specs.declared.fault.Damage.{Damage}
 use Rattle.store_api.specs.declared.pages.Pages.{Ghosts}
-use Rattle.extent_map.specs.Owners.{IsSameShape}
 use Rattle.script_engine.specs.Breaking.{NamesExactly, StaysAtDamage}
 use Rattle.script_engine.specs.Fetching.{FetchesForListing, FetchesForQuery}
 use Rattle.script_engine.specs.Held.{KeepsBase, KeepsWork, StepsOnPages}
@@ -75,27 +74,27 @@ pub record LeavesOutside {S X : Type 0} (g : Ghosts S) (result : Result X Engine
 
 -- What a statement leaves of the pages of the last commit, in a crash within it and at its end, at a stop too.
 pub record LeavesCommitted {S : Type 0} (g : Ghosts S) (stmt : Stmt) (old new : Engine S) : Type 0 where
-  pub time : OverTime g.clock g.left (LeftWithin old.tables.ext (held_by g old) stmt (g.state old.store)) old.store new.store
-  pub base : MayBeLeft old.tables.ext (held_by g old) stmt (g.state new.store).base
+  pub time : OverTime g.clock g.left (LeftWithin old.tables.shape (held_by g old) stmt (g.state old.store)) old.store new.store
+  pub base : MayBeLeft old.tables.shape (held_by g old) stmt (g.state new.store).base
 
 -- What a statement did to an engine: it steps on sound pages, a refusal changes nothing, no damage is named of sound pages, and
 -- damage that is named is exact. On any pages BEGIN, COMMIT and ROLLBACK do as the transaction's state has it, and what only reads
 -- leaves the pages.
 pub record Executes {S : Type 0} (g : Ghosts S) (stmt : Stmt) (result : Result Outcome EngineStop) (old new : Engine S) : Type 0 where
-  pub steps : IfOk result (λ outcome. IsReadyEngine g old → StepsOnPages old.tables.ext (held_by g old) stmt outcome (held_by g new) × IsReadyEngine g new)
+  pub steps : IfOk result (λ outcome. IsReadyEngine g old → StepsOnPages old.tables.shape (held_by g old) stmt outcome (held_by g new) × IsReadyEngine g new)
   pub may : OnOk result (MayCall g new)
   pub keeps : OnOk result (IsAllCommitted (held_by g old) → KeepsBase (held_by g old) (held_by g new))
   pub keeps_work : OnOk result (KeepsWork stmt (held_by g old) (held_by g new))
   pub controls : IfOk result (AnswersControl (control_of stmt) old.is_open)
   pub built : OnOk result (IsServedByForms old → IsServedByForms new)
   pub leaves : IsReadyEngine g old → LeavesCommitted g stmt old new
-  pub fetches : OnOk result (IsReadyEngine g old → FetchesForQuery g old.tables.ext old.store new.store old.tables.catalog (bound_of old.tables.catalog stmt))
+  pub fetches : OnOk result (IsReadyEngine g old → FetchesForQuery g old.tables.shape old.store new.store old.tables.catalog (bound_of old.tables.catalog stmt))
   pub lists : OnOk result (IsReadyEngine g old → FetchesForListing g old.store new.store old.tables.catalog stmt)
   pub refused : (refusal : Refusal) → result ≡ Ok (said.Refused refusal) → held_by g new ≡ held_by g old
   pub unserved : old.served ≡ false → control_of stmt ≡ control.Other → (outcome : Outcome) → result ≡ Ok outcome → outcome ≡ said.Refused (refusal_of NotBuilt)
   pub damaged : (damage : Damage) → result ≡ Err (Damaged damage) → IsReadyEngine g old → ⊥
   pub opens : OnOk result (new.is_open ≡ opened_by (control_of stmt) old.is_open)
-  pub exact : NamesExactly g old.tables.ext result new.store
+  pub exact : NamesExactly g old.tables.shape result new.store
   pub stays : (damage : Damage) → result ≡ Err (Damaged damage) → StaysAtDamage g old new
-  pub shape : IsSameShape old.tables.ext new.tables.ext
+  pub shape : new.tables.shape ≡ old.tables.shape
   pub outside : LeavesOutside g result old new

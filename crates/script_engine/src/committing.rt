@@ -25,7 +25,7 @@ pub(crate) fn commit_work<S: Store>(tables: &Tables, store: &mut S) -> Result<()
     requires unmarked { (S.state store.old).marked ≡ None }
     ensures commits { CommitsWork S.Pages result store.old store.new }
     ensures rests { Rests S.Pages store.old → Rests S.Pages store.new }
-    ensures exact { NamesExactly S.Pages tables.now.ext result store.new }
+    ensures exact { NamesExactly S.Pages tables.now.shape result store.new }
 {
     check_count(tables, store)?;
     store.prepare()?;
@@ -37,15 +37,15 @@ pub(crate) fn commit_work<S: Store>(tables: &Tables, store: &mut S) -> Result<()
 fn check_count<S: Store>(tables: &Tables, store: &mut S) -> Result<(), EngineStop>
     requires going { (S.state store.old).ended ≡ false }
     ensures counts { CountsPages S.Pages result store.old store.new }
-    ensures exact { NamesExactly S.Pages tables.now.ext result store.new }
+    ensures exact { NamesExactly S.Pages tables.now.shape result store.new }
 {
     let count = store.count();
     if count == 0 {
-        return Err(stop_at(tables.alloc, &tables.ext, store, WRONG_COUNT));
+        return Err(stop_at(tables.alloc, tables.shape, store, WRONG_COUNT));
     }
     store.fetch(0)?;
     if stated_count(store.page()) != count {
-        return Err(stop_at(tables.alloc, &tables.ext, store, WRONG_COUNT));
+        return Err(stop_at(tables.alloc, tables.shape, store, WRONG_COUNT));
     }
     Ok(())
 }

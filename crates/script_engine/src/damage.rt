@@ -13,27 +13,26 @@ use crate::stop::EngineStop;
 use crate::tables::Tables;
 use crate::transactions::try_statement;
 use catalog::Catalog;
-use extent_map::Extents;
 use file_check::{Verdict, check};
 use mdc_ast::{Outcome, Stmt};
 use row_checks::not_built;
 use std::alloc::Global;
 use std::mem;
-use store_api::{Damage, Pages, StoreFault};
+use store_api::{Damage, Pages, Shape, StoreFault};
 use stored_catalog::load_catalog;
 
 /// The stop at damage that was met: the first rule that the pages break, with the lowest page that breaks it. Where they break none,
 /// which of told pages is known otherwise, it is the damage that was met.
 pub(crate) fn stop_at<P: Pages>(
     alloc: Global,
-    ext: &Extents,
+    shape: Shape,
     pages: &mut P,
     met: Damage,
 ) -> EngineStop
     requires going { (P.state pages.old).ended ≡ false }
-    ensures judges { JudgesDamage P.Pages ext.now result pages.old pages.new }
+    ensures judges { JudgesDamage P.Pages shape result pages.old pages.new }
 {
-    match check(alloc, ext, pages) {
+    match check(alloc, shape, pages) {
         Ok(Verdict::Broken(damage)) => EngineStop::Damaged(damage),
         Ok(Verdict::Sound) => EngineStop::Damaged(met),
         Err(fault) => EngineStop::from(fault),
@@ -43,15 +42,15 @@ pub(crate) fn stop_at<P: Pages>(
 /// The catalog of the table pages.
 pub(crate) fn load_exactly<P: Pages>(
     alloc: Global,
-    ext: &Extents,
+    shape: Shape,
     pages: &mut P,
 ) -> Result<Catalog, EngineStop>
     requires going { (P.state pages.old).ended ≡ false }
-    ensures loads { LoadsExactly P.Pages ext.now result pages.old pages.new }
+    ensures loads { LoadsExactly P.Pages shape result pages.old pages.new }
 {
     match load_catalog(alloc, pages) {
         Ok(catalog) => Ok(catalog),
-        Err(StoreFault::Damaged(met)) => Err(stop_at(alloc, ext, pages, met)),
+        Err(StoreFault::Damaged(met)) => Err(stop_at(alloc, shape, pages, met)),
         Err(StoreFault::Device) => Err(EngineStop::Device),
         Err(StoreFault::Memory) => Err(EngineStop::Memory),
     }
@@ -69,7 +68,7 @@ pub(crate) fn try_exactly<P: Pages>(
     requires going { (P.state pages.old).ended ≡ false }
     requires unmarked { (P.state pages.old).marked ≡ None }
     ensures tries { TriesStep P.Pages stmt.now result pages.old pages.new tables.old tables.new }
-    ensures exact { NamesExactly P.Pages tables.old.ext result pages.new }
+    ensures exact { NamesExactly P.Pages tables.old.shape result pages.new }
 {
     match try_statement(tables, pages, stmt) {
         Err(EngineStop::Damaged(_)) => try_again(tables, pages, stmt),
@@ -89,9 +88,9 @@ fn try_again<P: Pages>(
     requires unmarked { (P.state pages.old).marked ≡ None }
     ensures tries { TriesAnew P.Pages stmt.now result pages.old pages.new tables.old tables.new }
     ensures answers { AnswersBySoundPages P.Pages stmt.now result pages.old pages.new tables.old tables.new }
-    ensures exact { NamesExactly P.Pages tables.old.ext result pages.new }
+    ensures exact { NamesExactly P.Pages tables.old.shape result pages.new }
 {
-    match check(tables.alloc, &tables.ext, pages)? {
+    match check(tables.alloc, tables.shape, pages)? {
         Verdict::Broken(damage) => Err(EngineStop::Damaged(damage)),
         Verdict::Sound => try_reloaded(tables, pages, stmt),
     }
@@ -109,7 +108,7 @@ fn try_reloaded<P: Pages>(
     requires unmarked { (P.state pages.old).marked ≡ None }
     ensures tries { TriesAnew P.Pages stmt.now result pages.old pages.new tables.old tables.new }
     ensures answers { AnswersBySoundPages P.Pages stmt.now result pages.old pages.new tables.old tables.new }
-    ensures unbroken { (damage : Damage) → result ≡ Err (stop.Damaged damage) → IsTrue (P.state pages.old).is_told → IsSoundDatabase tables.old.ext (P.state pages.old).work → ⊥ }
+    ensures unbroken { (damage : Damage) → result ≡ Err (stop.Damaged damage) → IsTrue (P.state pages.old).is_told → IsSoundDatabase tables.old.shape (P.state pages.old).work → ⊥ }
 {
     let catalog = load_catalog(tables.alloc, pages)?;
     tables.forget();

@@ -31,13 +31,20 @@ pub fn create<P: Pages>(
     requires going { (P.state pages.old).ended ≡ false }
     ensures does { IfOk result (λ outcome. IsReady P.Pages pages.old tables.old → DoesStatement P.Pages pages.old pages.new tables.old tables.new (bound.CreateTable def) outcome) }
     ensures done { (refusal : Refusal) → result ≡ Ok (Outcome.Refused refusal) → ⊥ }
-    ensures full { IfErr result (λ fault. IfFull fault (λ cap. (cap ≡ tables.old.ext.cap)
-        × (IsReady P.Pages pages.old tables.old → RunsFullAlone tables.old.ext (pages_of P.Pages pages.old) tables.old.catalog (bound.CreateTable def)))) }
+    ensures full { IfErr result (λ fault. IfFull fault (λ cap. (cap ≡ tables.old.shape.extents)
+        × (IsReady P.Pages pages.old tables.old → RunsFullAlone tables.old.shape (pages_of P.Pages pages.old) tables.old.catalog (bound.CreateTable def)))) }
     ensures keeps { KeepsServed result tables.old tables.new }
     ensures runs { RunsOverPages P.Pages AnyPage AnyPage (BreaksDatabase P.Pages pages.old tables.old) pages.old pages.new (store_fault_in store_part_of result) }
 {
     let alloc = tables.alloc;
-    let place = add_table(alloc, &mut tables.catalog, &mut tables.ext, pages, def)?;
+    let place = add_table(
+        alloc,
+        &mut tables.catalog,
+        tables.shape,
+        &mut tables.notes,
+        pages,
+        def,
+    )?;
     // What is noted of a table that was in this place before isn't right for this one.
     tables.rooms.forget_table(place);
     Ok(Outcome::Done(Reply::Done))
@@ -58,6 +65,13 @@ pub fn remove<P: Pages>(
     ensures runs { RunsOverPages P.Pages AnyPage AnyPage (BreaksDatabase P.Pages pages.old tables.old) pages.old pages.new (fault_of result) }
 {
     let alloc = tables.alloc;
-    drop_table(alloc, &mut tables.catalog, &mut tables.ext, pages, table)?;
+    drop_table(
+        alloc,
+        &mut tables.catalog,
+        tables.shape,
+        &mut tables.notes,
+        pages,
+        table,
+    )?;
     Ok(Outcome::Done(Reply::Done))
 }

@@ -7,7 +7,6 @@ ghost use Rattle.mdc_ast.specs.declared.reply.Reply.TheVariants as reply;
 ghost use Rattle.mdc_ast.specs.Definitions.{def_at};
 ghost use Rattle.store_api.specs.Causes.{fault_of};
 ghost use Rattle.store_api.specs.RunsOverPages.{RunsOverPages};
-ghost use Rattle.extent_map.specs.Owners.{IsSameShape};
 ghost use Rattle.row_checks.specs.Served.{IsDefined, MayJudge};
 ghost use Rattle.statement_rows.specs.RowsOfStatement.{AnyPage};
 ghost use Rattle.script_engine.specs.Doing.{DoesStatement};
@@ -51,18 +50,19 @@ fn delete_found<P: Pages>(
     ensures does { IfOk result (λ count. IsReady P.Pages pages.old tables.old
         → DoesStatement P.Pages pages.old pages.new tables.old tables.new (bound.Delete table pred.now) (said.Done (reply.Deleted count))) }
     ensures catalog { tables.new.catalog ≡ tables.old.catalog }
-    ensures shape { IsSameShape tables.old.ext tables.new.ext }
+    ensures shape { tables.new.shape ≡ tables.old.shape }
     ensures runs { RunsOverPages P.Pages AnyPage AnyPage (BreaksDatabase P.Pages pages.old tables.old) pages.old pages.new (fault_of result) }
 {
     let rooms = &mut tables.rooms.by_table[table as usize];
     let Some(def) = tables.catalog.def(table) else {
         unreachable!()
     };
-    let hits = find_rows(tables.alloc, def, &tables.ext, pages, pred)?;
+    let hits = find_rows(tables.alloc, def, tables.shape, pages, pred)?;
     delete_rows(
         tables.alloc,
         def,
-        &mut tables.ext,
+        tables.shape,
+        &mut tables.notes,
         rooms,
         pages,
         hits.as_slice(),

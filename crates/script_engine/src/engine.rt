@@ -9,7 +9,6 @@ ghost use Rattle.store_api.specs.Calls.{Tells, TellsPart};
 ghost use Rattle.store_api.specs.Moments.{BaseOrNow, BaseWithFront};
 ghost use Rattle.store_api.specs.Works.{Rests};
 ghost use Rattle.store_api.specs.declared.fault.Damage.{Damage};
-ghost use Rattle.extent_map.specs.Owners.{IsSameShape};
 ghost use Rattle.mdc_sound.specs.Breaks.{IsFirstBreak};
 ghost use Rattle.script_engine.specs.Breaking.{StaysAtDamage};
 ghost use Rattle.script_engine.specs.Fetching.{FetchesForListing, FetchesForQuery};
@@ -58,29 +57,29 @@ impl<S: Store> Engine<S> {
     pub fn execute(&mut self, stmt: &Stmt) -> Result<Outcome, EngineStop>
         requires may { MayCall S.Pages self.old }
         requires written { IsWritten stmt.now }
-        ensures steps { IfOk result (λ outcome. IsReadyEngine S.Pages self.old → StepsOnPages self.old.tables.ext (held_by S.Pages self.old) stmt.now outcome (held_by S.Pages self.new) × IsReadyEngine S.Pages self.new) }
+        ensures steps { IfOk result (λ outcome. IsReadyEngine S.Pages self.old → StepsOnPages self.old.tables.shape (held_by S.Pages self.old) stmt.now outcome (held_by S.Pages self.new) × IsReadyEngine S.Pages self.new) }
         ensures may { OnOk result (MayCall S.Pages self.new) }
         ensures keeps_work { OnOk result (KeepsWork stmt.now (held_by S.Pages self.old) (held_by S.Pages self.new)) }
         ensures controls { IfOk result (AnswersControl (control_of stmt.now) self.old.is_open) }
         ensures built { OnOk result (IsServedByForms self.old → IsServedByForms self.new) }
         ensures commits { OnOk result (IsAllCommitted (held_by S.Pages self.old) → KeepsBase (held_by S.Pages self.old) (held_by S.Pages self.new)) }
-        ensures left { IsReadyEngine S.Pages self.old → OverTime S.clock S.left (LeftWithin self.old.tables.ext (held_by S.Pages self.old) stmt.now (S.state self.old.store)) self.old.store self.new.store }
-        ensures base { IsReadyEngine S.Pages self.old → MayBeLeft self.old.tables.ext (held_by S.Pages self.old) stmt.now (S.state self.new.store).base }
-        ensures fetches { OnOk result (IsReadyEngine S.Pages self.old → FetchesForQuery S.Pages self.old.tables.ext self.old.store self.new.store self.old.tables.catalog (bound_of self.old.tables.catalog stmt.now)) }
+        ensures left { IsReadyEngine S.Pages self.old → OverTime S.clock S.left (LeftWithin self.old.tables.shape (held_by S.Pages self.old) stmt.now (S.state self.old.store)) self.old.store self.new.store }
+        ensures base { IsReadyEngine S.Pages self.old → MayBeLeft self.old.tables.shape (held_by S.Pages self.old) stmt.now (S.state self.new.store).base }
+        ensures fetches { OnOk result (IsReadyEngine S.Pages self.old → FetchesForQuery S.Pages self.old.tables.shape self.old.store self.new.store self.old.tables.catalog (bound_of self.old.tables.catalog stmt.now)) }
         ensures lists { OnOk result (IsReadyEngine S.Pages self.old → FetchesForListing S.Pages self.old.store self.new.store self.old.tables.catalog stmt.now) }
         ensures unserved { self.old.served ≡ false → control_of stmt.now ≡ Control.Other → (outcome : Outcome) → result ≡ Ok outcome → outcome ≡ Outcome.Refused (refusal_of NotBuilt) }
         ensures refused { (refusal : Refusal) → result ≡ Ok (Outcome.Refused refusal) → held_by S.Pages self.new ≡ held_by S.Pages self.old }
         ensures opens { OnOk result (self.new.is_open ≡ opened_by (control_of stmt.now) self.old.is_open) }
         ensures device { CountsFault (IsErrOf result EngineStop.Device) (S.disk_faults self.old.store) (S.disk_faults self.new.store) }
         ensures damaged { (damage : Damage) → result ≡ Err (EngineStop.Damaged damage) → IsReadyEngine S.Pages self.old → ⊥ }
-        ensures breaks { (damage : Damage) → result ≡ Err (EngineStop.Damaged damage) → IsTrue (S.state self.old.store).is_told → IsFirstBreak self.old.tables.ext (S.state self.new.store).work damage.rule damage.page }
+        ensures breaks { (damage : Damage) → result ≡ Err (EngineStop.Damaged damage) → IsTrue (S.state self.old.store).is_told → IsFirstBreak self.old.tables.shape (S.state self.new.store).work damage.rule damage.page }
         ensures stays { (damage : Damage) → result ≡ Err (EngineStop.Damaged damage) → StaysAtDamage S.Pages self.old self.new }
         ensures output { IsErrOf result EngineStop.Output → ⊥ }
         ensures say_faults { S.say_faults self.new.store ≡ S.say_faults self.old.store }
         ensures is_told { (S.state self.new.store).is_told ≡ (S.state self.old.store).is_told }
         ensures told { (S.state self.new.store).told ≡ (S.state self.old.store).told }
         ensures beside { (S.state self.new.store).beside ≡ (S.state self.old.store).beside }
-        ensures shape { IsSameShape self.old.tables.ext self.new.tables.ext }
+        ensures shape { self.new.tables.shape ≡ self.old.tables.shape }
         ensures time { OverTime S.clock S.left (BaseOrNow (S.state self.old.store) (S.state self.new.store)) self.old.store self.new.store }
         ensures rests { Rests S.Pages self.old.store → Rests S.Pages self.new.store }
     {

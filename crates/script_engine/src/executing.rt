@@ -41,10 +41,10 @@ pub fn execute<P: Pages>(
     requires going { (P.state pages.old).ended ≡ false }
     ensures does { IfOk result (λ outcome. IsReady P.Pages pages.old tables.old → DoesStep P.Pages pages.old pages.new tables.old tables.new stmt.now outcome) }
     ensures refused { (refusal : Refusal) → result ≡ Ok (Outcome.Refused refusal) → LeavesAll P.Pages pages.old pages.new tables.old tables.new }
-    ensures full { IfErr result (λ fault. IfFull fault (λ cap. (cap ≡ tables.old.ext.cap)
-        × (IsReady P.Pages pages.old tables.old → StepRunsFull tables.old.ext (pages_of P.Pages pages.old) tables.old.catalog stmt.now))) }
+    ensures full { IfErr result (λ fault. IfFull fault (λ cap. (cap ≡ tables.old.shape.extents)
+        × (IsReady P.Pages pages.old tables.old → StepRunsFull tables.old.shape (pages_of P.Pages pages.old) tables.old.catalog stmt.now))) }
     ensures reads { is_reading stmt.now ≡ true → (P.state pages.new).work ≡ (P.state pages.old).work }
-    ensures fetches { FetchesForQuery P.Pages tables.old.ext pages.old pages.new tables.old.catalog (bound_of tables.old.catalog stmt.now) }
+    ensures fetches { FetchesForQuery P.Pages tables.old.shape pages.old pages.new tables.old.catalog (bound_of tables.old.catalog stmt.now) }
     ensures keeps { KeepsServed result tables.old tables.new }
     ensures runs { RunsOverPages P.Pages AnyPage AnyPage (BreaksDatabase P.Pages pages.old tables.old) pages.old pages.new (store_fault_in store_part_of result) }
 {
@@ -86,10 +86,10 @@ fn execute_any<P: Pages>(
     requires going { (P.state pages.old).ended ≡ false }
     ensures does { IfOk result (λ outcome. IsReady P.Pages pages.old tables.old → DoesStep P.Pages pages.old pages.new tables.old tables.new stmt.now outcome) }
     ensures refused { (refusal : Refusal) → result ≡ Ok (Outcome.Refused refusal) → LeavesAll P.Pages pages.old pages.new tables.old tables.new }
-    ensures full { IfErr result (λ fault. IfFull fault (λ cap. (cap ≡ tables.old.ext.cap)
-        × (IsReady P.Pages pages.old tables.old → StepRunsFull tables.old.ext (pages_of P.Pages pages.old) tables.old.catalog stmt.now))) }
+    ensures full { IfErr result (λ fault. IfFull fault (λ cap. (cap ≡ tables.old.shape.extents)
+        × (IsReady P.Pages pages.old tables.old → StepRunsFull tables.old.shape (pages_of P.Pages pages.old) tables.old.catalog stmt.now))) }
     ensures reads { is_reading stmt.now ≡ true → (P.state pages.new).work ≡ (P.state pages.old).work }
-    ensures fetches { FetchesForQuery P.Pages tables.old.ext pages.old pages.new tables.old.catalog (bound_of tables.old.catalog stmt.now) }
+    ensures fetches { FetchesForQuery P.Pages tables.old.shape pages.old pages.new tables.old.catalog (bound_of tables.old.catalog stmt.now) }
     ensures keeps { KeepsServed result tables.old tables.new }
     ensures runs { RunsOverPages P.Pages AnyPage AnyPage (BreaksDatabase P.Pages pages.old tables.old) pages.old pages.new (store_fault_in store_part_of result) }
 {
@@ -114,10 +114,10 @@ fn carry_out<P: Pages>(
     requires going { (P.state pages.old).ended ≡ false }
     ensures does { IfOk result (λ outcome. IsReady P.Pages pages.old tables.old → DoesStatement P.Pages pages.old pages.new tables.old tables.new bound outcome) }
     ensures refused { (refusal : Refusal) → result ≡ Ok (Outcome.Refused refusal) → LeavesAll P.Pages pages.old pages.new tables.old tables.new }
-    ensures full { IfErr result (λ fault. IfFull fault (λ cap. (cap ≡ tables.old.ext.cap)
-        × (IsReady P.Pages pages.old tables.old → RunsFullAlone tables.old.ext (pages_of P.Pages pages.old) tables.old.catalog bound))) }
+    ensures full { IfErr result (λ fault. IfFull fault (λ cap. (cap ≡ tables.old.shape.extents)
+        × (IsReady P.Pages pages.old tables.old → RunsFullAlone tables.old.shape (pages_of P.Pages pages.old) tables.old.catalog bound))) }
     ensures reads { is_query bound ≡ true → (P.state pages.new).work ≡ (P.state pages.old).work }
-    ensures fetches { FetchesForQuery P.Pages tables.old.ext pages.old pages.new tables.old.catalog bound }
+    ensures fetches { FetchesForQuery P.Pages tables.old.shape pages.old pages.new tables.old.catalog bound }
     ensures keeps { KeepsServed result tables.old tables.new }
     ensures runs { RunsOverPages P.Pages AnyPage AnyPage (BreaksDatabase P.Pages pages.old tables.old) pages.old pages.new (store_fault_in store_part_of result) }
 {

@@ -9,7 +9,6 @@ ghost use Rattle.mdc_ast.specs.Database.{appended, numbered};
 ghost use Rattle.store_api.specs.Causes.{store_fault_in};
 ghost use Rattle.store_api.specs.RunsOverPages.{RunsOverPages};
 ghost use Rattle.extent_map.specs.Damages.{IfFull, store_part_of};
-ghost use Rattle.extent_map.specs.Owners.{IsSameShape};
 ghost use Rattle.extent_map.specs.declared.kind.Kind.{Kind};
 ghost use Rattle.mdc_sound.specs.Placing.{block_slot_count};
 ghost use Rattle.mdc_sound.specs.RunningFull.{InsertRunsFull};
@@ -45,8 +44,8 @@ pub fn insert<P: Pages>(
     requires going { (P.state pages.old).ended ≡ false }
     ensures does { IfOk result (λ outcome. IsReady P.Pages pages.old tables.old → DoesStatement P.Pages pages.old pages.new tables.old tables.new (bound.Insert table tuples) outcome) }
     ensures refused { (refusal : Refusal) → result ≡ Ok (Outcome.Refused refusal) → LeavesAll P.Pages pages.old pages.new tables.old tables.new }
-    ensures full { IfErr result (λ fault. IfFull fault (λ cap. (cap ≡ tables.old.ext.cap)
-        × (IsReady P.Pages pages.old tables.old → RunsFullAlone tables.old.ext (pages_of P.Pages pages.old) tables.old.catalog (bound.Insert table tuples)))) }
+    ensures full { IfErr result (λ fault. IfFull fault (λ cap. (cap ≡ tables.old.shape.extents)
+        × (IsReady P.Pages pages.old tables.old → RunsFullAlone tables.old.shape (pages_of P.Pages pages.old) tables.old.catalog (bound.Insert table tuples)))) }
     ensures keeps { KeepsServed result tables.old tables.new }
     ensures runs { RunsOverPages P.Pages AnyPage AnyPage (BreaksDatabase P.Pages pages.old tables.old) pages.old pages.new (store_fault_in store_part_of result) }
 {
@@ -103,8 +102,8 @@ fn put<P: Pages>(
     requires going { (P.state pages.old).ended ≡ false }
     ensures does { IfOk result (λ outcome. IsReady P.Pages pages.old tables.old → DoesStatement P.Pages pages.old pages.new tables.old tables.new (bound.Insert table tuples) outcome) }
     ensures done { (refusal : Refusal) → result ≡ Ok (Outcome.Refused refusal) → ⊥ }
-    ensures full { IfErr result (λ fault. IfFull fault (λ cap. (cap ≡ tables.old.ext.cap)
-        × (IsReady P.Pages pages.old tables.old → RunsFullAlone tables.old.ext (pages_of P.Pages pages.old) tables.old.catalog (bound.Insert table tuples)))) }
+    ensures full { IfErr result (λ fault. IfFull fault (λ cap. (cap ≡ tables.old.shape.extents)
+        × (IsReady P.Pages pages.old tables.old → RunsFullAlone tables.old.shape (pages_of P.Pages pages.old) tables.old.catalog (bound.Insert table tuples)))) }
     ensures keeps { KeepsServed result tables.old tables.new }
     ensures runs { RunsOverPages P.Pages AnyPage AnyPage (BreaksDatabase P.Pages pages.old tables.old) pages.old pages.new (store_fault_in store_part_of result) }
 {
@@ -131,17 +130,17 @@ fn put_rows<P: Pages>(
     requires unsaid { IfSome (def_at tables.old.catalog table) (λ def. tuple_causes def tuples ≡ []) }
     requires going { (P.state pages.old).ended ≡ false }
     ensures inserts { (def : TableDef) → def_at tables.old.catalog table ≡ Some def
-        → OnOk result ((owners : List Kind) (forests : TableForests) → IsReadyBetween P.Pages tables.old.ext (rooms_at tables.old.rooms table) pages.old def owners forests
-        → ChangesRowsOf P.Pages tables.old.ext tables.new.ext (rooms_at tables.new.rooms table) pages.old pages.new def (numbered_on def (length tuples)) owners forests
-        (λ was space is. PutsRowsBy def (block_slot_count tables.old.ext def) was (numbered def.next tuples) space is) (appended tuples)) }
+        → OnOk result ((owners : List Kind) (forests : TableForests) → IsReadyBetween P.Pages tables.old.shape tables.old.notes (rooms_at tables.old.rooms table) pages.old def owners forests
+        → ChangesRowsOf P.Pages tables.old.shape tables.old.notes tables.new.notes (rooms_at tables.new.rooms table) pages.old pages.new def (numbered_on def (length tuples)) owners forests
+        (λ was space is. PutsRowsBy def (block_slot_count tables.old.shape def) was (numbered def.next tuples) space is) (appended tuples)) }
     ensures numbers { (def : TableDef) → def_at tables.old.catalog table ≡ Some def
         → OnOk result (tables.new.catalog ≡ with_def tables.old.catalog table (numbered_on def (length tuples))) }
     ensures kept { OnErr result (tables.new.catalog ≡ tables.old.catalog) }
     ensures rooms { KeepsOtherRooms tables.old.rooms tables.new.rooms table }
-    ensures full { (def : TableDef) → def_at tables.old.catalog table ≡ Some def → IfErr result (λ fault. IfFull fault (λ cap. (cap ≡ tables.old.ext.cap)
-        × ((owners : List Kind) (forests : TableForests) → IsReadyBetween P.Pages tables.old.ext (rooms_at tables.old.rooms table) pages.old def owners forests
-        → InsertRunsFull tables.old.ext (pages_of P.Pages pages.old) def (numbered def.next tuples)))) }
-    ensures shape { IsSameShape tables.old.ext tables.new.ext }
+    ensures full { (def : TableDef) → def_at tables.old.catalog table ≡ Some def → IfErr result (λ fault. IfFull fault (λ cap. (cap ≡ tables.old.shape.extents)
+        × ((owners : List Kind) (forests : TableForests) → IsReadyBetween P.Pages tables.old.shape tables.old.notes (rooms_at tables.old.rooms table) pages.old def owners forests
+        → InsertRunsFull tables.old.shape (pages_of P.Pages pages.old) def (numbered def.next tuples)))) }
+    ensures shape { tables.new.shape ≡ tables.old.shape }
     ensures runs { RunsOverPages P.Pages AnyPage AnyPage (BreaksDatabase P.Pages pages.old tables.old) pages.old pages.new (store_fault_in store_part_of result) }
 {
     let Some(mut def) = tables.catalog.take(table) else {
@@ -151,7 +150,8 @@ fn put_rows<P: Pages>(
     let result = insert_rows(
         tables.alloc,
         &mut def,
-        &mut tables.ext,
+        tables.shape,
+        &mut tables.notes,
         rooms,
         pages,
         tuples,

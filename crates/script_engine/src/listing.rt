@@ -94,10 +94,10 @@ fn list_again<P: Pages>(
 ) -> Result<Outcome, EngineStop>
     requires going { (P.state pages.old).ended ≡ false }
     ensures lists { ListsAnew P.Pages result pages.old pages.new tables.old tables.new }
-    ensures answers { IfOk result (λ outcome. IsTrue (P.state pages.old).is_told → IsSoundDatabase tables.old.ext (pages_of P.Pages pages.old) → ListsByPages (pages_of P.Pages pages.old) name.now outcome) }
-    ensures exact { NamesExactly P.Pages tables.old.ext result pages.new }
+    ensures answers { IfOk result (λ outcome. IsTrue (P.state pages.old).is_told → IsSoundDatabase tables.old.shape (pages_of P.Pages pages.old) → ListsByPages (pages_of P.Pages pages.old) name.now outcome) }
+    ensures exact { NamesExactly P.Pages tables.old.shape result pages.new }
 {
-    match check(tables.alloc, &tables.ext, pages)? {
+    match check(tables.alloc, tables.shape, pages)? {
         Verdict::Broken(damage) => Err(EngineStop::Damaged(damage)),
         Verdict::Sound => list_reloaded(tables, pages, name),
     }
@@ -111,8 +111,8 @@ fn list_reloaded<P: Pages>(
 ) -> Result<Outcome, EngineStop>
     requires going { (P.state pages.old).ended ≡ false }
     ensures lists { ListsAnew P.Pages result pages.old pages.new tables.old tables.new }
-    ensures answers { IfOk result (λ outcome. IsTrue (P.state pages.old).is_told → IsSoundDatabase tables.old.ext (pages_of P.Pages pages.old) → ListsByPages (pages_of P.Pages pages.old) name.now outcome) }
-    ensures unbroken { (damage : Damage) → result ≡ Err (stop.Damaged damage) → IsTrue (P.state pages.old).is_told → IsSoundDatabase tables.old.ext (P.state pages.old).work → ⊥ }
+    ensures answers { IfOk result (λ outcome. IsTrue (P.state pages.old).is_told → IsSoundDatabase tables.old.shape (pages_of P.Pages pages.old) → ListsByPages (pages_of P.Pages pages.old) name.now outcome) }
+    ensures unbroken { (damage : Damage) → result ≡ Err (stop.Damaged damage) → IsTrue (P.state pages.old).is_told → IsSoundDatabase tables.old.shape (P.state pages.old).work → ⊥ }
 {
     let catalog = load_catalog(tables.alloc, pages)?;
     if !are_served(&catalog) {
@@ -142,7 +142,7 @@ fn list<P: Pages>(tables: &Tables, pages: &mut P, name: &Name) -> Result<Outcome
             Err(_) => Err(StoreFault::Memory),
         };
     };
-    let account = account_of(tables.alloc, def, &tables.ext, pages)?;
+    let account = account_of(tables.alloc, def, tables.shape, pages)?;
     match told(tables.alloc, account) {
         Ok(outcome) => Ok(outcome),
         Err(_) => Err(StoreFault::Memory),

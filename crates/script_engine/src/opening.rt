@@ -4,7 +4,7 @@ ghost use Rattle.std.specs.List.{list_all};
 ghost use Rattle.mdc_words.specs.Faults.{CountsFault};
 ghost use Rattle.store_api.specs.Works.{Rests};
 ghost use Rattle.store_api.specs.declared.fault.Damage.{Damage};
-ghost use Rattle.extent_map.specs.Owners.{AreRightNotes, IsSameShape};
+ghost use Rattle.extent_map.specs.Owners.{AreRightNotes};
 ghost use Rattle.extent_map.specs.declared.kind.Kind.{Kind};
 ghost use Rattle.mdc_sound.specs.SoundDatabase.{IsSoundDatabase};
 ghost use Rattle.stored_catalog.specs.StoredDefinitions.{AreStored, AreWithinLimits};
@@ -22,12 +22,12 @@ use crate::stop::EngineStop;
 use crate::table_rooms::TableRooms;
 use crate::tables::Tables;
 use catalog::Catalog;
-use extent_map::Extents;
+use extent_map::SpaceNotes;
 use mdc_ast::{ColumnDef, TableDef};
 use statement_meaning::{Pass, Settings};
 use std::alloc::Global;
-use store_api::Store;
 use store_api::layout::TABLE_PLACES;
+use store_api::{Shape, Store};
 
 /// Why no engine was opened, and the store.
 #[derive(Drop)]
@@ -39,49 +39,48 @@ pub struct Stopped<S: Store> {
 impl<S: Store> Engine<S> {
     /// An engine on a store, whose extents are of this shape, with the definitions of its table pages. No page is changed. `Damaged`
     /// names the first rule that the pages break, with the lowest page that breaks it.
-    pub fn open(alloc: Global, store: S, ext: Extents) -> Result<Engine<S>, Stopped<S>>
+    pub fn open(alloc: Global, store: S, shape: Shape) -> Result<Engine<S>, Stopped<S>>
         requires going { (S.state store).ended ≡ false }
         requires unmarked { (S.state store).marked ≡ None }
         ensures may { IfOk result (λ engine. MayCall S.Pages engine) }
-        ensures ready { IfOk result (λ engine. IsSoundStore S.Pages ext store → IsReadyEngine S.Pages engine) }
+        ensures ready { IfOk result (λ engine. IsSoundStore S.Pages shape store → IsReadyEngine S.Pages engine) }
         ensures stored { IfOk result (λ engine. IsTrue (S.state store).is_told → AreStored (S.state store).work engine.tables.catalog) }
         ensures built { IfOk result (λ engine. IsServedByForms engine) }
         ensures closed { IfOk result (λ engine. engine.is_open ≡ false) }
         ensures settings { IfOk result (λ engine. engine.settings ≡ first_settings) }
         ensures pass { IfOk result (λ engine. engine.pass ≡ Pass.Idle) }
-        ensures shape { IfOk result (λ engine. IsSameShape ext engine.tables.ext) }
+        ensures shape { IfOk result (λ engine. engine.tables.shape ≡ shape) }
         ensures pages { MatchResult result (λ engine. KeepsPages S.Pages store engine.store) (λ stopped. KeepsPages S.Pages store stopped.store) }
         ensures ended { IfErr result (λ stopped. (S.state stopped.store).ended ≡ (S.state store).ended) }
         ensures disk_faults { IfOk result (λ engine. S.disk_faults engine.store ≡ S.disk_faults store) }
         ensures device { IfErr result (λ stopped. CountsFault (stopped.stop ≡ EngineStop.Device) (S.disk_faults store) (S.disk_faults stopped.store)) }
-        ensures damaged { IfErr result (λ stopped. (damage : Damage) → stopped.stop ≡ EngineStop.Damaged damage → IsTrue (S.state store).is_told → IsSoundDatabase ext (S.state store).work → ⊥) }
-        ensures breaks { IfErr result (λ stopped. (damage : Damage) → stopped.stop ≡ EngineStop.Damaged damage → IsExactDamage S.Pages ext store damage) }
+        ensures damaged { IfErr result (λ stopped. (damage : Damage) → stopped.stop ≡ EngineStop.Damaged damage → IsTrue (S.state store).is_told → IsSoundDatabase shape (S.state store).work → ⊥) }
+        ensures breaks { IfErr result (λ stopped. (damage : Damage) → stopped.stop ≡ EngineStop.Damaged damage → IsExactDamage S.Pages shape store damage) }
         ensures rests { MatchResult result (λ engine. Rests S.Pages store → Rests S.Pages engine.store) (λ stopped. Rests S.Pages store → Rests S.Pages stopped.store) }
         ensures output { IfErr result (λ stopped. stopped.stop ≡ EngineStop.Output → ⊥) }
     {
         let mut store = store;
-        match load_exactly(alloc, &ext, &mut store) {
-            Ok(catalog) => Ok(engine_on(alloc, store, ext, catalog)),
+        match load_exactly(alloc, shape, &mut store) {
+            Ok(catalog) => Ok(engine_on(alloc, store, shape, catalog)),
             Err(stop) => Err(Stopped { stop, store }),
         }
     }
 }
 
 /// An engine on a store whose catalog is this.
-fn engine_on<S: Store>(alloc: Global, store: S, ext: Extents, catalog: Catalog) -> Engine<S>
+fn engine_on<S: Store>(alloc: Global, store: S, shape: Shape, catalog: Catalog) -> Engine<S>
     requires limits { AreWithinLimits catalog }
     ensures is { result ≡ record { store = store; tables = result.tables; served = are_built catalog; is_open = false; settings = first_settings; pass = Pass.Idle } }
     ensures catalog { result.tables.catalog ≡ catalog }
-    ensures shape { IsSameShape ext result.tables.ext }
-    ensures notes { (owners : List Kind) → AreRightNotes result.tables.ext owners }
+    ensures shape { result.tables.shape ≡ shape }
+    ensures notes { (owners : List Kind) → AreRightNotes result.tables.shape result.tables.notes owners }
     ensures rooms { AreForgotten result.tables.rooms }
 {
-    let mut ext = ext;
-    ext.forget();
     let served = are_served(&catalog);
     let tables = Tables {
         alloc,
-        ext,
+        shape,
+        notes: SpaceNotes::new(),
         catalog,
         rooms: TableRooms::new(alloc),
     };

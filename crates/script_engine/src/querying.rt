@@ -29,13 +29,13 @@ pub fn query<P: Pages>(
     requires going { (P.state pages.old).ended ≡ false }
     ensures does { IfOk result (λ outcome. IsReady P.Pages pages.old tables.now → DoesStatement P.Pages pages.old pages.new tables.now tables.now (bound.Query select.now) outcome) }
     ensures same { (P.state pages.new).work ≡ (P.state pages.old).work }
-    ensures fetches { FetchesForQuery P.Pages tables.now.ext pages.old pages.new tables.now.catalog (bound.Query select.now) }
+    ensures fetches { FetchesForQuery P.Pages tables.now.shape pages.old pages.new tables.now.catalog (bound.Query select.now) }
     ensures runs { RunsOverPages P.Pages NoPage AnyPage (BreaksDatabase P.Pages pages.old tables.now) pages.old pages.new (fault_of result) }
 {
     let Some(def) = tables.catalog.def(select.table) else {
         unreachable!()
     };
-    match table_query::answer(tables.alloc, def, &tables.ext, pages, select) {
+    match table_query::answer(tables.alloc, def, tables.shape, pages, select) {
         Ok(lines) => Ok(Outcome::Done(Reply::Lines(lines))),
         Err(QueryFault::Overflow(column)) => Ok(Outcome::Refused(overflow(column))),
         Err(QueryFault::Store(fault)) => Err(fault),

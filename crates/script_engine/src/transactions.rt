@@ -163,11 +163,11 @@ impl<S: Store> Engine<S> {
 fn go_back<S: Store>(tables: &mut Tables, store: &mut S) -> Result<bool, EngineStop>
     requires going { (S.state store.old).ended ≡ false }
     ensures reloads { Reloads S.Pages result store.old store.new tables.old tables.new }
-    ensures exact { NamesExactly S.Pages tables.old.ext result store.new }
+    ensures exact { NamesExactly S.Pages tables.old.shape result store.new }
 {
     store.rollback();
     tables.forget();
-    let catalog = load_exactly(tables.alloc, &tables.ext, store)?;
+    let catalog = load_exactly(tables.alloc, tables.shape, store)?;
     let served = are_served(&catalog);
     tables.catalog = catalog;
     Ok(served)

@@ -29,7 +29,7 @@ ghost use Rattle.script_engine.specs.Doing.{DoesStatement, LeavesAll, RunsFullAl
 ghost use Rattle.script_engine.specs.Ready.{AreServed, BreaksDatabase, IsNoStandingTable, IsReady, KeepsServed};
 
 use crate::tables::Tables;
-use extent_map::{Extents, SpaceFault};
+use extent_map::{SpaceFault, first_page};
 use mdc_ast::{BoundSet, ColumnDef, Outcome, Pred, Reply, Row, TableDef};
 use mdc_table::Hit;
 use mdc_values::{List, Memory};
@@ -38,7 +38,7 @@ use row_fitting::do_fit;
 use statement_rows::{Turned, change_rows};
 use std::alloc::Global;
 use store_api::rules::ROW_PAGES_RULE;
-use store_api::{Damage, Pages, StoreFault};
+use store_api::{Damage, Pages, Shape, StoreFault};
 use table_scan::find_rows;
 
 /// An UPDATE of the rows of a table that qualify. All are judged before one is changed.
@@ -54,8 +54,8 @@ pub fn update<P: Pages>(
     requires going { (P.state pages.old).ended ≡ false }
     ensures does { IfOk result (λ outcome. IsReady P.Pages pages.old tables.old → DoesStatement P.Pages pages.old pages.new tables.old tables.new (bound.Update table sets.now pred.now) outcome) }
     ensures refused { (refusal : Refusal) → result ≡ Ok (Outcome.Refused refusal) → LeavesAll P.Pages pages.old pages.new tables.old tables.new }
-    ensures full { IfErr result (λ fault. IfFull fault (λ cap. (cap ≡ tables.old.ext.cap)
-        × (IsReady P.Pages pages.old tables.old → RunsFullAlone tables.old.ext (pages_of P.Pages pages.old) tables.old.catalog (bound.Update table sets.now pred.now)))) }
+    ensures full { IfErr result (λ fault. IfFull fault (λ cap. (cap ≡ tables.old.shape.extents)
+        × (IsReady P.Pages pages.old tables.old → RunsFullAlone tables.old.shape (pages_of P.Pages pages.old) tables.old.catalog (bound.Update table sets.now pred.now)))) }
     ensures keeps { KeepsServed result tables.old tables.new }
     ensures runs { RunsOverPages P.Pages AnyPage AnyPage (BreaksDatabase P.Pages pages.old tables.old) pages.old pages.new (store_fault_in store_part_of result) }
 {
@@ -63,7 +63,7 @@ pub fn update<P: Pages>(
     let Some(def) = tables.catalog.def(table) else {
         unreachable!()
     };
-    let hits = find_fitting(tables.alloc, def, &tables.ext, pages, pred)?;
+    let hits = find_fitting(tables.alloc, def, tables.shape, pages, pred)?;
     if let Some(misfit) = first_misfit_of_hits(def.columns.as_slice(), sets, hits.as_slice()) {
         return refused(tables.alloc, misfit);
     }
@@ -73,7 +73,8 @@ pub fn update<P: Pages>(
     change_rows(
         tables.alloc,
         def,
-        &mut tables.ext,
+        tables.shape,
+        &mut tables.notes,
         rooms,
         pages,
         turned.as_slice(),
@@ -85,23 +86,23 @@ pub fn update<P: Pages>(
 fn find_fitting<P: Pages>(
     alloc: Global,
     def: &TableDef,
-    ext: &Extents,
+    shape: Shape,
     pages: &mut P,
     pred: &Option<Pred>,
 ) -> Result<Vec<Hit>, StoreFault>
     requires defined { IsTableDef def.now.number def.now }
     requires judged { (row : Row) → HasReadValues def.now.columns row → IsTrue (may_filter pred.now row.values) }
     requires going { (P.state pages.old).ended ≡ false }
-    ensures finds { IfOk result (λ hits. (owners : List Kind) (forests : TableForests) → StandsTable P.Pages ext.now pages.old def.now owners forests
-        → FindsRows P.Pages ext.now pages.old def.now pred.now hits.items forests) }
+    ensures finds { IfOk result (λ hits. (owners : List Kind) (forests : TableForests) → StandsTable P.Pages shape pages.old def.now owners forests
+        → FindsRows P.Pages shape pages.old def.now pred.now hits.items forests) }
     ensures keyed { IfOk result (λ hits. HaveReadValues def.now.columns hits.items) }
     ensures fit { IfOk result (λ hits. IsTrue (list_all (λ hit. fits_all def.now.columns hit.row.values) hits.items)) }
     ensures same { (P.state pages.new).work ≡ (P.state pages.old).work }
-    ensures runs { RunsOverPages P.Pages NoPage AnyPage (IsNoStandingTable P.Pages ext.now pages.old def.now) pages.old pages.new (fault_of result) }
+    ensures runs { RunsOverPages P.Pages NoPage AnyPage (IsNoStandingTable P.Pages shape pages.old def.now) pages.old pages.new (fault_of result) }
 {
-    let hits = find_rows(alloc, def, ext, pages, pred)?;
+    let hits = find_rows(alloc, def, shape, pages, pred)?;
     if let Some(hit) = first_unfit(def.columns.as_slice(), hits.as_slice()) {
-        return Err(StoreFault::Damaged(unfit_row(ext, hit)));
+        return Err(StoreFault::Damaged(unfit_row(shape, hit)));
     }
     Ok(hits)
 }
@@ -119,13 +120,13 @@ fn first_unfit<'h>(columns: &[ColumnDef], hits: &'h [Hit]) -> Option<&'h Hit>
 }
 
 // Damage of the block in which a row doesn't fit: it names the block's first page.
-fn unfit_row(ext: &Extents, hit: &Hit) -> Damage
-    ensures page { hit.now.rid.block < ext.now.cap → result.page ≡ first_page_of ext.now.cap ext.now.extent_pages hit.now.rid.block }
+fn unfit_row(shape: Shape, hit: &Hit) -> Damage
+    ensures page { hit.now.rid.block < shape.extents → result.page ≡ first_page_of shape.extents shape.extent_pages hit.now.rid.block }
     ensures rule { result.rule ≡ 7 }
 {
     let block = hit.rid.block;
-    let page = if block < ext.cap {
-        ext.first_page(block)
+    let page = if block < shape.extents {
+        first_page(shape, block)
     } else {
         0
     };

@@ -19,7 +19,7 @@ use Rattle.store_api.specs.Calls.{TellsPart, continued}
 use Rattle.store_api.specs.Moments.{BaseOrNow}
 use Rattle.store_api.specs.StoreState.{StoreState}
 use Rattle.store_api.specs.declared.pages.Pages.{Ghosts}
-use Rattle.extent_map.specs.declared.extents.Extents.{Extents}
+use Rattle.store_api.specs.declared.shape.Shape.{Shape}
 use Rattle.table_trees.specs.ToldPages.{PageList}
 use Rattle.mdc_sound.specs.SoundDatabase.{IsSoundDatabase}
 use Rattle.mdc_sound.specs.StandsForDatabase.{PagesStandFor}
@@ -38,11 +38,11 @@ use Rattle.script_session.proofs.DamagedLemmas.{breaks_at}
 
 -- the law of the engine: sound pages stand for a database
 abbrev pub SoundPagesStand : Type 0
-SoundPagesStand = (ext : Extents) (pages : PageList) → IsSoundDatabase ext pages → (db : Database) × PagesStandFor ext pages db
+SoundPagesStand = (shape : Shape) (pages : PageList) → IsSoundDatabase shape pages → (db : Database) × PagesStandFor shape pages db
 
 -- BEGIN, COMMIT and ROLLBACK don't run full
-begin_not_full : (ext : Extents) (work : PageList) (defs : Definitions) → StatementRunsFull ext work defs bound.Begin → ⊥
-begin_not_full ext work defs full = elim full [ ]
+begin_not_full : (shape : Shape) (work : PageList) (defs : Definitions) → StatementRunsFull shape work defs bound.Begin → ⊥
+begin_not_full shape work defs full = elim full [ ]
 
 -- a step leaves open what was open
 stepped_open : (session : Session) (end_ : Database × Answer) → (stepped session end_).0.open_ ≡ session.open_
@@ -51,26 +51,26 @@ stepped_open session (db, Refused refusal) = refl
 stepped_open session (db, ToldByPages) = refl
 
 -- so does a statement that runs full
-full_keeps_open : (ext : Extents) (work : PageList) (defs : Definitions) (session : Session) (stmt : Stmt) → StatementRunsFull ext work defs (bound_of defs stmt)
+full_keeps_open : (shape : Shape) (work : PageList) (defs : Definitions) (session : Session) (stmt : Stmt) → StatementRunsFull shape work defs (bound_of defs stmt)
     → (turn session stmt).0.open_ ≡ session.open_
-full_keeps_open ext work defs session statement.Begin full = absurd (begin_not_full ext work defs full)
-full_keeps_open ext work defs session statement.Commit full = absurd (begin_not_full ext work defs full)
-full_keeps_open ext work defs session statement.Rollback full = absurd (begin_not_full ext work defs full)
-full_keeps_open ext work defs session (statement.ListBlocks name) full = refl
-full_keeps_open ext work defs session stmt full = stepped_open session (step session.working stmt)
+full_keeps_open shape work defs session statement.Begin full = absurd (begin_not_full shape work defs full)
+full_keeps_open shape work defs session statement.Commit full = absurd (begin_not_full shape work defs full)
+full_keeps_open shape work defs session statement.Rollback full = absurd (begin_not_full shape work defs full)
+full_keeps_open shape work defs session (statement.ListBlocks name) full = refl
+full_keeps_open shape work defs session stmt full = stepped_open session (step session.working stmt)
 
 -- a step leaves a transaction open where the turn of a session does that the pages stand for
-open_after : (ext : Extents) (old new : HeldPages) (stmt : Stmt) (outcome : Outcome) (session : Session) → StandsForSession ext old session → StepsOnPages ext old stmt outcome new
+open_after : (shape : Shape) (old new : HeldPages) (stmt : Stmt) (outcome : Outcome) (session : Session) → StandsForSession shape old session → StepsOnPages shape old stmt outcome new
     → new.open_ ≡ (turn session stmt).0.open_
-open_after ext old new stmt outcome session stands (StepsOnPages.turns turns base work others refused places) = sym (turns session stands).session.is_open
-open_after ext old new stmt outcome session stands (StepsOnPages.full says same full faultless) =
-    ap (λ held. held.open_) same ∙ (sym stands.is_open ∙ sym (full_keeps_open ext old.work old.defs session stmt full))
+open_after shape old new stmt outcome session stands (StepsOnPages.turns turns base work others refused places) = sym (turns session stands).session.is_open
+open_after shape old new stmt outcome session stands (StepsOnPages.full says same full faultless) =
+    ap (λ held. held.open_) same ∙ (sym stands.is_open ∙ sym (full_keeps_open shape old.work old.defs session stmt full))
 
 -- a session that the pages of a ready engine stand for
-ready_session : {S : Type 0} (g : Ghosts S) (engine : Engine S) → SoundPagesStand → IsReadyEngine g engine → (session : Session) × StandsForSession engine.tables.ext (held_by g engine) session
+ready_session : {S : Type 0} (g : Ghosts S) (engine : Engine S) → SoundPagesStand → IsReadyEngine g engine → (session : Session) × StandsForSession engine.tables.shape (held_by g engine) session
 ready_session g engine law ready =
-    let base = law engine.tables.ext (g.state engine.store).base (ready.base_view, ready.base_sound) in
-    let work = law engine.tables.ext (g.state engine.store).work (ready.work.view, ready.work.sound) in (
+    let base = law engine.tables.shape (g.state engine.store).base (ready.base_view, ready.base_sound) in
+    let work = law engine.tables.shape (g.state engine.store).work (ready.work.view, ready.work.sound) in (
       record { kept = base.0; working = work.0; open_ = engine.is_open; settings = engine.settings; pass = engine.pass },
       record { kept = base.1; working = work.1; is_open = refl; settings = refl; pass = refl },
     )
@@ -78,16 +78,16 @@ ready_session g engine law ready =
 -- ---- what a crash leaves of a statement that was answered
 
 -- Where a transaction is open after the statement, a crash within it leaves the base before: no step of it ends with none open.
-left_open : (ext : Extents) (old new : HeldPages) (stmt : Stmt) (outcome : Outcome) (session : Session) (pages : PageList) → StandsForSession ext old session → StepsOnPages ext old stmt outcome new
-    → new.open_ ≡ true → MayBeLeft ext old stmt pages → pages ≡ old.base
-left_open ext old new stmt outcome session pages stands steps opened (MayBeLeft.before same) = same
-left_open ext old new stmt outcome session pages stands steps opened (MayBeLeft.after other after others shut is sound stored valid) =
-    let wrong : true ≡ false = sym opened ∙ (open_after ext old new stmt outcome session stands steps ∙ (sym (open_after ext old after stmt other session stands others) ∙ shut)) in
+left_open : (shape : Shape) (old new : HeldPages) (stmt : Stmt) (outcome : Outcome) (session : Session) (pages : PageList) → StandsForSession shape old session → StepsOnPages shape old stmt outcome new
+    → new.open_ ≡ true → MayBeLeft shape old stmt pages → pages ≡ old.base
+left_open shape old new stmt outcome session pages stands steps opened (MayBeLeft.before same) = same
+left_open shape old new stmt outcome session pages stands steps opened (MayBeLeft.after other after others shut is sound stored valid) =
+    let wrong : true ≡ false = sym opened ∙ (open_after shape old new stmt outcome session stands steps ∙ (sym (open_after shape old after stmt other session stands others) ∙ shut)) in
     absurd (cc)
 
 module _ {S : Type 0} (g : Ghosts S) (law : SoundPagesStand) (stmt : Stmt) (outcome : Outcome) (old new : Engine S) (ready : IsReadyEngine g old)
-    (steps : StepsOnPages old.tables.ext (held_by g old) stmt outcome (held_by g new)) (keeps : KeepsBase (held_by g old) (held_by g new))
-    (left : OverTime g.clock g.left (LeftWithin old.tables.ext (held_by g old) stmt (g.state old.store)) old.store new.store) where
+    (steps : StepsOnPages old.tables.shape (held_by g old) stmt outcome (held_by g new)) (keeps : KeepsBase (held_by g old) (held_by g new))
+    (left : OverTime g.clock g.left (LeftWithin old.tables.shape (held_by g old) stmt (g.state old.store)) old.store new.store) where
   -- what is left of the work now is the base now, or the base before
   left_of_work : (opened : Bool) → new.is_open ≡ opened → (t : ℕ) (pages : Option PageList) (told : List ℕ) → t ≤ g.clock old.store → g.left new.store t pages told
       → pages ≡ Some (g.state new.store).work → IfSome (g.state old.store).told (λ bytes. told ≡ bytes)
@@ -98,7 +98,7 @@ module _ {S : Type 0} (g : Ghosts S) (law : SoundPagesStand) (stmt : Stmt) (outc
       elim (left.only t pages told early now) [
         | inl was ↦ inl was
         | inr within ↦ inr (
-          inl (within.0.1 ∙ ap Some (left_open old.tables.ext (held_by g old) (held_by g new) stmt outcome session.0 within.0.0 session.1 steps opened within.0.2)),
+          inl (within.0.1 ∙ ap Some (left_open old.tables.shape (held_by g old) (held_by g new) stmt outcome session.0 within.0.0 session.1 steps opened within.0.2)),
           within.1,
         )
       ]
@@ -124,9 +124,7 @@ module _ {S : Type 0} (g : Ghosts S) where
   -- a statement was executed
   pub answers_executed : (law : SoundPagesStand) (stmt : Stmt) (result : Result Outcome EngineStop) (old new : Engine S) → Executes g stmt result old new → AnswersItem g (read.Stmt stmt) result old new
   answers_executed law stmt (Ok outcome) old new executes = record {
-    meets = λ ready.
-        let steps = executes.steps ready in
-        (record { noted = old.tables.ext; shape = record { cap = refl; extent_pages = refl }; steps = steps.0 }, steps.1);
+    meets = executes.steps;
     own = tt;
     may = executes.may;
     done = λ ready. left_before_or_after g law stmt outcome old new ready (executes.steps ready).0 (executes.keeps ready.closed) (executes.leaves ready).time executes.outside.time;
@@ -180,7 +178,7 @@ module _ {S : Type 0} (g : Ghosts S) where
     breaks = λ damage is. absurd (cc);
     keeps = λ all. all;
     opens = refl;
-    shape = record { cap = refl; extent_pages = refl };
+    shape = refl;
     outside = leaves_outside_none (said.Refused refusal) engine;
   }
 

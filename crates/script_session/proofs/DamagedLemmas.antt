@@ -4,7 +4,7 @@ use Rattle.std.specs.Prelude.{IsTrue}
 use Rattle.mdc_ast.specs.Reading.{Item}
 use Rattle.store_api.specs.declared.fault.Damage.{Damage}
 use Rattle.store_api.specs.declared.pages.Pages.{Ghosts}
-use Rattle.extent_map.specs.Owners.{IsSameShape}
+use Rattle.store_api.specs.declared.shape.Shape.{Shape}
 use Rattle.mdc_sound.specs.Breaks.{IsFirstBreak}
 use Rattle.script_engine.specs.Breaking.{HoldsAtDamage, StaysAtDamage}
 use Rattle.script_engine.specs.Leaving.{IsAllCommitted}
@@ -13,7 +13,6 @@ use Rattle.script_engine.specs.Serving.{held_by}
 use Rattle.script_engine.specs.declared.engine.Engine.{Engine}
 use Rattle.script_engine.specs.declared.stop.EngineStop.{EngineStop}
 use Rattle.script_engine.specs.declared.stop.EngineStop.TheVariants.{Damaged}
-use Rattle.file_check.proofs.BreaksAlongLemmas.{first_break_along}
 use Rattle.script_session.specs.Damaged.{BreaksAtStop, opened_behind, opened_by_item}
 
 -- behind more items
@@ -28,7 +27,7 @@ module _ {S : Type 0} (g : Ghosts S) where
   committed_at old new stays (HoldsAtDamage.base same) all shut = inl (stays.base ∙ sym same)
   committed_at old new stays (HoldsAtDamage.uncounted counted) all shut = inr counted
 
-  pub breaks_at : (old new : Engine S) (damage : Damage) → (IsTrue (g.state old.store).is_told → IsFirstBreak old.tables.ext (g.state new.store).work damage.rule damage.page) → StaysAtDamage g old new
+  pub breaks_at : (old new : Engine S) (damage : Damage) → (IsTrue (g.state old.store).is_told → IsFirstBreak old.tables.shape (g.state new.store).work damage.rule damage.page) → StaysAtDamage g old new
       → BreaksAtStop g [] old new damage
   breaks_at old new damage first stays = record { first = first; committed = committed_at old new stays stays.holds; opened = stays.is_open; going = stays.going }
 
@@ -42,12 +41,11 @@ module _ {S : Type 0} (g : Ghosts S) where
   }
 
   -- behind a run
-  pub breaks_then : (items more : List Item) (old mid new : Engine S) (damage : Damage) → IsSameShape old.tables.ext mid.tables.ext → (g.state mid.store).is_told ≡ (g.state old.store).is_told
+  pub breaks_then : (items more : List Item) (old mid new : Engine S) (damage : Damage) → mid.tables.shape ≡ old.tables.shape → (g.state mid.store).is_told ≡ (g.state old.store).is_told
       → (IsAllCommitted (held_by g old) → IsAllCommitted (held_by g mid))
       → mid.is_open ≡ opened_behind items old.is_open → BreaksAtStop g more mid new damage → BreaksAtStop g (items ++ more) old new damage
   breaks_then items more old mid new damage shape told keeps opened breaks = record {
-    first = λ is. first_break_along mid.tables.ext old.tables.ext (g.state new.store).work damage.rule damage.page (record { cap = sym shape.cap; extent_pages = sym shape.extent_pages })
-        (breaks.first (subst IsTrue (sym told) is));
+    first = λ is. subst (λ (s : Shape). IsFirstBreak s (g.state new.store).work damage.rule damage.page) shape (breaks.first (subst IsTrue (sym told) is));
     committed = λ all. breaks.committed (keeps all);
     opened = breaks.opened ∙ (ap (opened_behind more) opened ∙ sym (opened_behind-append items more old.is_open));
     going = breaks.going;

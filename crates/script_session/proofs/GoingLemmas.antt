@@ -1,108 +1,28 @@
--- Runs of items over pages, one behind another, in extents of one shape.
+-- Runs of items over pages, one behind another.
 use Rattle.std.proofs.Common.{◌≡◌, ◌+◌, ◌≤◌, ℕ, zero, suc, List, [], ◌∷◌, ◌++◌, length, refl, sym, ◌∙◌, ap, subst, inl, inr, arith}
 use Rattle.mdc_ast.specs.declared.reply.Outcome.{Outcome}
-use Rattle.mdc_ast.specs.declared.statement.Stmt.{Stmt}
-use Rattle.mdc_ast.specs.Reading.{Item, Statement}
-use Rattle.mdc_ast.specs.Reading as reading
-use Rattle.extent_map.specs.Owners.{IsSameShape}
-use Rattle.extent_map.specs.declared.extents.Extents.{Extents}
-use Rattle.table_trees.specs.ToldPages.{PageList}
-use Rattle.statement_meaning.specs.Session.{Session, rested}
-use Rattle.mdc_sound.specs.SoundDatabase.{IsSoundDatabase}
-use Rattle.script_engine.specs.Held.{HeldPages, StandsForSession}
-use Rattle.script_engine.specs.Resting.{IsHeldWithin, RestsOnce, RestsOnPages, held_behind}
+use Rattle.mdc_ast.specs.Reading.{Item}
+use Rattle.store_api.specs.declared.shape.Shape.{Shape}
+use Rattle.script_engine.specs.Held.{HeldPages}
+use Rattle.script_engine.specs.Resting.{IsHeldWithin, RestsOnPages, held_behind}
 use Rattle.script_engine.specs.Resting as resting
-use Rattle.script_engine.proofs.ShapeLemmas.{keeps_along, stands_for_along}
-use Rattle.script_session.specs.Going.{GoesOnPages, IsHeldIn, MeetsItem, MeetsOnPages, Stage, StepsInShape, end_of, held_last, nothing, one, stage_after, still}
-
--- ---- shapes
-
--- extents are of their own shape
-pub same_shape : (ext : Extents) → IsSameShape ext ext
-same_shape ext = record { cap = refl; extent_pages = refl }
-
--- and of that of what has their shape
-pub shape_then : {first second third : Extents} → IsSameShape first second → IsSameShape second third → IsSameShape first third
-shape_then a b = record { cap = b.cap ∙ a.cap; extent_pages = b.extent_pages ∙ a.extent_pages }
-
--- a statement that stepped in extents of this shape
-pub steps_in_shape : {ext mid : Extents} {old new : HeldPages} {stmt : Stmt} {outcome : Outcome} → IsSameShape ext mid → StepsInShape mid old stmt outcome new → StepsInShape ext old stmt outcome new
-steps_in_shape same steps = record { noted = steps.noted; shape = shape_then same steps.shape; steps = steps.steps }
-
-meets_in_shape : {ext mid : Extents} (old : HeldPages) (item : Item) (outcome : Outcome) (new : HeldPages) → IsSameShape ext mid → MeetsOnPages mid old item outcome new → MeetsOnPages ext old item outcome new
-meets_in_shape old (Statement stmt) outcome new same meets = steps_in_shape same meets
-meets_in_shape old (reading.Refused refusal) outcome new same meets = meets
-
--- the same way back
-pub shape-sym : {first second : Extents} → IsSameShape first second → IsSameShape second first
-shape-sym same = record { cap = sym same.cap; extent_pages = sym same.extent_pages }
-
--- sound pages are sound in extents of this shape
-pub sound_in_shape : {ext mid : Extents} {pages : PageList} → IsSameShape ext mid → IsSoundDatabase mid pages → IsSoundDatabase ext pages
-sound_in_shape {ext} {mid} {pages} same (view, sound) = (view, keeps_along mid ext pages view (shape-sym same) sound)
-
--- what is held stands for the same session in extents of one shape
-pub session_along : (before now : Extents) (held : HeldPages) (session : Session) → IsSameShape before now → StandsForSession before held session → StandsForSession now held session
-session_along before now held session shape stands = record {
-  kept = stands_for_along before now held.base session.kept shape stands.kept;
-  working = stands_for_along before now held.work session.working shape stands.working;
-  is_open = stands.is_open;
-  settings = stands.settings;
-  pass = stands.pass;
-}
-
--- a step behind an item in extents of this shape
-rests_once_in_shape : {ext mid : Extents} {old new : HeldPages} → IsSameShape ext mid → RestsOnce mid old new → RestsOnce ext old new
-rests_once_in_shape {ext} {mid} {old} {new} same step = record {
-  was_shut = step.was_shut;
-  is_shut = step.is_shut;
-  committed = step.committed;
-  sound = sound_in_shape same step.sound;
-  stands = λ session stands. session_along mid ext new (rested session new.pass) (shape-sym same) (step.stands session (session_along ext mid old session same stands));
-  defs = step.defs;
-  stored = step.stored;
-  valid = step.valid;
-  settings = step.settings;
-}
-
--- and steps
-pub rests_in_shape : {ext mid : Extents} {held : HeldPages} {rests : List HeldPages} → IsSameShape ext mid → RestsOnPages mid held rests → RestsOnPages ext held rests
-rests_in_shape same resting.nothing = resting.nothing
-rests_in_shape same (resting.one step steps) = resting.one (rests_once_in_shape same step) (rests_in_shape same steps)
-
--- an item was met in extents of this shape
-met_in_shape : {ext mid : Extents} {old : HeldPages} {item : Item} {outcome : Outcome} {stage : Stage} → IsSameShape ext mid → MeetsItem mid old item outcome stage → MeetsItem ext old item outcome stage
-met_in_shape {old = old} {item = item} {outcome = outcome} {stage = stage} same met = record {
-  meets = meets_in_shape old item outcome stage.met same met.meets;
-  refused = met.refused;
-  was_sound = sound_in_shape same met.was_sound;
-  was_stored = met.was_stored;
-  sound = sound_in_shape same met.sound;
-  stored = met.stored;
-  rests = rests_in_shape same met.rests;
-}
-
--- a run in extents of this shape
-pub goes_in_shape : {ext mid : Extents} {held : HeldPages} {items : List Item} {outcomes : List Outcome} {stages : List Stage} → IsSameShape ext mid
-    → GoesOnPages mid held items outcomes stages → GoesOnPages ext held items outcomes stages
-goes_in_shape same nothing = nothing
-goes_in_shape same (one met goes) = one (met_in_shape same met) (goes_in_shape same goes)
+use Rattle.script_session.specs.Going.{GoesOnPages, IsHeldIn, Stage, end_of, held_last, nothing, one, stage_after, still}
 
 -- ---- one behind another
 
 -- a run, and then another from where it ends
-pub goes_then : {ext : Extents} {held : HeldPages} {items more : List Item} {outcomes next : List Outcome} {stages others : List Stage} → GoesOnPages ext held items outcomes stages
-    → GoesOnPages ext (held_last held stages) more next others → GoesOnPages ext held (items ++ more) (outcomes ++ next) (stages ++ others)
+pub goes_then : {shape : Shape} {held : HeldPages} {items more : List Item} {outcomes next : List Outcome} {stages others : List Stage} → GoesOnPages shape held items outcomes stages
+    → GoesOnPages shape (held_last held stages) more next others → GoesOnPages shape held (items ++ more) (outcomes ++ next) (stages ++ others)
 goes_then nothing goes = goes
 goes_then (one meets front) goes = one meets (goes_then front goes)
 
 -- each item has one outcome
-pub length-items : {ext : Extents} {held : HeldPages} {items : List Item} {outcomes : List Outcome} {stages : List Stage} → GoesOnPages ext held items outcomes stages → length items ≡ length outcomes
+pub length-items : {shape : Shape} {held : HeldPages} {items : List Item} {outcomes : List Outcome} {stages : List Stage} → GoesOnPages shape held items outcomes stages → length items ≡ length outcomes
 length-items nothing = refl
 length-items (one meets goes) = omega (arith, length-items goes)
 
 -- and one stage
-pub length-stages : {ext : Extents} {held : HeldPages} {items : List Item} {outcomes : List Outcome} {stages : List Stage} → GoesOnPages ext held items outcomes stages → length stages ≡ length outcomes
+pub length-stages : {shape : Shape} {held : HeldPages} {items : List Item} {outcomes : List Outcome} {stages : List Stage} → GoesOnPages shape held items outcomes stages → length stages ≡ length outcomes
 length-stages nothing = refl
 length-stages (one meets goes) = omega (arith, length-stages goes)
 
@@ -166,7 +86,7 @@ held_behind_stages held stages others n within is =
 -- ---- steps behind steps
 
 -- steps, and then others from where they end
-pub rests_then : {ext : Extents} {held : HeldPages} {rests more : List HeldPages} → RestsOnPages ext held rests → RestsOnPages ext (held_behind held rests) more → RestsOnPages ext held (rests ++ more)
+pub rests_then : {shape : Shape} {held : HeldPages} {rests more : List HeldPages} → RestsOnPages shape held rests → RestsOnPages shape (held_behind held rests) more → RestsOnPages shape held (rests ++ more)
 rests_then resting.nothing more = more
 rests_then (resting.one step steps) more = resting.one step (rests_then steps more)
 

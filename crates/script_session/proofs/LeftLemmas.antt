@@ -1,17 +1,16 @@
 -- What a crash leaves of a run of items: of one run and then another, and as a part of a longer run.
 use Rattle.std.proofs.Common.{◌≡◌, ◌+◌, ℕ, List, [], ◌∷◌, ◌++◌, length, length-append, Option, sym, subst, ◌∙◌, ap, append_assoc, arith}
+use Rattle.store_api.specs.declared.shape.Shape.{Shape}
 use Rattle.std.proofs.lemmas.Grind.{flat_map-append}
 use Rattle.mdc_ast.specs.declared.reply.Outcome.{Outcome}
 use Rattle.mdc_ast.specs.Reading.{Item}
 use Rattle.statement_meaning.specs.Texts.{outcome_text, texts}
-use Rattle.extent_map.specs.Owners.{IsSameShape}
-use Rattle.extent_map.specs.declared.extents.Extents.{Extents}
 use Rattle.table_trees.specs.ToldPages.{PageList}
 use Rattle.script_engine.specs.Held.{HeldPages}
 use Rattle.script_session.specs.Ending.{IsPartOfNext, Says}
 use Rattle.script_session.specs.Going.{IsHeldIn, Stage, held_last, still}
-use Rattle.script_session.specs.Leaving.{AreKept, AreServedPages, HasBegun, LeftByServing, done, stopped}
-use Rattle.script_session.proofs.GoingLemmas.{held_behind_stages, held_last-append, sound_in_shape, stage_after-front, steps_in_shape}
+use Rattle.script_session.specs.Leaving.{AreKept, HasBegun, LeftByServing, done, stopped}
+use Rattle.script_session.proofs.GoingLemmas.{held_behind_stages, held_last-append, stage_after-front}
 
 -- ---- what is said
 
@@ -55,35 +54,26 @@ begun_then outcomes begun = record { answered = length outcomes + begun.answered
 
 -- ---- which pages are kept
 
--- pages that may be served in extents of this shape
-pub served_in_shape : {ext mid : Extents} {pages : PageList} → IsSameShape ext mid → AreServedPages mid pages → AreServedPages ext pages
-served_in_shape same served = record {
-  sound = sound_in_shape same served.sound;
-  defs = served.defs;
-  stored = served.stored;
-  valid = served.valid;
-}
-
 -- after some of the first items
-pub kept_wider : {ext : Extents} {held : HeldPages} {stages : List Stage} {pages : PageList} {items : ℕ} (more : List Stage) (in_hand : List Item)
-    → AreKept ext held stages [] pages items → AreKept ext held (stages ++ more) in_hand pages items
+pub kept_wider : {shape : Shape} {held : HeldPages} {stages : List Stage} {pages : PageList} {items : ℕ} (more : List Stage) (in_hand : List Item)
+    → AreKept shape held stages [] pages items → AreKept shape held (stages ++ more) in_hand pages items
 kept_wider {held = held} {stages = stages} {items = items} more in_hand (done few within is same) =
     done (omega (arith, few, length-append stages more)) within (subst (λ (stage : Stage). IsHeldIn stage within) (sym (stage_after-front (still held) stages more items few)) is) same
 kept_wider more in_hand (stopped stmt outcome new none count steps closed same stored) = absurd (cc)
 
 -- after items behind these
-pub kept_then : {ext mid : Extents} {held : HeldPages} {others : List Stage} {in_hand : List Item} {pages : PageList} {items : ℕ} (stages : List Stage) → IsSameShape ext mid
-    → AreKept mid (held_last held stages) others in_hand pages items → AreKept ext held (stages ++ others) in_hand pages (length stages + items)
-kept_then {held = held} {others = others} {items = items} stages shape (done few within is same) =
+pub kept_then : {shape : Shape} {held : HeldPages} {others : List Stage} {in_hand : List Item} {pages : PageList} {items : ℕ} (stages : List Stage)
+    → AreKept shape (held_last held stages) others in_hand pages items → AreKept shape held (stages ++ others) in_hand pages (length stages + items)
+kept_then {held = held} {others = others} {items = items} stages (done few within is same) =
     done (omega (arith, few, length-append stages others)) within (held_behind_stages held stages others items within is) same
-kept_then {ext} {mid} {held} {others} stages shape (stopped stmt outcome new in_hand count steps closed same stored) =
-    stopped stmt outcome new in_hand (omega (arith, count, length-append stages others)) (rw (held_last-append held stages others) (steps_in_shape shape steps)) closed same stored
+kept_then {shape} {held} {others} stages (stopped stmt outcome new in_hand count steps closed same stored) =
+    stopped stmt outcome new in_hand (omega (arith, count, length-append stages others)) (rw (held_last-append held stages others) steps) closed same stored
 
 -- ---- what is left
 
 -- as a part of a longer run
-pub left_wider : {ext : Extents} {held : HeldPages} {stages : List Stage} {outcomes : List Outcome} {before told : List ℕ} {left : Option PageList}
-    (more : List Stage) (others : List Outcome) (in_hand : List Item) → LeftByServing ext held stages outcomes [] before left told → LeftByServing ext held (stages ++ more) (outcomes ++ others) in_hand before left told
+pub left_wider : {shape : Shape} {held : HeldPages} {stages : List Stage} {outcomes : List Outcome} {before told : List ℕ} {left : Option PageList}
+    (more : List Stage) (others : List Outcome) (in_hand : List Item) → LeftByServing shape held stages outcomes [] before left told → LeftByServing shape held (stages ++ more) (outcomes ++ others) in_hand before left told
 unfolding begun_wider
 left_wider more others in_hand is = record {
   pages = is.pages;
@@ -100,16 +90,16 @@ left_wider more others in_hand is = record {
 }
 
 -- of a run behind another
-pub left_then : {ext mid : Extents} {held : HeldPages} {more : List Stage} {others : List Outcome} {in_hand : List Item} {before told : List ℕ} {left : Option PageList}
-    (stages : List Stage) (outcomes : List Outcome) → IsSameShape ext mid → length stages ≡ length outcomes
-    → LeftByServing mid (held_last held stages) more others in_hand (before ++ texts outcomes) left told → LeftByServing ext held (stages ++ more) (outcomes ++ others) in_hand before left told
+pub left_then : {shape : Shape} {held : HeldPages} {more : List Stage} {others : List Outcome} {in_hand : List Item} {before told : List ℕ} {left : Option PageList}
+    (stages : List Stage) (outcomes : List Outcome) → length stages ≡ length outcomes
+    → LeftByServing shape (held_last held stages) more others in_hand (before ++ texts outcomes) left told → LeftByServing shape held (stages ++ more) (outcomes ++ others) in_hand before left told
 unfolding begun_then
-left_then {before = before} stages outcomes shape count is = record {
+left_then {before = before} stages outcomes count is = record {
   pages = is.pages;
   reopens = is.reopens;
-  served = served_in_shape shape is.served;
+  served = is.served;
   items = length stages + is.items;
-  kept = kept_then stages shape is.kept;
+  kept = kept_then stages is.kept;
   more = texts outcomes ++ is.more;
   told_is = is.told_is ∙ append_assoc before (texts outcomes) is.more;
   begun = length outcomes + is.begun;

@@ -1,24 +1,21 @@
 -- A run over pages is one over the plain lists of rows that they stand for.
-use Rattle.std.proofs.Common.{◌≡◌, List, [], ◌∷◌, refl, sym, ap, subst, inl, inr, ◌∙◌}
+use Rattle.std.proofs.Common.{◌≡◌, List, [], ◌∷◌, refl, sym, ap, subst, inl, inr}
 use Rattle.mdc_ast.specs.declared.reply.Outcome.{Outcome}
-use Rattle.mdc_ast.specs.declared.reply.Outcome.TheVariants as said
 use Rattle.mdc_ast.specs.declared.statement.Stmt.{Stmt}
 use Rattle.mdc_ast.specs.declared.statement.Stmt.TheVariants as statement
 use Rattle.mdc_ast.specs.Reading.{Item, Statement}
 use Rattle.mdc_ast.specs.Reading as reading
 use Rattle.mdc_ast.specs.Definitions.{Definitions}
-use Rattle.statement_meaning.specs.Cause.{FileFull, refusal_of}
 use Rattle.statement_meaning.specs.Session.{AgreesWith, Session, rested, turn}
 use Rattle.statement_meaning.specs.Step.{Answer, Refused, Replied, ToldByPages}
 use Rattle.statement_meaning.specs.declared.pass.Pass.{Pass}
-use Rattle.extent_map.specs.Owners.{IsSameShape}
-use Rattle.extent_map.specs.declared.extents.Extents.{Extents}
+use Rattle.store_api.specs.declared.shape.Shape.{Shape}
 use Rattle.table_trees.specs.ToldPages.{PageList}
 use Rattle.script_engine.specs.Held.{HeldPages, StandsForSession, StepsOnPages}
 use Rattle.script_engine.specs.Listing.{PagesTell, TellsNumbers}
 use Rattle.script_engine.specs.Resting.{IsHeldWithin, RestsOnPages}
 use Rattle.script_engine.specs.Resting as resting
-use Rattle.script_session.proofs.GoingLemmas.{end_in_stage, session_along, shape-sym}
+use Rattle.script_session.proofs.GoingLemmas.{end_in_stage}
 use Rattle.script_session.specs.Going.{GoesOnPages, MeetsOnPages, Stage, end_of}
 use Rattle.script_session.specs.Lists.{GoesOnLists, MeetsOnLists, TurnsLists}
 
@@ -36,34 +33,34 @@ agrees_on_lists pages defs stmt outcome ToldByPages agrees = pages_tell_numbers 
 -- ---- item by item
 
 -- what an item does to a session over lists, and that what is held then stands for the session after it
-pub record MeetsSession (ext : Extents) (session : Session) (item : Item) (outcome : Outcome) (next : HeldPages) : Type 0 where
+pub record MeetsSession (shape : Shape) (session : Session) (item : Item) (outcome : Outcome) (next : HeldPages) : Type 0 where
   pub after : Session
-  pub meets : MeetsOnLists ext.cap session item outcome after
-  pub stands : StandsForSession ext next after
+  pub meets : MeetsOnLists shape.extents session item outcome after
+  pub stands : StandsForSession shape next after
 
 -- a statement that steps on pages turns the session that they stand for
-pub statement_meets : (ext noted : Extents) (held next : HeldPages) (stmt : Stmt) (outcome : Outcome) (session : Session) → IsSameShape ext noted → StepsOnPages noted held stmt outcome next
-    → StandsForSession ext held session → MeetsSession ext session (Statement stmt) outcome next
-statement_meets ext noted held next stmt outcome session shape (StepsOnPages.turns turns base work others refused places) stands =
-    let turned = turns session (session_along ext noted held session shape stands) in
+pub statement_meets : (shape : Shape) (held next : HeldPages) (stmt : Stmt) (outcome : Outcome) (session : Session) → StepsOnPages shape held stmt outcome next
+    → StandsForSession shape held session → MeetsSession shape session (Statement stmt) outcome next
+statement_meets shape held next stmt outcome session (StepsOnPages.turns turns base work others refused places) stands =
+    let turned = turns session stands in
     record {
       after = (turn session stmt).0;
       meets = TurnsLists.turns refl (agrees_on_lists held.work held.defs stmt outcome (turn session stmt).1 turned.answers);
-      stands = session_along noted ext next (turn session stmt).0 (shape-sym shape) turned.session;
+      stands = turned.session;
     }
-statement_meets ext noted held next stmt outcome session shape (StepsOnPages.full says same full faultless) stands = record {
+statement_meets shape held next stmt outcome session (StepsOnPages.full says same full faultless) stands = record {
   after = session;
-  meets = TurnsLists.full (says ∙ ap (λ cap. said.Refused (refusal_of (FileFull cap))) shape.cap) (faultless session (session_along ext noted held session shape stands)) refl;
-  stands = subst (λ at. StandsForSession ext at session) (sym same) stands;
+  meets = TurnsLists.full says (faultless session stands) refl;
+  stands = subst (λ at. StandsForSession shape at session) (sym same) stands;
 }
 
-item_meets : (ext : Extents) (held next : HeldPages) (item : Item) (outcome : Outcome) (session : Session) → MeetsOnPages ext held item outcome next
-    → StandsForSession ext held session → MeetsSession ext session item outcome next
-item_meets ext held next (Statement stmt) outcome session meets stands = statement_meets ext meets.noted held next stmt outcome session meets.shape meets.steps stands
-item_meets ext held next (reading.Refused refusal) outcome session meets stands = record {
+item_meets : (shape : Shape) (held next : HeldPages) (item : Item) (outcome : Outcome) (session : Session) → MeetsOnPages shape held item outcome next
+    → StandsForSession shape held session → MeetsSession shape session item outcome next
+item_meets shape held next (Statement stmt) outcome session meets stands = statement_meets shape held next stmt outcome session meets stands
+item_meets shape held next (reading.Refused refusal) outcome session meets stands = record {
   after = session;
   meets = (meets.0, refl);
-  stands = subst (λ at. StandsForSession ext at session) (sym meets.1) stands;
+  stands = subst (λ at. StandsForSession shape at session) (sym meets.1) stands;
 }
 
 -- ---- within a stage
@@ -73,24 +70,24 @@ rested_same : (session : Session) (pass : Pass) → session.pass ≡ pass → se
 rested_same session pass same = ap (rested session) same
 
 -- it stands for the session with the pass that is held
-stands_rested : (ext : Extents) (held : HeldPages) (session : Session) → StandsForSession ext held session → StandsForSession ext held (rested session held.pass)
-stands_rested ext held session stands = subst (StandsForSession ext held) (rested_same session held.pass stands.pass) stands
+stands_rested : (shape : Shape) (held : HeldPages) (session : Session) → StandsForSession shape held session → StandsForSession shape held (rested session held.pass)
+stands_rested shape held session stands = subst (StandsForSession shape held) (rested_same session held.pass stands.pass) stands
 
 -- steps behind an item leave what the pages stand for, but for how far the pass is
-pub stand_within : {ext : Extents} {held : HeldPages} {rests : List HeldPages} (session : Session) → RestsOnPages ext held rests → StandsForSession ext held (rested session held.pass)
-    → (within : HeldPages) → IsHeldWithin held rests within → StandsForSession ext within (rested session within.pass)
-stand_within {ext} session resting.nothing stands within same = subst (λ (at : HeldPages). StandsForSession ext at (rested session at.pass)) (sym same) stands
-stand_within {ext} session (resting.one step steps) stands within (inl same) = subst (λ (at : HeldPages). StandsForSession ext at (rested session at.pass)) (sym same) stands
+pub stand_within : {shape : Shape} {held : HeldPages} {rests : List HeldPages} (session : Session) → RestsOnPages shape held rests → StandsForSession shape held (rested session held.pass)
+    → (within : HeldPages) → IsHeldWithin held rests within → StandsForSession shape within (rested session within.pass)
+stand_within {shape} session resting.nothing stands within same = subst (λ (at : HeldPages). StandsForSession shape at (rested session at.pass)) (sym same) stands
+stand_within {shape} session (resting.one step steps) stands within (inl same) = subst (λ (at : HeldPages). StandsForSession shape at (rested session at.pass)) (sym same) stands
 stand_within {held = held} session (resting.one step steps) stands within (inr later) = stand_within session steps (step.stands (rested session held.pass) stands) within later
 
 -- ---- item by item, and so a run
 
-pub goes_on_lists : (ext : Extents) (held : HeldPages) (items : List Item) (outcomes : List Outcome) (stages : List Stage) → GoesOnPages ext held items outcomes stages
-    → (session : Session) → StandsForSession ext held session → (sessions : List Session) × GoesOnLists ext held session items outcomes stages sessions
-goes_on_lists ext held items outcomes stages GoesOnPages.nothing session stands = ([], GoesOnLists.nothing stands)
-goes_on_lists ext held items outcomes stages (GoesOnPages.one {stage = stage} {item = item} {outcome = outcome} {items = more} {outcomes = others} {stages = later} meets goes) session stands =
-    let met = item_meets ext held stage.met item outcome session meets.meets stands in
-    let within = stand_within met.after meets.rests (stands_rested ext stage.met met.after met.stands) in
+pub goes_on_lists : (shape : Shape) (held : HeldPages) (items : List Item) (outcomes : List Outcome) (stages : List Stage) → GoesOnPages shape held items outcomes stages
+    → (session : Session) → StandsForSession shape held session → (sessions : List Session) × GoesOnLists shape held session items outcomes stages sessions
+goes_on_lists shape held items outcomes stages GoesOnPages.nothing session stands = ([], GoesOnLists.nothing stands)
+goes_on_lists shape held items outcomes stages (GoesOnPages.one {stage = stage} {item = item} {outcome = outcome} {items = more} {outcomes = others} {stages = later} meets goes) session stands =
+    let met = item_meets shape held stage.met item outcome session meets.meets stands in
+    let within = stand_within met.after meets.rests (stands_rested shape stage.met met.after met.stands) in
     let after = rested met.after (end_of stage).pass in
-    let rest = goes_on_lists ext (end_of stage) more others later goes after (within (end_of stage) (end_in_stage stage)) in
+    let rest = goes_on_lists shape (end_of stage) more others later goes after (within (end_of stage) (end_in_stage stage)) in
     (after ∷ rest.0, GoesOnLists.one met.after stands met.meets within refl rest.1)

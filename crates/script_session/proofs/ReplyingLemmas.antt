@@ -8,7 +8,6 @@ use Rattle.statement_meaning.specs.Texts.{outcome_text, texts}
 use Rattle.mdc_outside.specs.Outside.{Takes}
 use Rattle.store_api.specs.declared.fault.Damage.{Damage}
 use Rattle.store_api.specs.declared.pages.Pages.{Ghosts}
-use Rattle.extent_map.specs.Owners.{IsSameShape}
 use Rattle.script_engine.specs.Leaving.{IsAllCommitted}
 use Rattle.script_engine.specs.Serving.{held_by}
 use Rattle.script_engine.specs.declared.engine.Engine.{Engine}
@@ -134,7 +133,7 @@ part_of_reply item refused old new reply = record {
 -- the turn of an item stops at damage
 pub replies_broken : {S : Type 0} (g : Ghosts S) (laws : ScriptLaws) {script left : Option (List ℕ)} {reader : Holding} {items : List Item} {read : Read} (stop : SessionStop) {refused : Bool} (old mid new : Engine S) (damage : Damage)
     → IsAsked script left reader items (Ok (Some read)) → HasReplied items refused (g.state old.store).told (g.state mid.store).told → IsTurnStop stop
-    → IsSameShape old.tables.ext mid.tables.ext → (g.state mid.store).is_told ≡ (g.state old.store).is_told → (IsAllCommitted (held_by g old) → IsAllCommitted (held_by g mid))
+    → mid.tables.shape ≡ old.tables.shape → (g.state mid.store).is_told ≡ (g.state old.store).is_told → (IsAllCommitted (held_by g old) → IsAllCommitted (held_by g mid))
     → mid.is_open ≡ opened_behind items old.is_open → BreaksTurn g (item_of read) mid new damage
     → (replies : RepliesTo script left (g.state old.store).told (g.state new.store).told (Err stop)) × BreaksAtStop g replies.items old new damage
 replies_broken g laws {items = items} stop old mid new damage asked was is_stop shape told keeps opened (inl at) =

@@ -12,7 +12,6 @@ use Rattle.sql_reader.specs.Item.{item_of}
 use Rattle.sql_reader.specs.declared.statements.Read.{Read}
 use Rattle.sql_reader.specs.declared.statements.ReadStop.{ReadStop}
 use Rattle.store_api.specs.declared.pages.Pages.{Ghosts}
-use Rattle.extent_map.specs.Owners.{IsSameShape}
 use Rattle.script_engine.specs.Serving.{IsReadyEngine, held_by}
 use Rattle.script_engine.specs.declared.engine.Engine.{Engine}
 use Rattle.script_session.specs.Going.{Stage, held_last}
@@ -59,7 +58,7 @@ module _ {S : Type 0} (g : Ghosts S) where
   answered_first engine ready = record { outcomes = []; stages = []; runs = runs_none g engine; held = refl; noted = refl; ready = ready }
 
   -- one item more, whose outcome is told
-  pub answered_more : {items : List Item} {refused noted : Bool} (item : Item) {old mid new : Engine S} → HasAnswered g items refused old mid → IsSameShape old.tables.ext mid.tables.ext
+  pub answered_more : {items : List Item} {refused noted : Bool} (item : Item) {old mid new : Engine S} → HasAnswered g items refused old mid → mid.tables.shape ≡ old.tables.shape
       → EndsTold g item noted mid new → HasAnswered g (items ++ item ∷ []) (refused || noted) old new
   answered_more {items} {refused} {noted} item {old} {mid} {new} was shape turn =
       let outcomes = was.outcomes ++ turn.outcome ∷ [] in
@@ -105,7 +104,7 @@ module _ {S : Type 0} (g : Ghosts S) where
 
   -- the turn of an item stops: behind its outcome, or at the item in hand
   pub exit_turning : (laws : ScriptLaws) {script left : Option (List ℕ)} {reader : Holding} {items : List Item} {read : Read} (stop : SessionStop) {refused : Bool} {old mid new : Engine S}
-      → IsAsked script left reader items (Ok (Some read)) → HasAnswered g items refused old mid → IsSameShape old.tables.ext mid.tables.ext → IsTurnStop stop
+      → IsAsked script left reader items (Ok (Some read)) → HasAnswered g items refused old mid → mid.tables.shape ≡ old.tables.shape → IsTurnStop stop
       → StopsTurn g (item_of read) mid new → RunsScript g script left old new (Err stop)
   exit_turning laws stop asked was shape is_stop (inl turn) =
       let ends = ends_asked_untold laws stop was.outcomes turn.outcome turn.part turn.unsaid (length-items was.runs.goes) turn.text asked is_stop in

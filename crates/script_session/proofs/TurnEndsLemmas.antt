@@ -15,7 +15,6 @@ use Rattle.sql_reader.specs.Item.{item_of}
 use Rattle.sql_reader.specs.declared.statements.Read.{Read}
 use Rattle.store_api.specs.declared.fault.Damage.{Damage}
 use Rattle.store_api.specs.declared.pages.Pages.{Ghosts}
-use Rattle.extent_map.specs.Owners.{IsSameShape}
 use Rattle.script_engine.specs.Leaving.{IsAllCommitted}
 use Rattle.script_engine.specs.Held.{HeldPages}
 use Rattle.script_engine.specs.Resting.{Settles, held_behind}
@@ -33,7 +32,7 @@ use Rattle.script_session.specs.Turning.{EndsTold, IsTurnStop, RunsItems, StopsT
 use Rattle.script_session.specs.declared.stop.SessionStop.{SessionStop}
 use Rattle.script_session.specs.declared.stop.SessionStop.TheVariants.{Damaged, Device, Memory, Unsaid}
 use Rattle.script_session.proofs.DamagedLemmas.{breaks_resting, breaks_then}
-use Rattle.script_session.proofs.GoingLemmas.{end_of-stage_then, shape_then, stage_then}
+use Rattle.script_session.proofs.GoingLemmas.{end_of-stage_then, stage_then}
 use Rattle.script_session.proofs.ReplyingLemmas.{part_of_reply}
 use Rattle.script_session.proofs.ToldLemmas.{same-tells_more, takes-tells, tells_more_then}
 use Rattle.script_session.proofs.TurningLemmas.{reopens_answering, reopens_resting, reopens_then, runs_one, runs_rested, runs_stopped}
@@ -126,8 +125,8 @@ module _ {S : Type 0} (g : Ghosts S) where
     still_device : g.disk_faults mid.store ≡ g.disk_faults old.store
     still_device = answers.outside.device.still (λ is. absurd (cc))
 
-    shape_told : new ≡ record mid { store = new.store } → IsSameShape old.tables.ext new.tables.ext
-    shape_told stays = subst (λ (e : Engine S). IsSameShape old.tables.ext e.tables.ext) (sym stays) answers.shape
+    shape_told : new ≡ record mid { store = new.store } → new.tables.shape ≡ old.tables.shape
+    shape_told stays = subst (λ (e : Engine S). e.tables.shape ≡ old.tables.shape) (sym stays) answers.shape
 
     -- a first part of its text was told
     pub turns_untold : (stop : SessionStop) → TellsOutcome g outcome (Err stop) mid new → TurnsItem g (item_of read) (Err stop) old new
@@ -212,7 +211,7 @@ module _ {S : Type 0} (g : Ghosts S) where
   -- ---- steps after the answer
 
   -- what a turn told, with the steps after it
-  runs_settled : {item : Item} {refused : Bool} {result : Result (Unit {0}) EngineStop} {old mid new : Engine S} (told : EndsTold g item refused old mid) → IsSameShape old.tables.ext mid.tables.ext
+  runs_settled : {item : Item} {refused : Bool} {result : Result (Unit {0}) EngineStop} {old mid new : Engine S} (told : EndsTold g item refused old mid) → mid.tables.shape ≡ old.tables.shape
       → (settles : Settles g result mid new)
       → RunsItems g (item ∷ []) [] (told.outcome ∷ []) (stage_then told.stage (settles.takes told.ready).rests ∷ []) (outcome_text told.outcome) old new
   runs_settled told shape settles =
@@ -255,7 +254,7 @@ module _ {S : Type 0} (g : Ghosts S) where
         replies = subst (HasReply item refused (g.state old.store).told) (sym settles.told) turns.replies;
         part = tt;
         reopens = reopens;
-        shape = shape_then turns.shape settles.shape;
+        shape = settles.shape ∙ turns.shape;
         later = reopens.later;
       }
 
@@ -293,6 +292,6 @@ module _ {S : Type 0} (g : Ghosts S) where
         replies = tt;
         part = inl (part_of_reply item refused (g.state old.store).told (g.state new.store).told reply);
         reopens = reopens;
-        shape = shape_then turns.shape settles.shape;
+        shape = settles.shape ∙ turns.shape;
         later = reopens.later;
       }

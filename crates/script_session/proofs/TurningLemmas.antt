@@ -16,9 +16,9 @@ use Rattle.store_api.specs.Calls.{continued}
 use Rattle.store_api.specs.Moments.{BaseOrNow, BaseWithFront}
 use Rattle.store_api.specs.StoreState.{StoreState}
 use Rattle.store_api.specs.declared.pages.Pages.{Ghosts}
-use Rattle.extent_map.specs.Owners.{IsSameShape}
-use Rattle.extent_map.specs.declared.extents.Extents.{Extents}
+use Rattle.store_api.specs.declared.shape.Shape.{Shape}
 use Rattle.table_trees.specs.ToldPages.{PageList}
+use Rattle.mdc_sound.specs.SoundDatabase.{IsSoundDatabase}
 use Rattle.stored_catalog.specs.StoredDefinitions.{AreStored}
 use Rattle.script_engine.specs.Held.{HeldPages}
 use Rattle.script_engine.specs.Leaving.{LeftWithin, MayBeLeft}
@@ -32,8 +32,7 @@ use Rattle.script_session.specs.Ending.{IsPartOfNext}
 use Rattle.script_session.specs.Going.{GoesOnPages, IsHeldIn, MeetsItem, MeetsOnPages, Stage, end_of, nothing, one, stage_after, still}
 use Rattle.script_session.specs.Leaving.{AreKept, AreServedPages, LeftByServing, ReopensAlways, done, some_told, stopped}
 use Rattle.script_session.specs.Turning.{RunsItems}
-use Rattle.script_session.proofs.GoingLemmas.{rests_in_shape, rests_then, same_shape, sound_in_shape, stage_then, within_behind, within_front}
-use Rattle.script_session.proofs.LeftLemmas.{served_in_shape}
+use Rattle.script_session.proofs.GoingLemmas.{rests_then, stage_then, within_behind, within_front}
 use Rattle.script_session.proofs.ToldLemmas.{takes_nothing, told_behind}
 
 -- the bytes told, where they are known
@@ -46,8 +45,8 @@ part_none [] = refl
 part_none (outcome ∷ outcomes) = (outcome_text outcome, refl)
 
 -- a crash before a reply is begun leaves what was told before
-left_silent : {ext : Extents} {held : HeldPages} {stages : List Stage} {outcomes : List Outcome} {in_hand : List Item} {before told : List ℕ} {left : Option PageList} (pages : PageList) (items : ℕ)
-    → left ≡ Some pages → AreServedPages ext pages → AreKept ext held stages in_hand pages items → items ≤ 1 → told ≡ before → LeftByServing ext held stages outcomes in_hand before left told
+left_silent : {shape : Shape} {held : HeldPages} {stages : List Stage} {outcomes : List Outcome} {in_hand : List Item} {before told : List ℕ} {left : Option PageList} (pages : PageList) (items : ℕ)
+    → left ≡ Some pages → AreServedPages shape pages → AreKept shape held stages in_hand pages items → items ≤ 1 → told ≡ before → LeftByServing shape held stages outcomes in_hand before left told
 left_silent {outcomes = outcomes} {before = before} pages items reopens served kept few same = record {
   pages = pages;
   reopens = reopens;
@@ -71,26 +70,26 @@ some_told-one [] = omega arith
 some_told-one (byte ∷ part) = omega arith
 
 -- the pages that may be left of the statement in hand are those before it, or those that it commits
-kept_at : {ext : Extents} (item : Item) (stmt : Stmt) (held : HeldPages) (pages : PageList) → item ≡ Statement stmt → MayBeLeft ext held stmt pages → (n : ℕ) × AreKept ext held [] (item ∷ []) pages n × (n ≤ 1)
+kept_at : {shape : Shape} (item : Item) (stmt : Stmt) (held : HeldPages) (pages : PageList) → item ≡ Statement stmt → MayBeLeft shape held stmt pages → (n : ℕ) × AreKept shape held [] (item ∷ []) pages n × (n ≤ 1)
 kept_at item stmt held pages hand (leaving.before same) = (0, done (omega arith) held refl same, omega arith)
-kept_at {ext} item stmt held pages hand (leaving.after outcome new steps closed same sound stored valid) = (
+kept_at {shape} item stmt held pages hand (leaving.after outcome new steps closed same sound stored valid) = (
   1,
-  stopped stmt outcome new (ap (λ (i : Item). i ∷ []) hand) refl (record { noted = ext; shape = same_shape ext; steps = steps }) closed same
+  stopped stmt outcome new (ap (λ (i : Item). i ∷ []) hand) refl steps closed same
       (subst (λ (base : PageList). AreStored base new.defs) same stored),
   omega arith,
 )
 
 -- pages behind steps that are taken after an item may be served
-served_within : {ext : Extents} {held : HeldPages} {rests : List HeldPages} → AreServedPages ext held.base → RestsOnPages ext held rests → (within : HeldPages) → IsHeldWithin held rests within
-    → AreServedPages ext within.base
-served_within {ext} served resting.nothing within same = subst (λ (h : HeldPages). AreServedPages ext h.base) (sym same) served
-served_within {ext} served (resting.one step steps) within (inl same) = subst (λ (h : HeldPages). AreServedPages ext h.base) (sym same) served
-served_within {ext} served (resting.one {next = next} step steps) within (inr later) =
-    served_within (subst (AreServedPages ext) (sym step.committed) (record { sound = step.sound; defs = next.defs; stored = step.stored; valid = step.valid })) steps within later
+served_within : {shape : Shape} {held : HeldPages} {rests : List HeldPages} → AreServedPages shape held.base → RestsOnPages shape held rests → (within : HeldPages) → IsHeldWithin held rests within
+    → AreServedPages shape within.base
+served_within {shape} served resting.nothing within same = subst (λ (h : HeldPages). AreServedPages shape h.base) (sym same) served
+served_within {shape} served (resting.one step steps) within (inl same) = subst (λ (h : HeldPages). AreServedPages shape h.base) (sym same) served
+served_within {shape} served (resting.one {next = next} step steps) within (inr later) =
+    served_within (subst (AreServedPages shape) (sym step.committed) (record { sound = step.sound; defs = next.defs; stored = step.stored; valid = step.valid })) steps within later
 
 -- a run of one item goes on so by steps after it
-goes_rested : {ext : Extents} {held : HeldPages} {stage : Stage} {item : Item} {outcome : Outcome} {rests : List HeldPages} → GoesOnPages ext held (item ∷ []) (outcome ∷ []) (stage ∷ [])
-    → RestsOnPages ext (end_of stage) rests → GoesOnPages ext held (item ∷ []) (outcome ∷ []) (stage_then stage rests ∷ [])
+goes_rested : {shape : Shape} {held : HeldPages} {stage : Stage} {item : Item} {outcome : Outcome} {rests : List HeldPages} → GoesOnPages shape held (item ∷ []) (outcome ∷ []) (stage ∷ [])
+    → RestsOnPages shape (end_of stage) rests → GoesOnPages shape held (item ∷ []) (outcome ∷ []) (stage_then stage rests ∷ [])
 goes_rested (one meets nothing) steps = one (record {
   meets = meets.meets;
   refused = meets.refused;
@@ -107,14 +106,14 @@ held_rested : (held within : HeldPages) (stage : Stage) (rests : List HeldPages)
 held_rested held within stage rests zero is = is
 held_rested held within stage rests (suc n) is = within_front stage.met within stage.rests rests is
 
-kept_rested : {ext : Extents} {held : HeldPages} {stage : Stage} {pages : PageList} {n : ℕ} (rests : List HeldPages) → AreKept ext held (stage ∷ []) [] pages n
-    → AreKept ext held (stage_then stage rests ∷ []) [] pages n
+kept_rested : {shape : Shape} {held : HeldPages} {stage : Stage} {pages : PageList} {n : ℕ} (rests : List HeldPages) → AreKept shape held (stage ∷ []) [] pages n
+    → AreKept shape held (stage_then stage rests ∷ []) [] pages n
 kept_rested {held = held} {stage = stage} {n = n} rests (done few within is same) = done few within (held_rested held within stage rests n is) same
 kept_rested rests (stopped stmt outcome new none count steps closed same stored) = absurd (cc)
 
 -- so what a crash left before them is left by a run with them
-left_rested : {ext : Extents} {held : HeldPages} {stage : Stage} {outcomes : List Outcome} {before told : List ℕ} {left : Option PageList} (rests : List HeldPages)
-    → LeftByServing ext held (stage ∷ []) outcomes [] before left told → LeftByServing ext held (stage_then stage rests ∷ []) outcomes [] before left told
+left_rested : {shape : Shape} {held : HeldPages} {stage : Stage} {outcomes : List Outcome} {before told : List ℕ} {left : Option PageList} (rests : List HeldPages)
+    → LeftByServing shape held (stage ∷ []) outcomes [] before left told → LeftByServing shape held (stage_then stage rests ∷ []) outcomes [] before left told
 left_rested rests was = record {
   pages = was.pages;
   reopens = was.reopens;
@@ -131,26 +130,30 @@ left_rested rests was = record {
 
 module _ {S : Type 0} (g : Ghosts S) where
   -- the pages of the last commit of a sound engine
-  served_base : (engine : Engine S) → IsReadyEngine g engine → AreServedPages engine.tables.ext (g.state engine.store).base
+  served_base : (engine : Engine S) → IsReadyEngine g engine → AreServedPages engine.tables.shape (g.state engine.store).base
   served_base engine ready = record { sound = (ready.base_view, ready.base_sound); defs = ready.base_defs; stored = ready.base_stored; valid = ready.base_valid }
 
+  -- those of a sound engine of this shape
+  served_base_in : (shape : Shape) (engine : Engine S) → engine.tables.shape ≡ shape → IsReadyEngine g engine → AreServedPages shape (g.state engine.store).base
+  served_base_in shape engine same ready = subst (λ (s : Shape). AreServedPages s (g.state engine.store).base) same (served_base engine ready)
+
   -- a crash while an outcome is found
-  left_answering : (outcome : Outcome) (old mid new : Engine S) → IsReadyEngine g old → IsReadyEngine g mid → IsSameShape old.tables.ext mid.tables.ext → held_by g new ≡ held_by g mid
+  left_answering : (outcome : Outcome) (old mid new : Engine S) → IsReadyEngine g old → IsReadyEngine g mid → mid.tables.shape ≡ old.tables.shape → held_by g new ≡ held_by g mid
       → (before : List ℕ) → (g.state old.store).told ≡ Some before → (left : Option PageList) (told : List ℕ) → BaseBeforeOrAfter (g.state old.store) (g.state mid.store) left told
-      → LeftByServing old.tables.ext (held_by g old) (still (held_by g new) ∷ []) (outcome ∷ []) [] before left told
+      → LeftByServing old.tables.shape (held_by g old) (still (held_by g new) ∷ []) (outcome ∷ []) [] before left told
   left_answering outcome old mid new ready ready_mid shape held before is left told (inl base, known) =
       left_silent (g.state old.store).base 0 base (served_base old ready) (done (omega arith) (held_by g old) refl refl) (omega arith) (bytes_told is known)
   left_answering outcome old mid new ready ready_mid shape held before is left told (inr base, known) =
-      left_silent (g.state mid.store).base 1 base (served_in_shape shape (served_base mid ready_mid)) (done (omega arith) (held_by g mid) (sym held) refl) (omega arith) (bytes_told is known)
+      left_silent (g.state mid.store).base 1 base (served_base_in old.tables.shape mid shape ready_mid) (done (omega arith) (held_by g mid) (sym held) refl) (omega arith) (bytes_told is known)
 
   -- a crash while its text is told
-  left_telling : (outcome : Outcome) (old mid new : Engine S) → IsReadyEngine g mid → IsSameShape old.tables.ext mid.tables.ext → held_by g new ≡ held_by g mid
+  left_telling : (outcome : Outcome) (old mid new : Engine S) → IsReadyEngine g mid → mid.tables.shape ≡ old.tables.shape → held_by g new ≡ held_by g mid
       → (before : List ℕ) → (g.state mid.store).told ≡ Some before → (left : Option PageList) (told : List ℕ) → BaseWithFront (outcome_text outcome) (g.state mid.store) left told
-      → LeftByServing old.tables.ext (held_by g old) (still (held_by g new) ∷ []) (outcome ∷ []) [] before left told
+      → LeftByServing old.tables.shape (held_by g old) (still (held_by g new) ∷ []) (outcome ∷ []) [] before left told
   left_telling outcome old mid new ready shape held before is left told (base, part, front, known) = record {
     pages = (g.state mid.store).base;
     reopens = base;
-    served = served_in_shape shape (served_base mid ready);
+    served = served_base_in old.tables.shape mid shape ready;
     items = 1;
     kept = done (omega arith) (held_by g mid) (sym held) refl;
     more = part;
@@ -166,29 +169,29 @@ module _ {S : Type 0} (g : Ghosts S) where
   }
 
   -- an item that did what it may, from a sound engine to a sound one
-  met_one : {item : Item} {outcome : Outcome} {old mid : Engine S} → IsReadyEngine g old → IsReadyEngine g mid → MeetsOnPages old.tables.ext (held_by g old) item outcome (held_by g mid)
-      → ((refusal : Refusal) → outcome ≡ said.Refused refusal → held_by g mid ≡ held_by g old) → IsSameShape old.tables.ext mid.tables.ext
-      → MeetsItem old.tables.ext (held_by g old) item outcome (still (held_by g mid))
+  met_one : {item : Item} {outcome : Outcome} {old mid : Engine S} → IsReadyEngine g old → IsReadyEngine g mid → MeetsOnPages old.tables.shape (held_by g old) item outcome (held_by g mid)
+      → ((refusal : Refusal) → outcome ≡ said.Refused refusal → held_by g mid ≡ held_by g old) → mid.tables.shape ≡ old.tables.shape
+      → MeetsItem old.tables.shape (held_by g old) item outcome (still (held_by g mid))
   met_one {mid = mid} ready ready_mid meets refused shape = record {
     meets = meets;
     refused = refused;
     was_sound = (ready.work.view, ready.work.sound);
     was_stored = ready.work.stored;
-    sound = sound_in_shape shape (ready_mid.work.view, ready_mid.work.sound);
+    sound = subst (λ (s : Shape). IsSoundDatabase s (g.state mid.store).work) shape (ready_mid.work.view, ready_mid.work.sound);
     stored = ready_mid.work.stored;
     rests = resting.nothing;
   }
 
   -- an item that has an outcome, of whose text this is told
   pub runs_one : {item : Item} {outcome : Outcome} {part : List ℕ} {old mid new : Engine S} → IsReadyEngine g old → IsReadyEngine g mid
-      → MeetsOnPages old.tables.ext (held_by g old) item outcome (held_by g mid) → ((refusal : Refusal) → outcome ≡ said.Refused refusal → held_by g mid ≡ held_by g old)
-      → IsSameShape old.tables.ext mid.tables.ext → held_by g new ≡ held_by g mid
+      → MeetsOnPages old.tables.shape (held_by g old) item outcome (held_by g mid) → ((refusal : Refusal) → outcome ≡ said.Refused refusal → held_by g mid ≡ held_by g old)
+      → mid.tables.shape ≡ old.tables.shape → held_by g new ≡ held_by g mid
       → (g.state mid.store).told ≡ (g.state old.store).told → Takes (g.state mid.store).told part (g.state new.store).told
       → OverTime g.clock g.left (BaseBeforeOrAfter (g.state old.store) (g.state mid.store)) old.store mid.store
       → OverTime g.clock g.left (BaseWithFront (outcome_text outcome) (g.state mid.store)) mid.store new.store
       → RunsItems g (item ∷ []) [] (outcome ∷ []) (still (held_by g new) ∷ []) part old new
   runs_one {item} {outcome} {part} {old} {mid} {new} ready ready_mid meets refused shape held same takes answering telling = record {
-    goes = one (subst (λ (h : HeldPages). MeetsItem old.tables.ext (held_by g old) item outcome (still h)) (sym held) (met_one ready ready_mid meets refused shape)) nothing;
+    goes = one (subst (λ (h : HeldPages). MeetsItem old.tables.shape (held_by g old) item outcome (still h)) (sym held) (met_one ready ready_mid meets refused shape)) nothing;
     told = subst (λ (t : Option (List ℕ)). Takes t part (g.state new.store).told) same takes;
     base = (1, done (omega arith) (held_by g new) refl refl);
     time = λ before is. over_time_then (over_time_wider answering (left_answering outcome old mid new ready ready_mid shape held before is))
@@ -198,14 +201,14 @@ module _ {S : Type 0} (g : Ghosts S) where
   -- ---- steps after an item
 
   -- a crash while they are taken
-  left_resting : (outcome : Outcome) (old mid : Engine S) (stage : Stage) (rests : List HeldPages) → held_by g mid ≡ end_of stage → IsReadyEngine g mid → IsSameShape old.tables.ext mid.tables.ext
-      → RestsOnPages mid.tables.ext (held_by g mid) rests → (before : List ℕ) → (g.state mid.store).told ≡ Some (before ++ outcome_text outcome)
+  left_resting : (outcome : Outcome) (old mid : Engine S) (stage : Stage) (rests : List HeldPages) → held_by g mid ≡ end_of stage → IsReadyEngine g mid → mid.tables.shape ≡ old.tables.shape
+      → RestsOnPages mid.tables.shape (held_by g mid) rests → (before : List ℕ) → (g.state mid.store).told ≡ Some (before ++ outcome_text outcome)
       → (left : Option PageList) (told : List ℕ) → LeftResting (held_by g mid) rests (g.state mid.store) left told
-      → LeftByServing old.tables.ext (held_by g old) (stage_then stage rests ∷ []) (outcome ∷ []) [] before left told
+      → LeftByServing old.tables.shape (held_by g old) (stage_then stage rests ∷ []) (outcome ∷ []) [] before left told
   left_resting outcome old mid stage rests at ready shape steps before is left told ((pages, reopens, (within, held, same)), known) = record {
     pages = pages;
     reopens = reopens;
-    served = subst (AreServedPages old.tables.ext) (sym same) (served_in_shape shape (served_within (served_base mid ready) steps within held));
+    served = subst (AreServedPages old.tables.shape) (sym same) (subst (λ (s : Shape). AreServedPages s within.base) shape (served_within (served_base mid ready) steps within held));
     items = 1;
     kept = done (omega arith) within (within_behind stage.met within stage.rests rests (subst (λ (h : HeldPages). IsHeldWithin h rests within) at held)) same;
     more = outcome_text outcome;
@@ -222,11 +225,11 @@ module _ {S : Type 0} (g : Ghosts S) where
 
   -- an item whose text was told, and then such steps
   pub runs_rested : {item : Item} {outcome : Outcome} {stage : Stage} {old mid new : Engine S} {rests : List HeldPages} → RunsItems g (item ∷ []) [] (outcome ∷ []) (stage ∷ []) (outcome_text outcome) old mid
-      → held_by g mid ≡ end_of stage → IsReadyEngine g mid → IsSameShape old.tables.ext mid.tables.ext → RestsOnPages mid.tables.ext (held_by g mid) rests → IsBaseWithin (held_by g mid) rests (g.state new.store).base
+      → held_by g mid ≡ end_of stage → IsReadyEngine g mid → mid.tables.shape ≡ old.tables.shape → RestsOnPages mid.tables.shape (held_by g mid) rests → IsBaseWithin (held_by g mid) rests (g.state new.store).base
       → (g.state new.store).told ≡ (g.state mid.store).told → OverTime g.clock g.left (LeftResting (held_by g mid) rests (g.state mid.store)) mid.store new.store
       → RunsItems g (item ∷ []) [] (outcome ∷ []) (stage_then stage rests ∷ []) (outcome_text outcome) old new
   runs_rested {outcome = outcome} {stage = stage} {old = old} {mid = mid} {rests = rests} runs at ready shape steps base same resting = record {
-    goes = goes_rested runs.goes (subst (λ (h : HeldPages). RestsOnPages old.tables.ext h rests) at (rests_in_shape shape steps));
+    goes = goes_rested runs.goes (subst (λ (h : HeldPages). RestsOnPages old.tables.shape h rests) at (subst (λ (s : Shape). RestsOnPages s (held_by g mid) rests) shape steps));
     told = subst (Takes (g.state old.store).told (outcome_text outcome)) (sym same) runs.told;
     base = (1, done (omega arith) base.0 (within_behind stage.met base.0 stage.rests rests (subst (λ (h : HeldPages). IsHeldWithin h rests base.0) at base.1)) base.2);
     time = λ before is. over_time_then (over_time_wider (runs.time before is) (λ left told was. left_rested rests was))
@@ -234,14 +237,14 @@ module _ {S : Type 0} (g : Ghosts S) where
   }
 
   -- the pages that may be left of a statement may be served
-  served_at : (stmt : Stmt) (old : Engine S) (pages : PageList) → IsReadyEngine g old → MayBeLeft old.tables.ext (held_by g old) stmt pages → AreServedPages old.tables.ext pages
-  served_at stmt old pages ready (leaving.before same) = subst (AreServedPages old.tables.ext) (sym same) (served_base old ready)
+  served_at : (stmt : Stmt) (old : Engine S) (pages : PageList) → IsReadyEngine g old → MayBeLeft old.tables.shape (held_by g old) stmt pages → AreServedPages old.tables.shape pages
+  served_at stmt old pages ready (leaving.before same) = subst (AreServedPages old.tables.shape) (sym same) (served_base old ready)
   served_at stmt old pages ready (leaving.after outcome new steps closed same sound stored valid) = record { sound = sound; defs = new.defs; stored = stored; valid = valid }
 
   -- a crash before an engine stopped at a statement
   left_at : (item : Item) (stmt : Stmt) (old : Engine S) → IsReadyEngine g old → item ≡ Statement stmt → (before : List ℕ) → (g.state old.store).told ≡ Some before
-      → (left : Option PageList) (told : List ℕ) → LeftWithin old.tables.ext (held_by g old) stmt (g.state old.store) left told
-      → LeftByServing old.tables.ext (held_by g old) [] [] (item ∷ []) before left told
+      → (left : Option PageList) (told : List ℕ) → LeftWithin old.tables.shape (held_by g old) stmt (g.state old.store) left told
+      → LeftByServing old.tables.shape (held_by g old) [] [] (item ∷ []) before left told
   left_at item stmt old ready hand before is left told ((pages, reopens, may), known) =
       let kept = kept_at item stmt (held_by g old) pages hand may in
       left_silent pages kept.0 reopens (served_at stmt old pages ready may) kept.1 kept.2 (bytes_told is known)

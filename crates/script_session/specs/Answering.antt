@@ -13,7 +13,6 @@ use Rattle.store_api.specs.Moments.{BaseWithFront, Outcomes}
 use Rattle.store_api.specs.StoreState.{StoreState}
 use Rattle.store_api.specs.declared.fault.Damage.{Damage}
 use Rattle.store_api.specs.declared.pages.Pages.{Ghosts}
-use Rattle.extent_map.specs.Owners.{IsSameShape}
 use Rattle.script_engine.specs.Leaving.{IsAllCommitted}
 use Rattle.script_engine.specs.Serving.{IsReadyEngine, MayCall, held_by}
 use Rattle.script_engine.specs.Turns.{LeavesCommitted, LeavesOutside}
@@ -42,7 +41,7 @@ pub record StopsAt {S : Type 0} (g : Ghosts S) (read : Read) (old new : Engine S
 -- after it, or the engine stops at its statement. No damage is named of sound pages, none that
 -- isn't exact, and nothing is told.
 pub record AnswersItem {S : Type 0} (g : Ghosts S) (read : Read) (result : Result Outcome EngineStop) (old new : Engine S) : Type 0 where
-  pub meets : IfOk result (λ outcome. IsReadyEngine g old → MeetsOnPages old.tables.ext (held_by g old) (item_of read) outcome (held_by g new) × IsReadyEngine g new)
+  pub meets : IfOk result (λ outcome. IsReadyEngine g old → MeetsOnPages old.tables.shape (held_by g old) (item_of read) outcome (held_by g new) × IsReadyEngine g new)
   pub own : IfOk result (IsOutcomeOf (item_of read))
   pub may : OnOk result (MayCall g new)
   pub done : OnOk result (IsReadyEngine g old → OverTime g.clock g.left (BaseBeforeOrAfter (g.state old.store) (g.state new.store)) old.store new.store)
@@ -52,7 +51,7 @@ pub record AnswersItem {S : Type 0} (g : Ghosts S) (read : Read) (result : Resul
   pub breaks : (damage : Damage) → result ≡ Err (Damaged damage) → BreaksAtStop g [] old new damage
   pub keeps : OnOk result (IsAllCommitted (held_by g old) → IsAllCommitted (held_by g new))
   pub opens : OnOk result (new.is_open ≡ opened_by_item (item_of read) old.is_open)
-  pub shape : IsSameShape old.tables.ext new.tables.ext
+  pub shape : new.tables.shape ≡ old.tables.shape
   pub outside : LeavesOutside g result old new
 
 -- An outcome is told on an engine, whole, or at a stop a first part of its text, whatever page is at hand then. Nothing else changes.

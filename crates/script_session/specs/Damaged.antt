@@ -25,7 +25,7 @@ opened_behind (item ∷ items) was = opened_behind items (opened_by_item item wa
 -- The damage is that of the pages that are held behind these items: the first rule that they break, and the lowest page that breaks
 -- it. Whether a transaction is open hangs on the items alone. The store goes on.
 pub record BreaksAtStop {S : Type 0} (g : Ghosts S) (items : List Item) (old new : Engine S) (damage : Damage) : Type 0 where
-  pub first : IsTrue (g.state old.store).is_told → IsFirstBreak old.tables.ext (g.state new.store).work damage.rule damage.page
+  pub first : IsTrue (g.state old.store).is_told → IsFirstBreak old.tables.shape (g.state new.store).work damage.rule damage.page
   pub committed : IsAllCommitted (held_by g old) → HoldsCommitted g new
   pub opened : new.is_open ≡ opened_behind items old.is_open
   pub going : (g.state new.store).ended ≡ false

@@ -3,26 +3,18 @@ use Rattle.std.specs.Prelude.{◌≡◌, ℕ, zero, suc, List, [], ◌∷◌}
 use Rattle.mdc_ast.specs.declared.reply.Outcome.{Outcome}
 use Rattle.mdc_ast.specs.declared.reply.Outcome.TheVariants as said
 use Rattle.mdc_ast.specs.declared.refusal.Refusal.{Refusal}
-use Rattle.mdc_ast.specs.declared.statement.Stmt.{Stmt}
 use Rattle.mdc_ast.specs.Reading.{Item, Statement}
 use Rattle.mdc_ast.specs.Reading as reading
-use Rattle.extent_map.specs.Owners.{IsSameShape}
-use Rattle.extent_map.specs.declared.extents.Extents.{Extents}
+use Rattle.store_api.specs.declared.shape.Shape.{Shape}
 use Rattle.mdc_sound.specs.SoundDatabase.{IsSoundDatabase}
 use Rattle.stored_catalog.specs.StoredDefinitions.{AreStored}
 use Rattle.script_engine.specs.Held.{HeldPages, StepsOnPages}
 use Rattle.script_engine.specs.Resting.{IsHeldWithin, RestsOnPages, held_behind}
 
--- a statement stepped on pages in extents of this shape, whatever was noted of these
-pub record StepsInShape (ext : Extents) (old : HeldPages) (stmt : Stmt) (outcome : Outcome) (new : HeldPages) : Type 0 where
-  pub noted : Extents
-  pub shape : IsSameShape ext noted
-  pub steps : StepsOnPages noted old stmt outcome new
-
 -- what one item may do to what is held: a statement steps, and what can't be read is refused and changes nothing
-abbrev pub MeetsOnPages : Extents → HeldPages → Item → Outcome → HeldPages → Type 0
-MeetsOnPages ext old (Statement stmt) outcome new = StepsInShape ext old stmt outcome new
-MeetsOnPages ext old (reading.Refused refusal) outcome new = (outcome ≡ said.Refused refusal) × (new ≡ old)
+abbrev pub MeetsOnPages : Shape → HeldPages → Item → Outcome → HeldPages → Type 0
+MeetsOnPages shape old (Statement stmt) outcome new = StepsOnPages shape old stmt outcome new
+MeetsOnPages shape old (reading.Refused refusal) outcome new = (outcome ≡ said.Refused refusal) × (new ≡ old)
 
 -- a stage of a run: what is held once an item was met, and behind each step that is taken after it
 pub record Stage : Type 0 where
@@ -43,20 +35,20 @@ IsHeldIn stage held = IsHeldWithin stage.met stage.rests held
 
 -- An item was met, and steps were taken after it: it did what it may, and a refusal changed nothing. Before it and once it was met
 -- the pages are sound, and the definitions that are held are theirs; each step keeps that.
-pub record MeetsItem (ext : Extents) (old : HeldPages) (item : Item) (outcome : Outcome) (stage : Stage) : Type 0 where
-  pub meets : MeetsOnPages ext old item outcome stage.met
+pub record MeetsItem (shape : Shape) (old : HeldPages) (item : Item) (outcome : Outcome) (stage : Stage) : Type 0 where
+  pub meets : MeetsOnPages shape old item outcome stage.met
   pub refused : (refusal : Refusal) → outcome ≡ said.Refused refusal → stage.met ≡ old
-  pub was_sound : IsSoundDatabase ext old.work
+  pub was_sound : IsSoundDatabase shape old.work
   pub was_stored : AreStored old.work old.defs
-  pub sound : IsSoundDatabase ext stage.met.work
+  pub sound : IsSoundDatabase shape stage.met.work
   pub stored : AreStored stage.met.work stage.met.defs
-  pub rests : RestsOnPages ext stage.met stage.rests
+  pub rests : RestsOnPages shape stage.met stage.rests
 
 -- The items have these outcomes, and are met in these stages, each from the end of the one before.
-pub data GoesOnPages (ext : Extents) : HeldPages → List Item → List Outcome → List Stage → Type 0 where
-  nothing : {held : HeldPages} → GoesOnPages ext held [] [] []
+pub data GoesOnPages (shape : Shape) : HeldPages → List Item → List Outcome → List Stage → Type 0 where
+  nothing : {held : HeldPages} → GoesOnPages shape held [] [] []
   one : {held : HeldPages} {stage : Stage} {item : Item} {outcome : Outcome} {items : List Item} {outcomes : List Outcome} {stages : List Stage}
-      → MeetsItem ext held item outcome stage → GoesOnPages ext (end_of stage) items outcomes stages → GoesOnPages ext held (item ∷ items) (outcome ∷ outcomes) (stage ∷ stages)
+      → MeetsItem shape held item outcome stage → GoesOnPages shape (end_of stage) items outcomes stages → GoesOnPages shape held (item ∷ items) (outcome ∷ outcomes) (stage ∷ stages)
 
 -- the stage after so many items, or after the last one
 abbrev pub stage_after : Stage → List Stage → ℕ → Stage

@@ -6,28 +6,28 @@ use Rattle.mdc_ast.specs.Reading.{Item, Statement}
 use Rattle.statement_meaning.specs.Built.{AreBuiltDefs}
 use Rattle.mdc_ast.specs.Definitions.{Definitions}
 use Rattle.store_api.specs.Moments.{Outcomes}
-use Rattle.extent_map.specs.declared.extents.Extents.{Extents}
+use Rattle.store_api.specs.declared.shape.Shape.{Shape}
 use Rattle.table_trees.specs.ToldPages.{PageList}
 use Rattle.mdc_sound.specs.SoundDatabase.{IsSoundDatabase}
 use Rattle.stored_catalog.specs.StoredDefinitions.{AreStored}
-use Rattle.script_engine.specs.Held.{HeldPages}
+use Rattle.script_engine.specs.Held.{HeldPages, StepsOnPages}
 use Rattle.script_session.specs.Ending.{Says}
-use Rattle.script_session.specs.Going.{IsHeldIn, Stage, StepsInShape, held_last, stage_after, still}
+use Rattle.script_session.specs.Going.{IsHeldIn, Stage, held_last, stage_after, still}
 
 -- pages that may be served: a sound database of tables of built forms
-pub record AreServedPages (ext : Extents) (pages : PageList) : Type 0 where
-  pub sound : IsSoundDatabase ext pages
+pub record AreServedPages (shape : Shape) (pages : PageList) : Type 0 where
+  pub sound : IsSoundDatabase shape pages
   pub defs : Definitions
   pub stored : AreStored pages defs
   pub valid : AreBuiltDefs defs
 
 -- The pages of the last commit after so many items of a run: once the last of these was met, or behind a step after it. An item in
 -- hand, at which the run stopped, counts as one that was executed where the pages are those that it committed.
-pub data AreKept (ext : Extents) (held : HeldPages) (stages : List Stage) (in_hand : List Item) (pages : PageList) (items : ℕ) : Type 0 where
-  done : items ≤ length stages → (within : HeldPages) → IsHeldIn (stage_after (still held) stages items) within → pages ≡ within.base → AreKept ext held stages in_hand pages items
+pub data AreKept (shape : Shape) (held : HeldPages) (stages : List Stage) (in_hand : List Item) (pages : PageList) (items : ℕ) : Type 0 where
+  done : items ≤ length stages → (within : HeldPages) → IsHeldIn (stage_after (still held) stages items) within → pages ≡ within.base → AreKept shape held stages in_hand pages items
   stopped : (stmt : Stmt) (outcome : Outcome) (new : HeldPages) → in_hand ≡ Statement stmt ∷ [] → items ≡ length stages + 1
-      → StepsInShape ext (held_last held stages) stmt outcome new → new.open_ ≡ false → pages ≡ new.base → AreStored new.base new.defs
-      → AreKept ext held stages in_hand pages items
+      → StepsOnPages shape (held_last held stages) stmt outcome new → new.open_ ≡ false → pages ≡ new.base → AreStored new.base new.defs
+      → AreKept shape held stages in_hand pages items
 
 -- whether something is told of a text counts as one
 abbrev pub some_told : List ℕ → ℕ
@@ -42,12 +42,12 @@ pub record HasBegun (outcomes : List Outcome) (told : List ℕ) (begun : ℕ) : 
 
 -- A crash within a run leaves sound pages, those of the last commit after some of its first items, and a front of its replies:
 -- each item whose reply was begun is among these, and at most one more than those whose reply was told whole.
-pub record LeftByServing (ext : Extents) (held : HeldPages) (stages : List Stage) (outcomes : List Outcome) (in_hand : List Item) (before : List ℕ) (left : Option PageList) (told : List ℕ) : Type 0 where
+pub record LeftByServing (shape : Shape) (held : HeldPages) (stages : List Stage) (outcomes : List Outcome) (in_hand : List Item) (before : List ℕ) (left : Option PageList) (told : List ℕ) : Type 0 where
   pub pages : PageList
   pub reopens : left ≡ Some pages
-  pub served : AreServedPages ext pages
+  pub served : AreServedPages shape pages
   pub items : ℕ
-  pub kept : AreKept ext held stages in_hand pages items
+  pub kept : AreKept shape held stages in_hand pages items
   pub more : List ℕ
   pub told_is : told ≡ before ++ more
   pub begun : ℕ

@@ -9,7 +9,7 @@ use Rattle.statement_meaning.specs.Cause.{FileFull, refusal_of}
 use Rattle.mdc_ast.specs.Database.{Database}
 use Rattle.statement_meaning.specs.Session.{AgreesWith, Session, rested, turn}
 use Rattle.statement_meaning.specs.Step.{faults}
-use Rattle.extent_map.specs.declared.extents.Extents.{Extents}
+use Rattle.store_api.specs.declared.shape.Shape.{Shape}
 use Rattle.script_engine.specs.Held.{HeldPages, StandsForSession}
 use Rattle.script_engine.specs.Listing.{TellsNumbers}
 use Rattle.script_session.specs.Going.{IsHeldIn, Stage, end_of}
@@ -26,16 +26,16 @@ MeetsOnLists cap old (Statement stmt) outcome new = TurnsLists cap old stmt outc
 MeetsOnLists cap old (reading.Refused refusal) outcome new = (outcome ≡ said.Refused refusal) × (new ≡ old)
 
 -- the pages within a stage stand for the session that its item left, each with the pass that is held with it
-abbrev pub StandInStage : Extents → Stage → Session → Type 0
-StandInStage ext stage session = (held : HeldPages) → IsHeldIn stage held → StandsForSession ext held (rested session held.pass)
+abbrev pub StandInStage : Shape → Stage → Session → Type 0
+StandInStage shape stage session = (held : HeldPages) → IsHeldIn stage held → StandsForSession shape held (rested session held.pass)
 
 -- The items have these outcomes over lists, the pages that are held stand for a session, and so do those of each stage.
-pub data GoesOnLists (ext : Extents) : HeldPages → Session → List Item → List Outcome → List Stage → List Session → Type 0 where
-  nothing : {held : HeldPages} {session : Session} → StandsForSession ext held session → GoesOnLists ext held session [] [] [] []
+pub data GoesOnLists (shape : Shape) : HeldPages → Session → List Item → List Outcome → List Stage → List Session → Type 0 where
+  nothing : {held : HeldPages} {session : Session} → StandsForSession shape held session → GoesOnLists shape held session [] [] [] []
   one : {held : HeldPages} {stage : Stage} {session after : Session} {item : Item} {outcome : Outcome} {items : List Item} {outcomes : List Outcome} {stages : List Stage} {sessions : List Session}
-      → (met : Session) → StandsForSession ext held session → MeetsOnLists ext.cap session item outcome met → StandInStage ext stage met → after ≡ rested met (end_of stage).pass
-      → GoesOnLists ext (end_of stage) after items outcomes stages sessions
-      → GoesOnLists ext held session (item ∷ items) (outcome ∷ outcomes) (stage ∷ stages) (after ∷ sessions)
+      → (met : Session) → StandsForSession shape held session → MeetsOnLists shape.extents session item outcome met → StandInStage shape stage met → after ≡ rested met (end_of stage).pass
+      → GoesOnLists shape (end_of stage) after items outcomes stages sessions
+      → GoesOnLists shape held session (item ∷ items) (outcome ∷ outcomes) (stage ∷ stages) (after ∷ sessions)
 
 -- the session after so many items, or after the last one
 abbrev pub session_at : Session → List Session → ℕ → Session

@@ -43,11 +43,11 @@ pub record RunsScript {S : Type 0} (g : Ghosts S) (script left : Option (List �
   pub outcomes : List Outcome
   pub stages : List Stage
   pub in_hand : List Item
-  pub goes : GoesOnPages old.tables.ext (held_by g old) items outcomes stages
+  pub goes : GoesOnPages old.tables.shape (held_by g old) items outcomes stages
   pub said : List ℕ
   pub told : Takes (g.state old.store).told said (g.state new.store).told
   pub ends : IfSome script (λ script. EndsScript script left said items in_hand outcomes result)
   pub last : OnOk result ((held_by g new ≡ held_last (held_by g old) stages) × IsReadyEngine g new)
-  pub base : (n : ℕ) × AreKept old.tables.ext (held_by g old) stages in_hand (g.state new.store).base n
+  pub base : (n : ℕ) × AreKept old.tables.shape (held_by g old) stages in_hand (g.state new.store).base n
   pub time : (before : List ℕ) → (g.state old.store).told ≡ Some before
-      → OverTime g.clock g.left (LeftByServing old.tables.ext (held_by g old) stages outcomes in_hand before) old.store new.store
+      → OverTime g.clock g.left (LeftByServing old.tables.shape (held_by g old) stages outcomes in_hand before) old.store new.store

@@ -9,7 +9,6 @@ use Rattle.statement_meaning.specs.Texts.{outcome_text}
 use Rattle.mdc_outside.specs.Outside.{Takes}
 use Rattle.store_api.specs.declared.fault.Damage.{Damage}
 use Rattle.store_api.specs.declared.pages.Pages.{Ghosts}
-use Rattle.extent_map.specs.Owners.{IsSameShape}
 use Rattle.script_engine.specs.Leaving.{IsAllCommitted}
 use Rattle.script_engine.specs.Serving.{IsReadyEngine, MayCall, held_by}
 use Rattle.script_engine.specs.declared.engine.Engine.{Engine}
@@ -24,11 +23,11 @@ use Rattle.script_session.specs.declared.stop.SessionStop.TheVariants.{Damaged, 
 -- A run of items on a sound engine: they go on the pages that were held, these bytes are told, and a crash meanwhile leaves what is
 -- kept after some of them.
 pub record RunsItems {S : Type 0} (g : Ghosts S) (items in_hand : List Item) (outcomes : List Outcome) (stages : List Stage) (said : List ℕ) (old new : Engine S) : Type 0 where
-  pub goes : GoesOnPages old.tables.ext (held_by g old) items outcomes stages
+  pub goes : GoesOnPages old.tables.shape (held_by g old) items outcomes stages
   pub told : Takes (g.state old.store).told said (g.state new.store).told
-  pub base : (n : ℕ) × AreKept old.tables.ext (held_by g old) stages in_hand (g.state new.store).base n
+  pub base : (n : ℕ) × AreKept old.tables.shape (held_by g old) stages in_hand (g.state new.store).base n
   pub time : (before : List ℕ) → (g.state old.store).told ≡ Some before
-      → OverTime g.clock g.left (LeftByServing old.tables.ext (held_by g old) stages outcomes in_hand before) old.store new.store
+      → OverTime g.clock g.left (LeftByServing old.tables.shape (held_by g old) stages outcomes in_hand before) old.store new.store
 
 -- the item has an outcome, a refusal or none, whose text is told
 pub record EndsTold {S : Type 0} (g : Ghosts S) (item : Item) (refused : Bool) (old new : Engine S) : Type 0 where
@@ -78,5 +77,5 @@ pub record TurnsItem {S : Type 0} (g : Ghosts S) (item : Item) (result : Result 
   pub replies : IfOk result (λ refused. HasReply item refused (g.state old.store).told (g.state new.store).told)
   pub part : OnErr result (StopsReplying item (g.state old.store).told (g.state new.store).told)
   pub reopens : OverTime g.clock g.left ReopensAlways old.store new.store
-  pub shape : IsSameShape old.tables.ext new.tables.ext
+  pub shape : new.tables.shape ≡ old.tables.shape
   pub later : g.clock old.store ≤ g.clock new.store

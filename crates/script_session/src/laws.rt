@@ -3,7 +3,7 @@ ghost use Rattle.std.specs.Prelude.{List};
 ghost use Rattle.mdc_ast.specs.declared.reply.Outcome.{Outcome};
 ghost use Rattle.mdc_ast.specs.Reading.{Item};
 ghost use Rattle.statement_meaning.specs.Session.{Session};
-ghost use Rattle.extent_map.specs.declared.extents.Extents.{Extents};
+ghost use Rattle.store_api.specs.declared.shape.Shape.{Shape};
 ghost use Rattle.script_engine.specs.Held.{HeldPages, StandsForSession};
 ghost use Rattle.script_session.specs.Going.{GoesOnPages, Stage};
 ghost use Rattle.script_session.specs.Lists.{GoesOnLists};
@@ -11,6 +11,6 @@ ghost use Rattle.script_session.specs.Lists.{GoesOnLists};
 /// A run over pages that stand for a session is a run over that session's lists: each outcome is that of the lists, or 70 where
 /// nothing else is said against the statement, and the pages that are held after each item stand for the lists after it.
 pub fn goes_on_lists()
-    ensures { (ext : Extents) (held : HeldPages) (items : List Item) (outcomes : List Outcome) (stages : List Stage) → GoesOnPages ext held items outcomes stages
-        → (session : Session) → StandsForSession ext held session → (sessions : List Session) × GoesOnLists ext held session items outcomes stages sessions }
+    ensures { (shape : Shape) (held : HeldPages) (items : List Item) (outcomes : List Outcome) (stages : List Stage) → GoesOnPages shape held items outcomes stages
+        → (session : Session) → StandsForSession shape held session → (sessions : List Session) × GoesOnLists shape held session items outcomes stages sessions }
 {}

@@ -4,7 +4,7 @@ use Rattle.std.specs.Prelude.{[], ◌∷◌, map, replicate, Contains, Some, Non
 use Rattle.mdc_words.specs.ByteOrder.{Entry}
 use Rattle.mdc_ast.specs.declared.definition.IndexDef.{IndexDef}
 use Rattle.mdc_ast.specs.Database.{Database}
-use Rattle.extent_map.specs.declared.extents.Extents.{Extents}
+use Rattle.store_api.specs.declared.shape.Shape.{Shape}
 use Rattle.entry_tree.specs.Forest.{Forest, leaf_entries}
 use Rattle.entry_tree.specs.Forest.Forest.{Leaf, Fork, Nil}
 use Rattle.table_trees.specs.ToldPages.{PageList}
@@ -52,10 +52,10 @@ worked_database =
 -- ---- what it has
 
 -- an entry of a record index that no row of the table has
-pub record IsLeftBehind (ext : Extents) (pages : PageList) (table : TableView) (index : IndexDef) (tree : Forest) (entry : Entry) : Type 0 where
+pub record IsLeftBehind (shape : Shape) (pages : PageList) (table : TableView) (index : IndexDef) (tree : Forest) (entry : Entry) : Type 0 where
   pub there : Contains (leaf_entries tree) entry
-  pub of_no_row : Contains (map (entry_of_row table.def index) (rows_in_table ext pages table.def table.map)) entry → ⊥
+  pub of_no_row : Contains (map (entry_of_row table.def index) (rows_in_table shape pages table.def table.map)) entry → ⊥
 
 -- there is one
-abbrev pub HasLeftBehind : Extents → PageList → TableView → IndexDef → Forest → Type 0
-HasLeftBehind ext pages table index tree = (entry : Entry) × IsLeftBehind ext pages table index tree entry
+abbrev pub HasLeftBehind : Shape → PageList → TableView → IndexDef → Forest → Type 0
+HasLeftBehind shape pages table index tree = (entry : Entry) × IsLeftBehind shape pages table index tree entry

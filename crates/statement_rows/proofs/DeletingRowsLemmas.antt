@@ -8,9 +8,10 @@ use Rattle.mdc_ast.specs.Database.{Database, PlainTable, changed_at}
 use Rattle.store_api.specs.Frame.{Touches}
 use Rattle.store_api.specs.Works.{Works}
 use Rattle.store_api.specs.declared.pages.Pages.{Ghosts}
+use Rattle.store_api.specs.declared.shape.Shape.{Shape}
 use Rattle.store_api.proofs.FrameLemmas.{touches_wider}
-use Rattle.extent_map.specs.declared.extents.Extents.{Extents}
 use Rattle.extent_map.specs.declared.kind.Kind.{Kind}
+use Rattle.extent_map.specs.declared.space_notes.SpaceNotes.{SpaceNotes}
 use Rattle.row_page.specs.RowPage.{count_rows}
 use Rattle.table_trees.specs.SpaceChanges.{MakesChanges, SpaceChange}
 use Rattle.mdc_sound.specs.Placing.{Spot, SpotsAfterReturns, TakesRow}
@@ -40,8 +41,8 @@ TakesBefore def placed was space between =
     (rows : List PlacedRow) (more : List SpaceChange) (is : List Spot) → TakesRowsBy def between rows more is → TakesRowsBy def was (placed ∷ rows) (space ++ more) is
 
 -- the changes of a row in a place
-abbrev pub left_by : {S : Type 0} (g : Ghosts S) (ext : Extents) (s : S) (def : TableDef) (rid : Rid) (row : Row) (owners : List Kind) (forests : TableForests) → HasThisRow g ext s def rid row owners forests → List SpaceChange
-left_by g ext s def rid row owners forests this = taking_changes def row rid (count_rows this.slots)
+abbrev pub left_by : {S : Type 0} (g : Ghosts S) (shape : Shape) (s : S) (def : TableDef) (rid : Rid) (row : Row) (owners : List Kind) (forests : TableForests) → HasThisRow g shape s def rid row owners forests → List SpaceChange
+left_by g shape s def rid row owners forests this = taking_changes def row rid (count_rows this.slots)
 
 -- the plain table without the rows of hits
 abbrev pub without_hits : List Hit → PlainTable → PlainTable
@@ -49,65 +50,65 @@ without_hits hits = without_rows (map (λ hit. hit.row) hits)
 
 module _ {S : Type 0} (g : Ghosts S) where
   -- rows behind the first lie where they did once it is out
-  pub these_still : (before now : Extents) (old new : S) (def : TableDef) (owners owners_now : List Kind) (forests forests_now : TableForests) (placed : PlacedRow) (rows : List PlacedRow) (mid : List Spot)
-      → TakesRow (spots_of g before old def owners forests) placed.rid placed.row mid → SpotsAfterReturns mid (spots_of g now new def owners_now forests_now) → HasTheseRows g before old def (placed ∷ rows) owners forests
-      → HasTheseRows g now new def rows owners_now forests_now
-  these_still before now old new def owners owners_now forests forests_now placed rows mid takes returns =
-      rows_behind g before now old new def owners owners_now forests forests_now placed rows
+  pub these_still : (shape : Shape) (old new : S) (def : TableDef) (owners owners_now : List Kind) (forests forests_now : TableForests) (placed : PlacedRow) (rows : List PlacedRow) (mid : List Spot)
+      → TakesRow (spots_of g shape old def owners forests) placed.rid placed.row mid → SpotsAfterReturns mid (spots_of g shape new def owners_now forests_now) → HasTheseRows g shape old def (placed ∷ rows) owners forests
+      → HasTheseRows g shape new def rows owners_now forests_now
+  these_still shape old new def owners owners_now forests forests_now placed rows mid takes returns =
+      rows_behind g shape old new def owners owners_now forests forests_now placed rows
       (λ at row apart lies.
-      lies_after_returns mid (spots_of g now new def owners_now forests_now) at row returns (lies_taken (spots_of g before old def owners forests) mid placed.rid at placed.row row takes apart lies))
+      lies_after_returns mid (spots_of g shape new def owners_now forests_now) at row returns (lies_taken (spots_of g shape old def owners forests) mid placed.rid at placed.row row takes apart lies))
 
-  abbrev pub one_deleted : (before now : Extents) (room_of room_now : Entry → RoomNote) (old new : S) (def : TableDef) (row : Row) (rid : Rid) (owners : List Kind) (forests : TableForests)
-      → IsReadyBetween g before room_of old def owners forests → (this : HasThisRow g before old def rid row owners forests) → DeletesRow g before now room_now old new def row rid owners forests
-      → MakesChanges before (pages_of g old) (left_by g before old def rid row owners forests this) (pages_of g new) → Works g old new → Touches g (IsTableOrMapPage g before old def) old new
-      → IsSoundBetweenChanges now def (pages_of g new)
-      → ((db : Database) → PagesStandFor before (with_table_page def (pages_of g old)) db → PagesStandFor now (with_table_page def (pages_of g new)) (changed_at db def.number (without_row row.number)))
-      → ChangesRowsOf g before now room_now old new def def owners forests (TakesBefore def (row_in_place rid row)) (without_row row.number)
-  one_deleted before now room_of room_now old new def row rid owners forests ready this deletes makes works touches sound stands_for = record {
+  abbrev pub one_deleted : (shape : Shape) (before now : SpaceNotes) (room_of room_now : Entry → RoomNote) (old new : S) (def : TableDef) (row : Row) (rid : Rid) (owners : List Kind) (forests : TableForests)
+      → IsReadyBetween g shape before room_of old def owners forests → (this : HasThisRow g shape old def rid row owners forests) → DeletesRow g shape before now room_now old new def row rid owners forests
+      → MakesChanges shape (pages_of g old) (left_by g shape old def rid row owners forests this) (pages_of g new) → Works g old new → Touches g (IsTableOrMapPage g shape old def) old new
+      → IsSoundBetweenChanges shape def (pages_of g new)
+      → ((db : Database) → PagesStandFor shape (with_table_page def (pages_of g old)) db → PagesStandFor shape (with_table_page def (pages_of g new)) (changed_at db def.number (without_row row.number)))
+      → ChangesRowsOf g shape before now room_now old new def def owners forests (TakesBefore def (row_in_place rid row)) (without_row row.number)
+  one_deleted shape before now room_of room_now old new def row rid owners forests ready this deletes makes works touches sound stands_for = record {
     owners_now = deletes.takes.owners_now;
     forests_now = deletes.takes.forests_now;
     changes = deletes.takes.changes;
     records = deletes.takes.records;
     now = record { ready = record { stands = deletes.takes.changes.stands; notes = deletes.takes.changes.notes ready.ready.notes; rooms = deletes.takes.rooms }; sound = sound };
-    space = left_by g before old def rid row owners forests this;
+    space = left_by g shape old def rid row owners forests this;
     places = λ rows more is rest. TakesRowsBy.one this.lies deletes.takes.takes deletes.takes.returns rest;
     makes = makes;
     stands_for = stands_for;
-    table_pages = table_pages_kept g before old new def owners forests ready.ready.stands works (touches_wider touches (in_space g before old def));
-    others = others_kept g before now old new def owners deletes.takes.owners_now forests deletes.takes.forests_now ready.sound.sound ready.ready.stands deletes.takes.changes
-        (touches_wider touches (in_space g before old def)) works.no_shorter;
+    table_pages = table_pages_kept g shape old new def owners forests ready.ready.stands works (touches_wider touches (in_space g shape old def));
+    others = others_kept g shape old new def owners deletes.takes.owners_now forests deletes.takes.forests_now ready.sound.sound ready.ready.stands deletes.takes.changes
+        (touches_wider touches (in_space g shape old def)) works.no_shorter;
   }
 
   -- ---- rows so far, and the rest
 
   -- Rows were deleted, and so the table is ready for the rest of these, which lie where they did. With these all are deleted.
-  pub record DeletesOn (before now : Extents) (room_now : Entry → RoomNote) (old mid : S) (def : TableDef) (hits rest : List Hit) (owners : List Kind) (forests : TableForests) : Type 0 where
-    pub rows : RowsLeadOn g before now room_now old mid def def owners forests (λ was space is. TakesRowsBy def was (map placed_row rest) space is) (λ was space is. TakesRowsBy def was (map placed_row hits) space is) (without_hits rest) (without_hits hits)
-    pub has : HasTheseRows g now mid def (map placed_row rest) rows.owners_now rows.forests_now
+  pub record DeletesOn (shape : Shape) (before now : SpaceNotes) (room_now : Entry → RoomNote) (old mid : S) (def : TableDef) (hits rest : List Hit) (owners : List Kind) (forests : TableForests) : Type 0 where
+    pub rows : RowsLeadOn g shape before now room_now old mid def def owners forests (λ was space is. TakesRowsBy def was (map placed_row rest) space is) (λ was space is. TakesRowsBy def was (map placed_row hits) space is) (without_hits rest) (without_hits hits)
+    pub has : HasTheseRows g shape mid def (map placed_row rest) rows.owners_now rows.forests_now
 
-  pub deletes_none : (ext : Extents) (room_of : Entry → RoomNote) (s : S) (def : TableDef) (hits : List Hit) (owners : List Kind) (forests : TableForests) → IsReadyBetween g ext room_of s def owners forests
-      → HasTheseRows g ext s def (map placed_row hits) owners forests → DeletesOn ext ext room_of s s def hits hits owners forests
-  deletes_none ext room_of s def hits owners forests ready has = record {
-    rows = leads_none g ext room_of s def owners forests (λ was space is. TakesRowsBy def was (map placed_row hits) space is) (without_hits hits) ready;
+  pub deletes_none : (shape : Shape) (noted : SpaceNotes) (room_of : Entry → RoomNote) (s : S) (def : TableDef) (hits : List Hit) (owners : List Kind) (forests : TableForests) → IsReadyBetween g shape noted room_of s def owners forests
+      → HasTheseRows g shape s def (map placed_row hits) owners forests → DeletesOn shape noted noted room_of s s def hits hits owners forests
+  deletes_none shape noted room_of s def hits owners forests ready has = record {
+    rows = leads_none g shape noted room_of s def owners forests (λ was space is. TakesRowsBy def was (map placed_row hits) space is) (without_hits hits) ready;
     has = has;
   }
 
-  pub deletes_all : (before now : Extents) (room_now : Entry → RoomNote) (old new : S) (def : TableDef) (hits : List Hit) (owners : List Kind) (forests : TableForests) → DeletesOn before now room_now old new def hits [] owners forests
-      → ChangesRowsOf g before now room_now old new def def owners forests (λ was space is. TakesRowsBy def was (map placed_row hits) space is) (without_hits hits)
-  deletes_all before now room_now old new def hits owners forests on =
-      leads_all g before now room_now old new def def owners forests (λ was space is. TakesRowsBy def was [] space is) (λ was space is. TakesRowsBy def was (map placed_row hits) space is) (without_hits []) (without_hits hits) on.rows
+  pub deletes_all : (shape : Shape) (before now : SpaceNotes) (room_now : Entry → RoomNote) (old new : S) (def : TableDef) (hits : List Hit) (owners : List Kind) (forests : TableForests) → DeletesOn shape before now room_now old new def hits [] owners forests
+      → ChangesRowsOf g shape before now room_now old new def def owners forests (λ was space is. TakesRowsBy def was (map placed_row hits) space is) (without_hits hits)
+  deletes_all shape before now room_now old new def hits owners forests on =
+      leads_all g shape before now room_now old new def def owners forests (λ was space is. TakesRowsBy def was [] space is) (λ was space is. TakesRowsBy def was (map placed_row hits) space is) (without_hits []) (without_hits hits) on.rows
       (λ spots. TakesRowsBy.none) (λ table. refl)
 
-  pub deletes_more : (before mid next : Extents) (room_mid room_next : Entry → RoomNote) (old middle new : S) (def : TableDef) (hits : List Hit) (hit : Hit) (rest : List Hit) (owners : List Kind) (forests : TableForests)
-      (on : DeletesOn before mid room_mid old middle def hits (hit ∷ rest) owners forests) → DeletesRow g mid next room_next middle new def hit.row hit.rid on.rows.owners_now on.rows.forests_now
-      → MakesChanges mid (pages_of g middle) (left_by g mid middle def hit.rid hit.row on.rows.owners_now on.rows.forests_now on.has.each.0) (pages_of g new) → Works g middle new → Touches g (IsTableOrMapPage g mid middle def) middle new → IsSoundBetweenChanges next def (pages_of g new)
-      → ((db : Database) → PagesStandFor mid (with_table_page def (pages_of g middle)) db → PagesStandFor next (with_table_page def (pages_of g new)) (changed_at db def.number (without_row hit.row.number)))
-      → DeletesOn before next room_next old new def hits rest owners forests
-  deletes_more before mid next room_mid room_next old middle new def hits hit rest owners forests on deletes makes works touches sound stands_for =
-      let one = one_deleted mid next room_mid room_next middle new def hit.row hit.rid on.rows.owners_now on.rows.forests_now on.rows.ready on.has.each.0 deletes makes works touches sound stands_for in
+  pub deletes_more : (shape : Shape) (before mid next : SpaceNotes) (room_mid room_next : Entry → RoomNote) (old middle new : S) (def : TableDef) (hits : List Hit) (hit : Hit) (rest : List Hit) (owners : List Kind) (forests : TableForests)
+      (on : DeletesOn shape before mid room_mid old middle def hits (hit ∷ rest) owners forests) → DeletesRow g shape mid next room_next middle new def hit.row hit.rid on.rows.owners_now on.rows.forests_now
+      → MakesChanges shape (pages_of g middle) (left_by g shape middle def hit.rid hit.row on.rows.owners_now on.rows.forests_now on.has.each.0) (pages_of g new) → Works g middle new → Touches g (IsTableOrMapPage g shape middle def) middle new → IsSoundBetweenChanges shape def (pages_of g new)
+      → ((db : Database) → PagesStandFor shape (with_table_page def (pages_of g middle)) db → PagesStandFor shape (with_table_page def (pages_of g new)) (changed_at db def.number (without_row hit.row.number)))
+      → DeletesOn shape before next room_next old new def hits rest owners forests
+  deletes_more shape before mid next room_mid room_next old middle new def hits hit rest owners forests on deletes makes works touches sound stands_for =
+      let one = one_deleted shape mid next room_mid room_next middle new def hit.row hit.rid on.rows.owners_now on.rows.forests_now on.rows.ready on.has.each.0 deletes makes works touches sound stands_for in
       record {
-        rows = leads_more g before mid next room_mid room_next old middle new def def def.next owners forests (TakesBefore def (placed_row hit)) (λ was space is. TakesRowsBy def was (map placed_row (hit ∷ rest)) space is)
+        rows = leads_more g shape before mid next room_mid room_next old middle new def def def.next owners forests (TakesBefore def (placed_row hit)) (λ was space is. TakesRowsBy def was (map placed_row (hit ∷ rest)) space is)
             (λ was space is. TakesRowsBy def was (map placed_row rest) space is) (λ was space is. TakesRowsBy def was (map placed_row hits) space is) (without_row hit.row.number) (without_hits (hit ∷ rest)) (without_hits rest) (without_hits hits) on.rows one
-            (λ was between is space more first. first (map placed_row rest) more is) (takes_no_block g mid next middle new def on.rows.owners_now on.rows.forests_now room_next hit.row hit.rid on.rows.ready.ready.stands deletes.takes) (λ table. refl) works.no_shorter;
-        has = these_still mid next middle new def on.rows.owners_now one.owners_now on.rows.forests_now one.forests_now (placed_row hit) (map placed_row rest) deletes.takes.mid deletes.takes.takes deletes.takes.returns on.has;
+            (λ was between is space more first. first (map placed_row rest) more is) (takes_no_block g shape middle new def on.rows.owners_now on.rows.forests_now room_next hit.row hit.rid on.rows.ready.ready.stands deletes.takes) (λ table. refl) works.no_shorter;
+        has = these_still shape middle new def on.rows.owners_now one.owners_now on.rows.forests_now one.forests_now (placed_row hit) (map placed_row rest) deletes.takes.mid deletes.takes.takes deletes.takes.returns on.has;
       }

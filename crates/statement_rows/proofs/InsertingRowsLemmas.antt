@@ -11,11 +11,12 @@ use Rattle.mdc_ast.specs.Database.{Database, PlainTable, changed_at, appended, n
 use Rattle.store_api.specs.Frame.{Touches}
 use Rattle.store_api.specs.Works.{Works}
 use Rattle.store_api.specs.declared.pages.Pages.{Ghosts}
-use Rattle.extent_map.specs.declared.extents.Extents.{Extents}
+use Rattle.store_api.specs.declared.shape.Shape.{Shape}
 use Rattle.extent_map.specs.declared.kind.Kind.{Kind}
+use Rattle.extent_map.specs.declared.space_notes.SpaceNotes.{SpaceNotes}
 use Rattle.table_trees.specs.SpaceChanges.{MakesChanges, SpaceChange}
 use Rattle.table_trees.specs.ToldPages.{PageList}
-use Rattle.table_trees.proofs.SpaceChainsLemmas.{full_shaped, full_then}
+use Rattle.table_trees.proofs.SpaceChainsLemmas.{full_then}
 use Rattle.mdc_sound.specs.Placing.{HasRoomFor, HoldsNowhere, PutsRow, Spot, block_slot_count}
 use Rattle.mdc_sound.specs.Placing.Spot.{FreeExtent, IndexExtent, OtherBlock, FreeBlock, PendingBlock, UsedBlock}
 use Rattle.mdc_sound.specs.RunningFull.{InsertingChanges, InsertRunsFull, block_changes, putting_changes}
@@ -24,7 +25,6 @@ use Rattle.mdc_sound.specs.StandingTable.{IsTableSpace, RoomNote, TableForests, 
 use Rattle.mdc_sound.specs.StandsForDatabase.{PagesStandFor}
 use Rattle.mdc_sound.proofs.NextNumberLemmas.{stands_next, with_next}
 use Rattle.cell_change.specs.RowChanges.{InsertsRow}
-use Rattle.cell_change.proofs.ChangedRowLemmas.{slots_same}
 use Rattle.cell_change.proofs.ChangedSpaceLemmas.{shows_spots}
 use Rattle.cell_change.proofs.TableStepsLemmas.{places_no_block}
 use Rattle.statement_rows.specs.RowsAndSpace.{PutsRowsBy}
@@ -121,35 +121,35 @@ inserting_more def n spots (row ∷ rows) more _ (InsertingChanges.one {next = l
 inserting_more def n spots (row ∷ rows) more _ (InsertingChanges.stuck no_spot) = InsertingChanges.stuck no_spot
 
 -- an INSERT that runs full with its first row
-pub full_at_first : (ext : Extents) (pages : PageList) (def : TableDef) (row : Row) (rows : List Row) → InsertRunsFull ext pages def (row ∷ []) → InsertRunsFull ext pages def (row ∷ rows)
-full_at_first ext pages def row rows full = record {
+pub full_at_first : (shape : Shape) (pages : PageList) (def : TableDef) (row : Row) (rows : List Row) → InsertRunsFull shape pages def (row ∷ []) → InsertRunsFull shape pages def (row ∷ rows)
+full_at_first shape pages def row rows full = record {
   spots = full.spots;
   changes = full.changes;
   shows = full.shows;
-  inserting = inserting_more def (block_slot_count ext def) full.spots (row ∷ []) rows full.changes full.inserting;
+  inserting = inserting_more def (block_slot_count shape def) full.spots (row ∷ []) rows full.changes full.inserting;
   full = full.full;
 }
 
 -- ---- one row
 
-module _ {S : Type 0} (g : Ghosts S) (before now : Extents) (room_of room_now : Entry → RoomNote) (old new : S) (def : TableDef) (row : Row) (rid : Rid) (owners : List Kind) (forests : TableForests)
-    (ready : IsReadyBetween g before room_of old def owners forests) (inserts : InsertsRow g before now room_now old new def row rid owners forests) where
+module _ {S : Type 0} (g : Ghosts S) (shape : Shape) (before now : SpaceNotes) (room_of room_now : Entry → RoomNote) (old new : S) (def : TableDef) (row : Row) (rid : Rid) (owners : List Kind) (forests : TableForests)
+    (ready : IsReadyBetween g shape before room_of old def owners forests) (inserts : InsertsRow g shape before now room_now old new def row rid owners forests) where
   -- the definition that has the next number
   abbrev pub raised : TableDef
   raised = with_next def (def.next + 1)
 
   -- what the row needs
   abbrev pub needed : List SpaceChange
-  needed = putting_changes def row rid (slice_index_or (spots_of g before old def owners forests) rid.block OtherBlock)
+  needed = putting_changes def row rid (slice_index_or (spots_of g shape old def owners forests) rid.block OtherBlock)
 
   -- rows are put behind it, by whichever changes
   abbrev pub PutsBefore : List Spot → List SpaceChange → List Spot → Type 0
   PutsBefore was space between =
-      (rows : List Row) (more : List SpaceChange) (is : List Spot) → PutsRowsBy def (block_slot_count before def) between rows more is → PutsRowsBy def (block_slot_count before def) was (row ∷ rows) (space ++ more) is
+      (rows : List Row) (more : List SpaceChange) (is : List Spot) → PutsRowsBy def (block_slot_count shape def) between rows more is → PutsRowsBy def (block_slot_count shape def) was (row ∷ rows) (space ++ more) is
 
-  abbrev pub one_inserted : MakesChanges before (pages_of g old) needed (pages_of g new) → Works g old new → Touches g (IsTableSpace g before old def) old new → IsSoundBetweenChanges now raised (pages_of g new)
-      → ((db : Database) → PagesStandFor before (with_table_page def (pages_of g old)) db → PagesStandFor now (with_table_page raised (pages_of g new)) (changed_at db def.number (appended (row.values ∷ []))))
-      → ChangesRowsOf g before now room_now old new def raised owners forests PutsBefore (appended (row.values ∷ []))
+  abbrev pub one_inserted : MakesChanges shape (pages_of g old) needed (pages_of g new) → Works g old new → Touches g (IsTableSpace g shape old def) old new → IsSoundBetweenChanges shape raised (pages_of g new)
+      → ((db : Database) → PagesStandFor shape (with_table_page def (pages_of g old)) db → PagesStandFor shape (with_table_page raised (pages_of g new)) (changed_at db def.number (appended (row.values ∷ []))))
+      → ChangesRowsOf g shape before now room_now old new def raised owners forests PutsBefore (appended (row.values ∷ []))
   one_inserted makes works touches sound stands_for = record {
     owners_now = inserts.places.owners_now;
     forests_now = inserts.places.forests_now;
@@ -157,9 +157,9 @@ module _ {S : Type 0} (g : Ghosts S) (before now : Extents) (room_of room_now : 
     records = inserts.places.records;
     now = record {
       ready = record {
-        stands = stands_next g now new def (def.next + 1) inserts.places.owners_now inserts.places.forests_now inserts.places.changes.stands;
+        stands = stands_next g shape new def (def.next + 1) inserts.places.owners_now inserts.places.forests_now inserts.places.changes.stands;
         notes = inserts.places.changes.notes ready.ready.notes;
-        rooms = rooms_next def (def.next + 1) room_now (spots_of g now new def inserts.places.owners_now inserts.places.forests_now) inserts.places.rooms;
+        rooms = rooms_next def (def.next + 1) room_now (spots_of g shape new def inserts.places.owners_now inserts.places.forests_now) inserts.places.rooms;
       };
       sound = sound;
     };
@@ -167,83 +167,79 @@ module _ {S : Type 0} (g : Ghosts S) (before now : Extents) (room_of room_now : 
     places = λ rows more is rest. PutsRowsBy.one rid inserts.places.puts inserts.places.claims rest;
     makes = makes;
     stands_for = stands_for;
-    table_pages = table_pages_kept g before old new def owners forests ready.ready.stands works touches;
-    others = others_kept g before now old new def owners inserts.places.owners_now forests inserts.places.forests_now ready.sound.sound ready.ready.stands inserts.places.changes touches works.no_shorter;
+    table_pages = table_pages_kept g shape old new def owners forests ready.ready.stands works touches;
+    others = others_kept g shape old new def owners inserts.places.owners_now forests inserts.places.forests_now ready.sound.sound ready.ready.stands inserts.places.changes touches works.no_shorter;
   }
 
-  -- blocks have as many slots
-  slots_now : block_slot_count now raised ≡ block_slot_count before def
-  slots_now = slots_same before now def inserts.places.changes.shape
-
   -- the rows behind it are put as well by the definition before
-  pub puts_then : (rows : List Row) (was between is : List Spot) (space more : List SpaceChange) → PutsBefore was space between → PutsRowsBy raised (block_slot_count now raised) between rows more is
-      → PutsRowsBy def (block_slot_count before def) was (row ∷ rows) (space ++ more) is
+  pub puts_then : (rows : List Row) (was between is : List Spot) (space more : List SpaceChange) → PutsBefore was space between → PutsRowsBy raised (block_slot_count shape raised) between rows more is
+      → PutsRowsBy def (block_slot_count shape def) was (row ∷ rows) (space ++ more) is
   puts_then rows was between is space more first rest =
-      first rows more is (puts_next def (def.next + 1) (block_slot_count before def) between is rows more (subst (λ n. PutsRowsBy raised n between rows more is) slots_now rest))
+      first rows more is (puts_next def (def.next + 1) (block_slot_count shape def) between is rows more rest)
 
   -- where the rest runs full, all do
-  pub full_behind : (rows : List Row) → MakesChanges before (pages_of g old) needed (pages_of g new)
-      → InsertRunsFull now (pages_of g new) raised rows → InsertRunsFull before (pages_of g old) def (row ∷ rows)
+  pub full_behind : (rows : List Row) → MakesChanges shape (pages_of g old) needed (pages_of g new)
+      → InsertRunsFull shape (pages_of g new) raised rows → InsertRunsFull shape (pages_of g old) def (row ∷ rows)
   full_behind rows makes full =
-      let spots = spots_of g before old def owners forests in
-      let later = spots_of g now new def inserts.places.owners_now inserts.places.forests_now in
-      let stands = stands_next g now new def (def.next + 1) inserts.places.owners_now inserts.places.forests_now inserts.places.changes.stands in
-      let same : full.spots ≡ later = shown_spots g now new raised inserts.places.owners_now inserts.places.forests_now full.spots stands full.shows in
-      let rest : InsertingChanges def (block_slot_count before def) later rows full.changes =
-      inserting_next def (def.next + 1) (block_slot_count before def) later rows full.changes
-      (subst (λ n. InsertingChanges raised n later rows full.changes) slots_now (subst (λ all. InsertingChanges raised (block_slot_count now raised) all rows full.changes) same full.inserting)) in
+      let spots = spots_of g shape old def owners forests in
+      let later = spots_of g shape new def inserts.places.owners_now inserts.places.forests_now in
+      let stands = stands_next g shape new def (def.next + 1) inserts.places.owners_now inserts.places.forests_now inserts.places.changes.stands in
+      let same : full.spots ≡ later = shown_spots g shape new raised inserts.places.owners_now inserts.places.forests_now full.spots stands full.shows in
+      let rest : InsertingChanges def (block_slot_count shape def) later rows full.changes =
+      inserting_next def (def.next + 1) (block_slot_count shape def) later rows full.changes
+      (subst (λ all. InsertingChanges raised (block_slot_count shape raised) all rows full.changes) same full.inserting) in
       record {
         spots = spots;
         changes = needed ++ full.changes;
-        shows = shows_spots g before old def owners forests ready.ready.stands;
+        shows = shows_spots g shape old def owners forests ready.ready.stands;
         inserting = InsertingChanges.one rid inserts.places.puts inserts.places.claims rest;
-        full = full_then before (pages_of g old) (pages_of g new) needed full.changes makes (full_shaped before now (pages_of g new) full.changes inserts.places.changes.shape full.full);
+        full = full_then shape (pages_of g old) (pages_of g new) needed full.changes makes full.full;
       }
 
 -- ---- rows so far, and the rest
 
 -- Rows were inserted, and so the table is ready for the rest of these values. With these all are inserted, and where they run
 -- full, all do.
-pub record InsertsOn {S : Type 0} (g : Ghosts S) (before now : Extents) (room_now : Entry → RoomNote) (old mid : S) (def def_now : TableDef) (tuples rest : List (List Value)) (owners : List Kind) (forests : TableForests) : Type 0 where
-  pub rows : RowsLeadOn g before now room_now old mid def def_now owners forests (λ was space is. PutsRowsBy def_now (block_slot_count now def_now) was (numbered def_now.next rest) space is)
-      (λ was space is. PutsRowsBy def (block_slot_count before def) was (numbered def.next tuples) space is) (appended rest) (appended tuples)
-  pub full_on : InsertRunsFull now (pages_of g mid) def_now (numbered def_now.next rest) → InsertRunsFull before (pages_of g old) def (numbered def.next tuples)
+pub record InsertsOn {S : Type 0} (g : Ghosts S) (shape : Shape) (before now : SpaceNotes) (room_now : Entry → RoomNote) (old mid : S) (def def_now : TableDef) (tuples rest : List (List Value)) (owners : List Kind) (forests : TableForests) : Type 0 where
+  pub rows : RowsLeadOn g shape before now room_now old mid def def_now owners forests (λ was space is. PutsRowsBy def_now (block_slot_count shape def_now) was (numbered def_now.next rest) space is)
+      (λ was space is. PutsRowsBy def (block_slot_count shape def) was (numbered def.next tuples) space is) (appended rest) (appended tuples)
+  pub full_on : InsertRunsFull shape (pages_of g mid) def_now (numbered def_now.next rest) → InsertRunsFull shape (pages_of g old) def (numbered def.next tuples)
 
 module _ {S : Type 0} (g : Ghosts S) where
-  pub inserts_none : (ext : Extents) (room_of : Entry → RoomNote) (s : S) (def : TableDef) (tuples : List (List Value)) (owners : List Kind) (forests : TableForests) → IsReadyBetween g ext room_of s def owners forests
-      → InsertsOn g ext ext room_of s s def def tuples tuples owners forests
-  inserts_none ext room_of s def tuples owners forests ready = record {
-    rows = leads_none g ext room_of s def owners forests (λ was space is. PutsRowsBy def (block_slot_count ext def) was (numbered def.next tuples) space is) (appended tuples) ready;
+  pub inserts_none : (shape : Shape) (noted : SpaceNotes) (room_of : Entry → RoomNote) (s : S) (def : TableDef) (tuples : List (List Value)) (owners : List Kind) (forests : TableForests) → IsReadyBetween g shape noted room_of s def owners forests
+      → InsertsOn g shape noted noted room_of s s def def tuples tuples owners forests
+  inserts_none shape noted room_of s def tuples owners forests ready = record {
+    rows = leads_none g shape noted room_of s def owners forests (λ was space is. PutsRowsBy def (block_slot_count shape def) was (numbered def.next tuples) space is) (appended tuples) ready;
     full_on = λ full. full;
   }
 
-  pub inserts_all : (before now : Extents) (room_now : Entry → RoomNote) (old new : S) (def def_now : TableDef) (tuples : List (List Value)) (owners : List Kind) (forests : TableForests)
-      → InsertsOn g before now room_now old new def def_now tuples [] owners forests
-      → ChangesRowsOf g before now room_now old new def def_now owners forests (λ was space is. PutsRowsBy def (block_slot_count before def) was (numbered def.next tuples) space is) (appended tuples)
-  inserts_all before now room_now old new def def_now tuples owners forests on =
-      leads_all g before now room_now old new def def_now owners forests (λ was space is. PutsRowsBy def_now (block_slot_count now def_now) was [] space is)
-      (λ was space is. PutsRowsBy def (block_slot_count before def) was (numbered def.next tuples) space is) (appended []) (appended tuples) on.rows (λ spots. PutsRowsBy.none) appended_none
+  pub inserts_all : (shape : Shape) (before now : SpaceNotes) (room_now : Entry → RoomNote) (old new : S) (def def_now : TableDef) (tuples : List (List Value)) (owners : List Kind) (forests : TableForests)
+      → InsertsOn g shape before now room_now old new def def_now tuples [] owners forests
+      → ChangesRowsOf g shape before now room_now old new def def_now owners forests (λ was space is. PutsRowsBy def (block_slot_count shape def) was (numbered def.next tuples) space is) (appended tuples)
+  inserts_all shape before now room_now old new def def_now tuples owners forests on =
+      leads_all g shape before now room_now old new def def_now owners forests (λ was space is. PutsRowsBy def_now (block_slot_count shape def_now) was [] space is)
+      (λ was space is. PutsRowsBy def (block_slot_count shape def) was (numbered def.next tuples) space is) (appended []) (appended tuples) on.rows (λ spots. PutsRowsBy.none) appended_none
 
-  module _ (before mid : Extents) (room_mid : Entry → RoomNote) (old middle : S) (def def_mid : TableDef) (tuples rest : List (List Value)) (owners : List Kind) (forests : TableForests) where
-    pub inserts_more : (next : Extents) (room_next : Entry → RoomNote) (new : S) (values : List Value) (rid : Rid) (on : InsertsOn g before mid room_mid old middle def def_mid tuples (values ∷ rest) owners forests)
-        → (inserts : InsertsRow g mid next room_next middle new def_mid (record { number = def_mid.next; values = values }) rid on.rows.owners_now on.rows.forests_now)
-        → MakesChanges mid (pages_of g middle)
-        (putting_changes def_mid (record { number = def_mid.next; values = values }) rid (slice_index_or (spots_of g mid middle def_mid on.rows.owners_now on.rows.forests_now) rid.block OtherBlock)) (pages_of g new)
-        → Works g middle new → Touches g (IsTableSpace g mid middle def_mid) middle new → IsSoundBetweenChanges next (with_next def_mid (def_mid.next + 1)) (pages_of g new)
-        → ((db : Database) → PagesStandFor mid (with_table_page def_mid (pages_of g middle)) db
-        → PagesStandFor next (with_table_page (with_next def_mid (def_mid.next + 1)) (pages_of g new)) (changed_at db def_mid.number (appended (values ∷ []))))
-        → InsertsOn g before next room_next old new def (with_next def_mid (def_mid.next + 1)) tuples rest owners forests
+  module _ (shape : Shape) (before mid : SpaceNotes) (room_mid : Entry → RoomNote) (old middle : S) (def def_mid : TableDef) (tuples rest : List (List Value)) (owners : List Kind) (forests : TableForests) where
+    pub inserts_more : (next : SpaceNotes) (room_next : Entry → RoomNote) (new : S) (values : List Value) (rid : Rid) (on : InsertsOn g shape before mid room_mid old middle def def_mid tuples (values ∷ rest) owners forests)
+        → (inserts : InsertsRow g shape mid next room_next middle new def_mid (record { number = def_mid.next; values = values }) rid on.rows.owners_now on.rows.forests_now)
+        → MakesChanges shape (pages_of g middle)
+        (putting_changes def_mid (record { number = def_mid.next; values = values }) rid (slice_index_or (spots_of g shape middle def_mid on.rows.owners_now on.rows.forests_now) rid.block OtherBlock)) (pages_of g new)
+        → Works g middle new → Touches g (IsTableSpace g shape middle def_mid) middle new → IsSoundBetweenChanges shape (with_next def_mid (def_mid.next + 1)) (pages_of g new)
+        → ((db : Database) → PagesStandFor shape (with_table_page def_mid (pages_of g middle)) db
+        → PagesStandFor shape (with_table_page (with_next def_mid (def_mid.next + 1)) (pages_of g new)) (changed_at db def_mid.number (appended (values ∷ []))))
+        → InsertsOn g shape before next room_next old new def (with_next def_mid (def_mid.next + 1)) tuples rest owners forests
     inserts_more next room_next new values rid on inserts makes works touches sound stands_for =
         let row : Row = record { number = def_mid.next; values = values } in
         let ready = on.rows.ready in
         let rows = numbered (def_mid.next + 1) rest in
         record {
-          rows = leads_more g before mid next room_mid room_next old middle new def def_mid (def_mid.next + 1) owners forests (PutsBefore g mid next room_mid room_next middle new def_mid row rid on.rows.owners_now on.rows.forests_now ready inserts)
-              (λ was space is. PutsRowsBy def_mid (block_slot_count mid def_mid) was (numbered def_mid.next (values ∷ rest)) space is)
-              (λ was space is. PutsRowsBy (with_next def_mid (def_mid.next + 1)) (block_slot_count next (with_next def_mid (def_mid.next + 1))) was rows space is)
-              (λ was space is. PutsRowsBy def (block_slot_count before def) was (numbered def.next tuples) space is) (appended (values ∷ [])) (appended (values ∷ rest)) (appended rest) (appended tuples) on.rows
-              (one_inserted g mid next room_mid room_next middle new def_mid row rid on.rows.owners_now on.rows.forests_now ready inserts makes works touches sound stands_for)
-              (puts_then g mid next room_mid room_next middle new def_mid row rid on.rows.owners_now on.rows.forests_now ready inserts rows)
-              (places_no_block g mid next middle new def_mid on.rows.owners_now on.rows.forests_now room_next row rid ready.ready.stands inserts.places) (appended_more values rest) works.no_shorter;
-          full_on = λ full. on.full_on (full_behind g mid next room_mid room_next middle new def_mid row rid on.rows.owners_now on.rows.forests_now ready inserts rows makes full);
+          rows = leads_more g shape before mid next room_mid room_next old middle new def def_mid (def_mid.next + 1) owners forests (PutsBefore g shape mid next room_mid room_next middle new def_mid row rid on.rows.owners_now on.rows.forests_now ready inserts)
+              (λ was space is. PutsRowsBy def_mid (block_slot_count shape def_mid) was (numbered def_mid.next (values ∷ rest)) space is)
+              (λ was space is. PutsRowsBy (with_next def_mid (def_mid.next + 1)) (block_slot_count shape (with_next def_mid (def_mid.next + 1))) was rows space is)
+              (λ was space is. PutsRowsBy def (block_slot_count shape def) was (numbered def.next tuples) space is) (appended (values ∷ [])) (appended (values ∷ rest)) (appended rest) (appended tuples) on.rows
+              (one_inserted g shape mid next room_mid room_next middle new def_mid row rid on.rows.owners_now on.rows.forests_now ready inserts makes works touches sound stands_for)
+              (puts_then g shape mid next room_mid room_next middle new def_mid row rid on.rows.owners_now on.rows.forests_now ready inserts rows)
+              (places_no_block g shape middle new def_mid on.rows.owners_now on.rows.forests_now room_next row rid ready.ready.stands inserts.places) (appended_more values rest) works.no_shorter;
+          full_on = λ full. on.full_on (full_behind g shape mid next room_mid room_next middle new def_mid row rid on.rows.owners_now on.rows.forests_now ready inserts rows makes full);
         }

@@ -13,10 +13,10 @@ use Rattle.store_api.specs.RunsOverPages.{RunsOverPages}
 use Rattle.store_api.specs.Works.{Works}
 use Rattle.store_api.specs.declared.fault.StoreFault.{StoreFault}
 use Rattle.store_api.specs.declared.pages.Pages.{Ghosts}
+use Rattle.store_api.specs.declared.shape.Shape.{Shape}
 use Rattle.store_api.proofs.RunsOverPagesLemmas.{runs_wider}
-use Rattle.extent_map.specs.Owners.{IsSameShape}
-use Rattle.extent_map.specs.declared.extents.Extents.{Extents}
 use Rattle.extent_map.specs.declared.kind.Kind.{Kind}
+use Rattle.extent_map.specs.declared.space_notes.SpaceNotes.{SpaceNotes}
 use Rattle.table_trees.specs.SpaceChanges.{MakesChanges}
 use Rattle.mdc_ast.specs.FittingRows.{RowFits}
 use Rattle.mdc_sound.specs.Placing.Spot.{OtherBlock}
@@ -48,58 +48,58 @@ number_on end mid now items rest values more split is = omega (arith, ap (λ d. 
 
 -- ---- a row that goes in
 
-module _ {S : Type 0} (g : Ghosts S) (before mid : Extents) (room_of room_mid : Entry → RoomNote) (old middle : S) (def def_mid : TableDef) (tuples items : List (List Value)) (values : List Value) (rest : List (List Value))
+module _ {S : Type 0} (g : Ghosts S) (shape : Shape) (before mid : SpaceNotes) (room_of room_mid : Entry → RoomNote) (old middle : S) (def def_mid : TableDef) (tuples items : List (List Value)) (values : List Value) (rest : List (List Value))
     (split : items ≡ values ∷ rest)
-    (leads : (owners : List Kind) (forests : TableForests) → IsReadyBetween g before room_of old def owners forests → InsertsOn g before mid room_mid old middle def def_mid tuples items owners forests) where
+    (leads : (owners : List Kind) (forests : TableForests) → IsReadyBetween g shape before room_of old def owners forests → InsertsOn g shape before mid room_mid old middle def def_mid tuples items owners forests) where
   -- the row that goes in next
   abbrev pub next_row : Row
   next_row = record { number = def_mid.next; values = values }
 
   -- the rest begins with it
-  leads_here : (owners : List Kind) (forests : TableForests) → IsReadyBetween g before room_of old def owners forests → InsertsOn g before mid room_mid old middle def def_mid tuples (values ∷ rest) owners forests
-  leads_here owners forests ready = subst (λ all. InsertsOn g before mid room_mid old middle def def_mid tuples all owners forests) split (leads owners forests ready)
+  leads_here : (owners : List Kind) (forests : TableForests) → IsReadyBetween g shape before room_of old def owners forests → InsertsOn g shape before mid room_mid old middle def def_mid tuples (values ∷ rest) owners forests
+  leads_here owners forests ready = subst (λ all. InsertsOn g shape before mid room_mid old middle def def_mid tuples all owners forests) split (leads owners forests ready)
 
-  pub row_in : (next : Extents) (room_next : Entry → RoomNote) (new : S) (def_now : TableDef) (rid : Rid) → def_now ≡ with_next def_mid (def_mid.next + 1)
-      → ((owners : List Kind) (forests : TableForests) → IsReadyTable g mid room_mid middle def_mid owners forests → InsertsRow g mid next room_next middle new def_mid next_row rid owners forests)
-      → ((owners : List Kind) (forests : TableForests) → IsReadyTable g mid room_mid middle def_mid owners forests
-      → MakesChanges mid (pages_of g middle) (putting_changes def_mid next_row rid (slice_index_or (spots_of g mid middle def_mid owners forests) rid.block OtherBlock)) (pages_of g new))
-      → ((owners : List Kind) (forests : TableForests) → IsReadyTable g mid room_mid middle def_mid owners forests
-      → IsSoundBetweenChanges mid def_mid (pages_of g middle) → IsSoundBetweenChanges next def_now (pages_of g new))
-      → ((owners : List Kind) (forests : TableForests) → IsReadyTable g mid room_mid middle def_mid owners forests
-      → IsSoundBetweenChanges mid def_mid (pages_of g middle) → (db : Database) → PagesStandFor mid (with_table_page def_mid (pages_of g middle)) db
-      → PagesStandFor next (with_table_page def_now (pages_of g new)) (changed_at db def_mid.number (appended (values ∷ []))))
-      → Works g middle new → Touches g (IsTableSpace g mid middle def_mid) middle new
-      → (owners : List Kind) (forests : TableForests) → IsReadyBetween g before room_of old def owners forests → InsertsOn g before next room_next old new def def_now tuples rest owners forests
+  pub row_in : (next : SpaceNotes) (room_next : Entry → RoomNote) (new : S) (def_now : TableDef) (rid : Rid) → def_now ≡ with_next def_mid (def_mid.next + 1)
+      → ((owners : List Kind) (forests : TableForests) → IsReadyTable g shape mid room_mid middle def_mid owners forests → InsertsRow g shape mid next room_next middle new def_mid next_row rid owners forests)
+      → ((owners : List Kind) (forests : TableForests) → IsReadyTable g shape mid room_mid middle def_mid owners forests
+      → MakesChanges shape (pages_of g middle) (putting_changes def_mid next_row rid (slice_index_or (spots_of g shape middle def_mid owners forests) rid.block OtherBlock)) (pages_of g new))
+      → ((owners : List Kind) (forests : TableForests) → IsReadyTable g shape mid room_mid middle def_mid owners forests
+      → IsSoundBetweenChanges shape def_mid (pages_of g middle) → IsSoundBetweenChanges shape def_now (pages_of g new))
+      → ((owners : List Kind) (forests : TableForests) → IsReadyTable g shape mid room_mid middle def_mid owners forests
+      → IsSoundBetweenChanges shape def_mid (pages_of g middle) → (db : Database) → PagesStandFor shape (with_table_page def_mid (pages_of g middle)) db
+      → PagesStandFor shape (with_table_page def_now (pages_of g new)) (changed_at db def_mid.number (appended (values ∷ []))))
+      → Works g middle new → Touches g (IsTableSpace g shape middle def_mid) middle new
+      → (owners : List Kind) (forests : TableForests) → IsReadyBetween g shape before room_of old def owners forests → InsertsOn g shape before next room_next old new def def_now tuples rest owners forests
   row_in next room_next new def_now rid is inserts makes sound stands_for works touches owners forests ready =
       let on = leads_here owners forests ready in
       let here = on.rows.ready in
       let now = on.rows.owners_now in
       let trees = on.rows.forests_now in
-      subst (λ d. InsertsOn g before next room_next old new def d tuples rest owners forests) (sym is)
-      (inserts_more g before mid room_mid old middle def def_mid tuples rest owners forests next room_next new values rid on (inserts now trees here.ready) (makes now trees here.ready) works touches
-      (subst (λ d. IsSoundBetweenChanges next d (pages_of g new)) is (sound now trees here.ready here.sound))
-      (λ db stands. subst (λ d. PagesStandFor next (with_table_page d (pages_of g new)) (changed_at db def_mid.number (appended (values ∷ [])))) is (stands_for now trees here.ready here.sound db stands)))
+      subst (λ d. InsertsOn g shape before next room_next old new def d tuples rest owners forests) (sym is)
+      (inserts_more g shape before mid room_mid old middle def def_mid tuples rest owners forests next room_next new values rid on (inserts now trees here.ready) (makes now trees here.ready) works touches
+      (subst (λ d. IsSoundBetweenChanges shape d (pages_of g new)) is (sound now trees here.ready here.sound))
+      (λ db stands. subst (λ d. PagesStandFor shape (with_table_page d (pages_of g new)) (changed_at db def_mid.number (appended (values ∷ [])))) is (stands_for now trees here.ready here.sound db stands)))
 
   -- ---- one that runs full
 
-  pub row_full : IsSameShape before mid → (cap : ℕ)
-      → (cap ≡ mid.cap) × ((owners : List Kind) (forests : TableForests) → IsReadyTable g mid room_mid middle def_mid owners forests → InsertRunsFull mid (pages_of g middle) def_mid (next_row ∷ []))
-      → (cap ≡ before.cap) × ((owners : List Kind) (forests : TableForests) → IsReadyBetween g before room_of old def owners forests → InsertRunsFull before (pages_of g old) def (numbered def.next tuples))
-  row_full shape cap full = (
-    full.0 ∙ shape.cap,
+  pub row_full : (cap : ℕ)
+      → (cap ≡ shape.extents) × ((owners : List Kind) (forests : TableForests) → IsReadyTable g shape mid room_mid middle def_mid owners forests → InsertRunsFull shape (pages_of g middle) def_mid (next_row ∷ []))
+      → (cap ≡ shape.extents) × ((owners : List Kind) (forests : TableForests) → IsReadyBetween g shape before room_of old def owners forests → InsertRunsFull shape (pages_of g old) def (numbered def.next tuples))
+  row_full cap full = (
+    full.0,
     λ owners forests ready.
         let on = leads_here owners forests ready in
-        on.full_on (full_at_first mid (pages_of g middle) def_mid next_row (numbered (def_mid.next + 1) rest) (full.1 on.rows.owners_now on.rows.forests_now on.rows.ready.ready)),
+        on.full_on (full_at_first shape (pages_of g middle) def_mid next_row (numbered (def_mid.next + 1) rest) (full.1 on.rows.owners_now on.rows.forests_now on.rows.ready.ready)),
   )
 
   -- ---- its run
 
-  pub row_run : (new : S) (fault : Option StoreFault) → def_mid ≡ with_next def def_mid.next → IsSameShape before mid
-      → RunsOverPages g AnyPage AnyPage (BreaksReady g before room_of old def NothingMore) old middle None
-      → RunsOverPages g (IsTableSpace g mid middle def_mid) (IsTableSpace g mid middle def_mid) (BreaksTable g mid middle def_mid) middle new fault
-      → RunsOverPages g AnyPage AnyPage (BreaksReady g before room_of old def NothingMore) old new fault
-  row_run new fault is shape first second =
-      runs_on_rows g before mid room_of old middle def def_mid def_mid.next is shape NothingMore NothingMore
+  pub row_run : (new : S) (fault : Option StoreFault) → def_mid ≡ with_next def def_mid.next
+      → RunsOverPages g AnyPage AnyPage (BreaksReady g shape before room_of old def NothingMore) old middle None
+      → RunsOverPages g (IsTableSpace g shape middle def_mid) (IsTableSpace g shape middle def_mid) (BreaksTable g shape middle def_mid) middle new fault
+      → RunsOverPages g AnyPage AnyPage (BreaksReady g shape before room_of old def NothingMore) old new fault
+  row_run new fault is first second =
+      runs_on_rows g shape before room_of old middle def def_mid def_mid.next is NothingMore NothingMore
       (λ owners forests ready expected.
       let on = leads_here owners forests ready in
       (on.rows.owners_now, on.rows.forests_now, on.rows.ready.ready.stands, tt))

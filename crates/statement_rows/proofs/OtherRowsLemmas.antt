@@ -11,7 +11,7 @@ use Rattle.mdc_values.specs.declared.rid.Rid.{Rid}
 use Rattle.mdc_ast.specs.declared.definition.TableDef.{TableDef}
 use Rattle.mdc_ast.specs.declared.row.Row.{Row}
 use Rattle.store_api.specs.declared.pages.Pages.{Ghosts}
-use Rattle.extent_map.specs.declared.extents.Extents.{Extents}
+use Rattle.store_api.specs.declared.shape.Shape.{Shape}
 use Rattle.extent_map.specs.declared.kind.Kind.{Kind}
 use Rattle.mdc_sound.specs.Placing.{AfterClaims, AfterReturns, ChangesRow, IsRowAt, PutsRow, Spot, SpotsAfterClaims, SpotsAfterReturns, TakesRow, left_with}
 use Rattle.mdc_sound.specs.Placing.Spot.{FreeBlock, FreeExtent, OtherBlock, UsedBlock}
@@ -161,14 +161,14 @@ abbrev is_before : PlacedRow → PlacedRow → Type 0
 is_before a b = a.row.number < b.row.number
 
 -- rows behind the first lie where they lay, where each row does that lies apart from it
-pub rows_behind : {S : Type 0} (g : Ghosts S) (before now : Extents) (old new : S) (def : TableDef) (owners owners_now : List Kind) (forests forests_now : TableForests) (first : PlacedRow) (rows : List PlacedRow)
-    → ((at : Rid) (row : Row) → AreApart at first.rid → LiesAt (spots_of g before old def owners forests) at row → LiesAt (spots_of g now new def owners_now forests_now) at row)
-    → HasTheseRows g before old def (first ∷ rows) owners forests → HasTheseRows g now new def rows owners_now forests_now
-rows_behind g before now old new def owners owners_now forests forests_now first rows stay has = record {
-  each = each_as (λ placed. HasThisRow g before old def placed.rid placed.row owners forests) (λ placed. HasThisRow g now new def placed.rid placed.row owners_now forests_now) rows
+pub rows_behind : {S : Type 0} (g : Ghosts S) (shape : Shape) (old new : S) (def : TableDef) (owners owners_now : List Kind) (forests forests_now : TableForests) (first : PlacedRow) (rows : List PlacedRow)
+    → ((at : Rid) (row : Row) → AreApart at first.rid → LiesAt (spots_of g shape old def owners forests) at row → LiesAt (spots_of g shape new def owners_now forests_now) at row)
+    → HasTheseRows g shape old def (first ∷ rows) owners forests → HasTheseRows g shape new def rows owners_now forests_now
+rows_behind g shape old new def owners owners_now forests forests_now first rows stay has = record {
+  each = each_as (λ placed. HasThisRow g shape old def placed.rid placed.row owners forests) (λ placed. HasThisRow g shape new def placed.rid placed.row owners_now forests_now) rows
       (λ placed within this.
       let less = first_related is_before first rows has.rising placed within in
-      let apart = apart_by_number (spots_of g before old def owners forests) first.rid placed.rid first.row placed.row has.each.0.slots this.slots has.each.0.lies this.lies less in
+      let apart = apart_by_number (spots_of g shape old def owners forests) first.rid placed.rid first.row placed.row has.each.0.slots this.slots has.each.0.lies this.lies less in
       let there = stay placed.rid placed.row apart (record { slots = this.slots; lies = this.lies }) in
       record { slots = there.slots; lies = there.lies })
       has.each.1;

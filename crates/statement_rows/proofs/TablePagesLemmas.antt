@@ -5,7 +5,7 @@ use Rattle.store_api.specs.Frame.{HoldsPage, Touches}
 use Rattle.store_api.specs.StoreState.{page_at}
 use Rattle.store_api.specs.Works.{Works}
 use Rattle.store_api.specs.declared.pages.Pages.{Ghosts}
-use Rattle.extent_map.specs.declared.extents.Extents.{Extents}
+use Rattle.store_api.specs.declared.shape.Shape.{Shape}
 use Rattle.extent_map.specs.declared.kind.Kind.{Kind}
 use Rattle.extent_map.proofs.DamagesLemmas.{holds_first_count}
 use Rattle.table_trees.specs.ToldPages.{PageList}
@@ -21,15 +21,15 @@ pub table_pages_then : (old mid new : PageList) → KeepsTablePages old mid → 
 table_pages_then old mid new first second = record { each = λ t low. second.each t low ∙ first.each t low }
 
 -- a call that touches only what is the table's, the extent map's or idle
-pub table_pages_kept : {S : Type 0} (g : Ghosts S) (ext : Extents) (old new : S) (def : TableDef) (owners : List Kind) (forests : TableForests) → StandsTable g ext old def owners forests
-    → Works g old new → Touches g (IsTableSpace g ext old def) old new → KeepsTablePages (pages_of g old) (pages_of g new)
-table_pages_kept g ext old new def owners forests stands works touches = record { each = λ t low. (touches.others (1 + t) (page_at (pages_of g old) (1 + t)) (apart t low) (was t low)).bytes_are }
+pub table_pages_kept : {S : Type 0} (g : Ghosts S) (shape : Shape) (old new : S) (def : TableDef) (owners : List Kind) (forests : TableForests) → StandsTable g shape old def owners forests
+    → Works g old new → Touches g (IsTableSpace g shape old def) old new → KeepsTablePages (pages_of g old) (pages_of g new)
+table_pages_kept g shape old new def owners forests stands works touches = record { each = λ t low. (touches.others (1 + t) (page_at (pages_of g old) (1 + t)) (apart t low) (was t low)).bytes_are }
   where
     was : (t : ℕ) → t < 16 → HoldsPage g old (1 + t) (page_at (pages_of g old) (1 + t))
-    was t low = record { is_told = stands.told; within = omega (arith, holds_first_count ext stands.trees.map, low); bytes_are = refl }
+    was t low = record { is_told = stands.told; within = omega (arith, holds_first_count shape stands.trees.map, low); bytes_are = refl }
 
     -- a page of the table's space is page 0 or lies behind the table pages
-    apart : (t : ℕ) → t < 16 → IsTableSpace g ext old def (1 + t) → ⊥
+    apart : (t : ℕ) → t < 16 → IsTableSpace g shape old def (1 + t) → ⊥
     apart t low mine = elim (mine owners forests stands) [
       | inl some ↦ omega (arith, (stands.trees.used (1 + t) some).page.behind, low)
       | inr more ↦ elim more [

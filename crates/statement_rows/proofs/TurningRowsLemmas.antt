@@ -10,10 +10,11 @@ use Rattle.mdc_ast.specs.Database.{Database, changed_at}
 use Rattle.store_api.specs.Frame.{Touches}
 use Rattle.store_api.specs.Works.{Works}
 use Rattle.store_api.specs.declared.pages.Pages.{Ghosts}
-use Rattle.extent_map.specs.declared.extents.Extents.{Extents}
+use Rattle.store_api.specs.declared.shape.Shape.{Shape}
 use Rattle.extent_map.specs.declared.kind.Kind.{Kind}
+use Rattle.extent_map.specs.declared.space_notes.SpaceNotes.{SpaceNotes}
 use Rattle.table_trees.specs.SpaceChanges.{SpaceChange}
-use Rattle.table_trees.proofs.SpaceChainsLemmas.{full_shaped, full_then}
+use Rattle.table_trees.proofs.SpaceChainsLemmas.{full_then}
 use Rattle.table_trees.specs.ToldPages.{PageList}
 use Rattle.mdc_sound.specs.Placing.{Spot, block_slot_count}
 use Rattle.mdc_sound.specs.RunningFull.{UpdateRunsFull, UpdatingChanges}
@@ -22,7 +23,6 @@ use Rattle.mdc_sound.specs.StandingTable.{IsTableSpace, RoomNote, TableForests, 
 use Rattle.mdc_sound.specs.StandsForDatabase.{PagesStandFor, with_row}
 use Rattle.mdc_sound.specs.TableRows.{PlacedRow}
 use Rattle.cell_change.specs.RowChanges.{ChangesOneRow, TurnsRowBy, row_in_place}
-use Rattle.cell_change.proofs.ChangedRowLemmas.{slots_same}
 use Rattle.cell_change.proofs.ChangedSpaceLemmas.{shows_spots}
 use Rattle.cell_change.proofs.TableStepsLemmas.{turns_no_block}
 use Rattle.statement_rows.specs.RowsAndSpace.{TurnsRowsBy}
@@ -75,9 +75,9 @@ rising_turned all rising i j d less low =
     place_at (one ∷ list) (suc k) e = place_at list k e
 
 -- an UPDATE that runs full with its first row
-pub full_at_first : (ext : Extents) (pages : PageList) (def : TableDef) (one : Turned) (rest : List Turned) → AllPairs (λ a b. a.row.number < b.row.number) (places_of (one ∷ rest))
-    → UpdateRunsFull ext pages def (turned_row one ∷ []) → UpdateRunsFull ext pages def (map turned_row (one ∷ rest))
-full_at_first ext pages def one rest rising full = record {
+pub full_at_first : (shape : Shape) (pages : PageList) (def : TableDef) (one : Turned) (rest : List Turned) → AllPairs (λ a b. a.row.number < b.row.number) (places_of (one ∷ rest))
+    → UpdateRunsFull shape pages def (turned_row one ∷ []) → UpdateRunsFull shape pages def (map turned_row (one ∷ rest))
+full_at_first shape pages def one rest rising full = record {
   spots = full.spots;
   changes = full.changes;
   shows = full.shows;
@@ -88,17 +88,17 @@ full_at_first ext pages def one rest rising full = record {
 
 -- ---- one row
 
-module _ {S : Type 0} (g : Ghosts S) (before now : Extents) (room_of room_now : Entry → RoomNote) (old new : S) (def : TableDef) (one : Turned) (to : Rid) (owners : List Kind) (forests : TableForests)
-    (ready : IsReadyBetween g before room_of old def owners forests) (turns : ChangesOneRow g before now room_now old new def one.hit.row one.row one.hit.rid to owners forests) where
+module _ {S : Type 0} (g : Ghosts S) (shape : Shape) (before now : SpaceNotes) (room_of room_now : Entry → RoomNote) (old new : S) (def : TableDef) (one : Turned) (to : Rid) (owners : List Kind) (forests : TableForests)
+    (ready : IsReadyBetween g shape before room_of old def owners forests) (turns : ChangesOneRow g shape before now room_now old new def one.hit.row one.row one.hit.rid to owners forests) where
   -- rows become others behind it, by whichever changes
   abbrev pub TurnsBefore : List Spot → List SpaceChange → List Spot → Type 0
   TurnsBefore was space between =
-      (rows : List (PlacedRow × Row)) (more : List SpaceChange) (is : List Spot) → TurnsRowsBy def (block_slot_count before def) between rows more is
-      → TurnsRowsBy def (block_slot_count before def) was (turned_row one ∷ rows) (space ++ more) is
+      (rows : List (PlacedRow × Row)) (more : List SpaceChange) (is : List Spot) → TurnsRowsBy def (block_slot_count shape def) between rows more is
+      → TurnsRowsBy def (block_slot_count shape def) was (turned_row one ∷ rows) (space ++ more) is
 
-  abbrev pub one_turned : Works g old new → Touches g (IsTableSpace g before old def) old new → IsSoundBetweenChanges now def (pages_of g new)
-      → ((db : Database) → PagesStandFor before (with_table_page def (pages_of g old)) db → PagesStandFor now (with_table_page def (pages_of g new)) (changed_at db def.number (with_row one.row)))
-      → ChangesRowsOf g before now room_now old new def def owners forests TurnsBefore (with_row one.row)
+  abbrev pub one_turned : Works g old new → Touches g (IsTableSpace g shape old def) old new → IsSoundBetweenChanges shape def (pages_of g new)
+      → ((db : Database) → PagesStandFor shape (with_table_page def (pages_of g old)) db → PagesStandFor shape (with_table_page def (pages_of g new)) (changed_at db def.number (with_row one.row)))
+      → ChangesRowsOf g shape before now room_now old new def def owners forests TurnsBefore (with_row one.row)
   one_turned works touches sound stands_for = record {
     owners_now = turns.owners_now;
     forests_now = turns.forests_now;
@@ -109,43 +109,39 @@ module _ {S : Type 0} (g : Ghosts S) (before now : Extents) (room_of room_now : 
     places = λ rows more is rest. TurnsRowsBy.one turns.space.turns rest;
     makes = turns.space.makes;
     stands_for = stands_for;
-    table_pages = table_pages_kept g before old new def owners forests ready.ready.stands works touches;
-    others = others_kept g before now old new def owners turns.owners_now forests turns.forests_now ready.sound.sound ready.ready.stands turns.changes touches works.no_shorter;
+    table_pages = table_pages_kept g shape old new def owners forests ready.ready.stands works touches;
+    others = others_kept g shape old new def owners turns.owners_now forests turns.forests_now ready.sound.sound ready.ready.stands turns.changes touches works.no_shorter;
   }
 
-  -- blocks have as many slots
-  slots_now : block_slot_count now def ≡ block_slot_count before def
-  slots_now = slots_same before now def turns.changes.shape
-
   -- the rows behind it become others as well
-  pub turns_then : (rows : List (PlacedRow × Row)) (was between is : List Spot) (space more : List SpaceChange) → TurnsBefore was space between → TurnsRowsBy def (block_slot_count now def) between rows more is
-      → TurnsRowsBy def (block_slot_count before def) was (turned_row one ∷ rows) (space ++ more) is
-  turns_then rows was between is space more first rest = first rows more is (subst (λ n. TurnsRowsBy def n between rows more is) slots_now rest)
+  pub turns_then : (rows : List (PlacedRow × Row)) (was between is : List Spot) (space more : List SpaceChange) → TurnsBefore was space between → TurnsRowsBy def (block_slot_count shape def) between rows more is
+      → TurnsRowsBy def (block_slot_count shape def) was (turned_row one ∷ rows) (space ++ more) is
+  turns_then rows was between is space more first rest = first rows more is rest
 
   -- they lie where they lay
-  pub rows_stay : (rows : List PlacedRow) → HasTheseRows g before old def ((turned_row one).0 ∷ rows) owners forests → HasTheseRows g now new def rows turns.owners_now turns.forests_now
+  pub rows_stay : (rows : List PlacedRow) → HasTheseRows g shape old def ((turned_row one).0 ∷ rows) owners forests → HasTheseRows g shape new def rows turns.owners_now turns.forests_now
   rows_stay rows =
-      rows_behind g before now old new def owners turns.owners_now forests turns.forests_now (turned_row one).0 rows
+      rows_behind g shape old new def owners turns.owners_now forests turns.forests_now (turned_row one).0 rows
       (λ at row apart lies.
-      lies_after_claims turns.mid (spots_of g now new def turns.owners_now turns.forests_now) at row turns.claims
-      (lies_turned def (block_slot_count before def) (spots_of g before old def owners forests) turns.mid one.hit.rid at to one.hit.row one.row row turns.turns apart lies))
+      lies_after_claims turns.mid (spots_of g shape new def turns.owners_now turns.forests_now) at row turns.claims
+      (lies_turned def (block_slot_count shape def) (spots_of g shape old def owners forests) turns.mid one.hit.rid at to one.hit.row one.row row turns.turns apart lies))
 
   -- where the rest runs full, all do
-  pub full_behind : (rest : List Turned) → AllPairs (λ a b. a.row.number < b.row.number) (places_of (one ∷ rest)) → UpdateRunsFull now (pages_of g new) def (map turned_row rest)
-      → UpdateRunsFull before (pages_of g old) def (map turned_row (one ∷ rest))
+  pub full_behind : (rest : List Turned) → AllPairs (λ a b. a.row.number < b.row.number) (places_of (one ∷ rest)) → UpdateRunsFull shape (pages_of g new) def (map turned_row rest)
+      → UpdateRunsFull shape (pages_of g old) def (map turned_row (one ∷ rest))
   full_behind rest rising full =
-      let later = spots_of g now new def turns.owners_now turns.forests_now in
+      let later = spots_of g shape new def turns.owners_now turns.forests_now in
       let rows = map turned_row rest in
-      let same : full.spots ≡ later = shown_spots g now new def turns.owners_now turns.forests_now full.spots turns.changes.stands full.shows in
-      let updating : UpdatingChanges def (block_slot_count before def) later rows full.changes =
-      subst (λ n. UpdatingChanges def n later rows full.changes) slots_now (subst (λ all. UpdatingChanges def (block_slot_count now def) all rows full.changes) same full.updating) in
+      let same : full.spots ≡ later = shown_spots g shape new def turns.owners_now turns.forests_now full.spots turns.changes.stands full.shows in
+      let updating : UpdatingChanges def (block_slot_count shape def) later rows full.changes =
+      subst (λ all. UpdatingChanges def (block_slot_count shape def) all rows full.changes) same full.updating in
       record {
-        spots = spots_of g before old def owners forests;
+        spots = spots_of g shape old def owners forests;
         changes = turns.space.changes ++ full.changes;
-        shows = shows_spots g before old def owners forests ready.ready.stands;
+        shows = shows_spots g shape old def owners forests ready.ready.stands;
         rising = rising_turned (one ∷ rest) rising;
-        updating = updating_behind def (block_slot_count before def) (spots_of g before old def owners forests) later one.hit.rid one.hit.row one.row turns.space.changes turns.space.turns rows full.changes updating;
-        full = full_then before (pages_of g old) (pages_of g new) turns.space.changes full.changes turns.space.makes (full_shaped before now (pages_of g new) full.changes turns.changes.shape full.full);
+        updating = updating_behind def (block_slot_count shape def) (spots_of g shape old def owners forests) later one.hit.rid one.hit.row one.row turns.space.changes turns.space.turns rows full.changes updating;
+        full = full_then shape (pages_of g old) (pages_of g new) turns.space.changes full.changes turns.space.makes full.full;
       }
 
 -- ---- rows so far, and the rest
@@ -153,42 +149,42 @@ module _ {S : Type 0} (g : Ghosts S) (before now : Extents) (room_of room_now : 
 module _ {S : Type 0} (g : Ghosts S) where
   -- Rows became others, and so the table is ready for the rest of these, which lie where they lay. With these all become others,
   -- and where they run full, all do.
-  pub record TurnsOn (before now : Extents) (room_now : Entry → RoomNote) (old mid : S) (def : TableDef) (all rest : List Turned) (owners : List Kind) (forests : TableForests) : Type 0 where
-    pub rows : RowsLeadOn g before now room_now old mid def def owners forests (λ was space is. TurnsRowsBy def (block_slot_count now def) was (map turned_row rest) space is)
-        (λ was space is. TurnsRowsBy def (block_slot_count before def) was (map turned_row all) space is) (with_rows (rows_of_turned rest)) (with_rows (rows_of_turned all))
-    pub has : HasTheseRows g now mid def (places_of rest) rows.owners_now rows.forests_now
-    pub full_on : UpdateRunsFull now (pages_of g mid) def (map turned_row rest) → UpdateRunsFull before (pages_of g old) def (map turned_row all)
+  pub record TurnsOn (shape : Shape) (before now : SpaceNotes) (room_now : Entry → RoomNote) (old mid : S) (def : TableDef) (all rest : List Turned) (owners : List Kind) (forests : TableForests) : Type 0 where
+    pub rows : RowsLeadOn g shape before now room_now old mid def def owners forests (λ was space is. TurnsRowsBy def (block_slot_count shape def) was (map turned_row rest) space is)
+        (λ was space is. TurnsRowsBy def (block_slot_count shape def) was (map turned_row all) space is) (with_rows (rows_of_turned rest)) (with_rows (rows_of_turned all))
+    pub has : HasTheseRows g shape mid def (places_of rest) rows.owners_now rows.forests_now
+    pub full_on : UpdateRunsFull shape (pages_of g mid) def (map turned_row rest) → UpdateRunsFull shape (pages_of g old) def (map turned_row all)
 
-  pub turns_none : (ext : Extents) (room_of : Entry → RoomNote) (s : S) (def : TableDef) (all : List Turned) (owners : List Kind) (forests : TableForests) → IsReadyBetween g ext room_of s def owners forests
-      → HasTheseRows g ext s def (places_of all) owners forests → TurnsOn ext ext room_of s s def all all owners forests
-  turns_none ext room_of s def all owners forests ready has = record {
-    rows = leads_none g ext room_of s def owners forests (λ was space is. TurnsRowsBy def (block_slot_count ext def) was (map turned_row all) space is) (with_rows (rows_of_turned all)) ready;
+  pub turns_none : (shape : Shape) (noted : SpaceNotes) (room_of : Entry → RoomNote) (s : S) (def : TableDef) (all : List Turned) (owners : List Kind) (forests : TableForests) → IsReadyBetween g shape noted room_of s def owners forests
+      → HasTheseRows g shape s def (places_of all) owners forests → TurnsOn shape noted noted room_of s s def all all owners forests
+  turns_none shape noted room_of s def all owners forests ready has = record {
+    rows = leads_none g shape noted room_of s def owners forests (λ was space is. TurnsRowsBy def (block_slot_count shape def) was (map turned_row all) space is) (with_rows (rows_of_turned all)) ready;
     has = has;
     full_on = λ full. full;
   }
 
-  pub turns_all : (before now : Extents) (room_now : Entry → RoomNote) (old new : S) (def : TableDef) (all : List Turned) (owners : List Kind) (forests : TableForests) → TurnsOn before now room_now old new def all [] owners forests
-      → ChangesRowsOf g before now room_now old new def def owners forests (λ was space is. TurnsRowsBy def (block_slot_count before def) was (map turned_row all) space is) (with_rows (rows_of_turned all))
-  turns_all before now room_now old new def all owners forests on =
-      leads_all g before now room_now old new def def owners forests (λ was space is. TurnsRowsBy def (block_slot_count now def) was [] space is) (λ was space is. TurnsRowsBy def (block_slot_count before def) was (map turned_row all) space is)
+  pub turns_all : (shape : Shape) (before now : SpaceNotes) (room_now : Entry → RoomNote) (old new : S) (def : TableDef) (all : List Turned) (owners : List Kind) (forests : TableForests) → TurnsOn shape before now room_now old new def all [] owners forests
+      → ChangesRowsOf g shape before now room_now old new def def owners forests (λ was space is. TurnsRowsBy def (block_slot_count shape def) was (map turned_row all) space is) (with_rows (rows_of_turned all))
+  turns_all shape before now room_now old new def all owners forests on =
+      leads_all g shape before now room_now old new def def owners forests (λ was space is. TurnsRowsBy def (block_slot_count shape def) was [] space is) (λ was space is. TurnsRowsBy def (block_slot_count shape def) was (map turned_row all) space is)
       (with_rows []) (with_rows (rows_of_turned all)) on.rows (λ spots. TurnsRowsBy.none) (λ table. refl)
 
-  pub turns_more : (before mid next : Extents) (room_mid room_next : Entry → RoomNote) (old middle new : S) (def : TableDef) (all : List Turned) (one : Turned) (rest : List Turned) (to : Rid) (owners : List Kind) (forests : TableForests)
-      (on : TurnsOn before mid room_mid old middle def all (one ∷ rest) owners forests) → ChangesOneRow g mid next room_next middle new def one.hit.row one.row one.hit.rid to on.rows.owners_now on.rows.forests_now
-      → Works g middle new → Touches g (IsTableSpace g mid middle def) middle new → IsSoundBetweenChanges next def (pages_of g new)
-      → ((db : Database) → PagesStandFor mid (with_table_page def (pages_of g middle)) db → PagesStandFor next (with_table_page def (pages_of g new)) (changed_at db def.number (with_row one.row)))
-      → TurnsOn before next room_next old new def all rest owners forests
-  turns_more before mid next room_mid room_next old middle new def all one rest to owners forests on turns works touches sound stands_for =
+  pub turns_more : (shape : Shape) (before mid next : SpaceNotes) (room_mid room_next : Entry → RoomNote) (old middle new : S) (def : TableDef) (all : List Turned) (one : Turned) (rest : List Turned) (to : Rid) (owners : List Kind) (forests : TableForests)
+      (on : TurnsOn shape before mid room_mid old middle def all (one ∷ rest) owners forests) → ChangesOneRow g shape mid next room_next middle new def one.hit.row one.row one.hit.rid to on.rows.owners_now on.rows.forests_now
+      → Works g middle new → Touches g (IsTableSpace g shape middle def) middle new → IsSoundBetweenChanges shape def (pages_of g new)
+      → ((db : Database) → PagesStandFor shape (with_table_page def (pages_of g middle)) db → PagesStandFor shape (with_table_page def (pages_of g new)) (changed_at db def.number (with_row one.row)))
+      → TurnsOn shape before next room_next old new def all rest owners forests
+  turns_more shape before mid next room_mid room_next old middle new def all one rest to owners forests on turns works touches sound stands_for =
       let now = on.rows.owners_now in
       let trees = on.rows.forests_now in
       let ready = on.rows.ready in
       record {
-        rows = leads_more g before mid next room_mid room_next old middle new def def def.next owners forests (TurnsBefore g mid next room_mid room_next middle new def one to now trees ready turns)
-            (λ was space is. TurnsRowsBy def (block_slot_count mid def) was (map turned_row (one ∷ rest)) space is) (λ was space is. TurnsRowsBy def (block_slot_count next def) was (map turned_row rest) space is)
-            (λ was space is. TurnsRowsBy def (block_slot_count before def) was (map turned_row all) space is) (with_row one.row) (with_rows (rows_of_turned (one ∷ rest))) (with_rows (rows_of_turned rest))
-            (with_rows (rows_of_turned all)) on.rows (one_turned g mid next room_mid room_next middle new def one to now trees ready turns works touches sound stands_for)
-            (turns_then g mid next room_mid room_next middle new def one to now trees ready turns (map turned_row rest))
-            (turns_no_block g mid next middle new def now trees room_next one.hit.row one.row one.hit.rid to ready.ready.stands turns) (λ table. refl) works.no_shorter;
-        has = rows_stay g mid next room_mid room_next middle new def one to now trees ready turns (places_of rest) on.has;
-        full_on = λ full. on.full_on (full_behind g mid next room_mid room_next middle new def one to now trees ready turns rest on.has.rising full);
+        rows = leads_more g shape before mid next room_mid room_next old middle new def def def.next owners forests (TurnsBefore g shape mid next room_mid room_next middle new def one to now trees ready turns)
+            (λ was space is. TurnsRowsBy def (block_slot_count shape def) was (map turned_row (one ∷ rest)) space is) (λ was space is. TurnsRowsBy def (block_slot_count shape def) was (map turned_row rest) space is)
+            (λ was space is. TurnsRowsBy def (block_slot_count shape def) was (map turned_row all) space is) (with_row one.row) (with_rows (rows_of_turned (one ∷ rest))) (with_rows (rows_of_turned rest))
+            (with_rows (rows_of_turned all)) on.rows (one_turned g shape mid next room_mid room_next middle new def one to now trees ready turns works touches sound stands_for)
+            (turns_then g shape mid next room_mid room_next middle new def one to now trees ready turns (map turned_row rest))
+            (turns_no_block g shape middle new def now trees room_next one.hit.row one.row one.hit.rid to ready.ready.stands turns) (λ table. refl) works.no_shorter;
+        has = rows_stay g shape mid next room_mid room_next middle new def one to now trees ready turns (places_of rest) on.has;
+        full_on = λ full. on.full_on (full_behind g shape mid next room_mid room_next middle new def one to now trees ready turns rest on.has.rising full);
       }

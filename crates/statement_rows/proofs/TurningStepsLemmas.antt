@@ -1,5 +1,5 @@
 -- The loop that makes rows others, one after the other: what it keeps, and what each of its exits says.
-use Rattle.std.proofs.Common.{◌≡◌, ◌<◌, ◌+◌, ℕ, List, [], ◌∷◌, None, length, map, drop, get_or, refl, ◌∙◌, subst}
+use Rattle.std.proofs.Common.{◌≡◌, ◌<◌, ◌+◌, ℕ, List, [], ◌∷◌, None, length, map, drop, get_or, refl, subst}
 use Rattle.std.specs.Prelude.{Option}
 use Rattle.mdc_words.specs.ByteOrder.{Entry}
 use Rattle.mdc_values.specs.declared.rid.Rid.{Rid}
@@ -8,13 +8,12 @@ use Rattle.mdc_ast.specs.Database.{Database, changed_at}
 use Rattle.store_api.specs.RunsOverPages.{RunsOverPages}
 use Rattle.store_api.specs.declared.fault.StoreFault.{StoreFault}
 use Rattle.store_api.specs.declared.pages.Pages.{Ghosts}
+use Rattle.store_api.specs.declared.shape.Shape.{Shape}
 use Rattle.store_api.proofs.RunsOverPagesLemmas.{runs_none}
 use Rattle.extent_map.specs.Damages.{IfFull}
-use Rattle.extent_map.specs.Owners.{IsSameShape}
-use Rattle.extent_map.specs.declared.extents.Extents.{Extents}
 use Rattle.extent_map.specs.declared.fault.SpaceFault.{SpaceFault}
 use Rattle.extent_map.specs.declared.kind.Kind.{Kind}
-use Rattle.entry_tree.proofs.ClaimsLemmas.{shape_none, shape_then}
+use Rattle.extent_map.specs.declared.space_notes.SpaceNotes.{SpaceNotes}
 use Rattle.mdc_sound.specs.Placing.{block_slot_count}
 use Rattle.mdc_sound.specs.RunningFull.{UpdateRunsFull}
 use Rattle.mdc_sound.specs.SoundDatabase.{IsSoundBetweenChanges, with_table_page}
@@ -33,57 +32,54 @@ use Rattle.statement_rows.proofs.RowDamageLemmas.{runs_on_rows}
 use Rattle.statement_rows.proofs.RowsThenLemmas.{rest_at}
 use Rattle.statement_rows.proofs.TurningRowsLemmas.{TurnsOn, full_at_first, places_of, rows_of_turned, turns_all, turns_more, turns_none}
 
-module _ {S : Type 0} (g : Ghosts S) (before : Extents) (room_of : Entry → RoomNote) (old : S) (def : TableDef) (all : List Turned) where
+module _ {S : Type 0} (g : Ghosts S) (shape : Shape) (before : SpaceNotes) (room_of : Entry → RoomNote) (old : S) (def : TableDef) (all : List Turned) where
   -- that all the rows lie where they are said to
   abbrev pub HasAll : List Kind → TableForests → Type 0
-  HasAll = HasTheseRows g before old def (places_of all)
+  HasAll = HasTheseRows g shape old def (places_of all)
 
   -- The rest of the rows is still to become others, and nothing failed so far.
-  pub record IsTurning (ext : Extents) (room_now : Entry → RoomNote) (s : S) (rest : List Turned) : Type 0 where
-    pub shape : IsSameShape before ext
-    pub runs : RunsOverPages g AnyPage AnyPage (BreaksReady g before room_of old def HasAll) old s None
-    pub turns : (owners : List Kind) (forests : TableForests) → IsReadyBetween g before room_of old def owners forests → HasAll owners forests → TurnsOn g before ext room_now old s def all rest owners forests
+  pub record IsTurning (noted : SpaceNotes) (room_now : Entry → RoomNote) (s : S) (rest : List Turned) : Type 0 where
+    pub runs : RunsOverPages g AnyPage AnyPage (BreaksReady g shape before room_of old def HasAll) old s None
+    pub turns : (owners : List Kind) (forests : TableForests) → IsReadyBetween g shape before room_of old def owners forests → HasAll owners forests → TurnsOn g shape before noted room_now old s def all rest owners forests
 
   pub turning_begins : IsTurning before room_of old all
   turning_begins = record {
-    shape = shape_none before;
     runs = runs_none;
-    turns = λ owners forests ready has. turns_none g before room_of old def all owners forests ready has;
+    turns = λ owners forests ready has. turns_none g shape before room_of old def all owners forests ready has;
   }
 
-  pub turning_ends : (ext : Extents) (room_now : Entry → RoomNote) (s : S) (rest : List Turned) → IsTurning ext room_now s rest → rest ≡ [] → (owners : List Kind) (forests : TableForests)
-      → IsReadyBetween g before room_of old def owners forests → HasAll owners forests
-      → ChangesRowsOf g before ext room_now old s def def owners forests (λ was space is. TurnsRowsBy def (block_slot_count before def) was (map turned_row all) space is) (with_rows (rows_of_turned all))
-  turning_ends ext room_now s rest turning none owners forests ready has =
-      turns_all g before ext room_now old s def all owners forests (subst (λ list. TurnsOn g before ext room_now old s def all list owners forests) none (turning.turns owners forests ready has))
+  pub turning_ends : (noted : SpaceNotes) (room_now : Entry → RoomNote) (s : S) (rest : List Turned) → IsTurning noted room_now s rest → rest ≡ [] → (owners : List Kind) (forests : TableForests)
+      → IsReadyBetween g shape before room_of old def owners forests → HasAll owners forests
+      → ChangesRowsOf g shape before noted room_now old s def def owners forests (λ was space is. TurnsRowsBy def (block_slot_count shape def) was (map turned_row all) space is) (with_rows (rows_of_turned all))
+  turning_ends noted room_now s rest turning none owners forests ready has =
+      turns_all g shape before noted room_now old s def all owners forests (subst (λ list. TurnsOn g shape before noted room_now old s def all list owners forests) none (turning.turns owners forests ready has))
 
   -- the next row is the first of the rest
-  pub turning_at : (ext : Extents) (room_now : Entry → RoomNote) (s : S) (i : ℕ) (one : Turned) → IsTurning ext room_now s (drop i all) → i < length all → one ≡ get_or all i one → IsTurning ext room_now s (one ∷ drop (i + 1) all)
-  turning_at ext room_now s i one turning low is = subst (IsTurning ext room_now s) (rest_at all i one low is) turning
+  pub turning_at : (noted : SpaceNotes) (room_now : Entry → RoomNote) (s : S) (i : ℕ) (one : Turned) → IsTurning noted room_now s (drop i all) → i < length all → one ≡ get_or all i one → IsTurning noted room_now s (one ∷ drop (i + 1) all)
+  turning_at noted room_now s i one turning low is = subst (IsTurning noted room_now s) (rest_at all i one low is) turning
 
-  module _ (ext : Extents) (room_now : Entry → RoomNote) (s : S) (one : Turned) (rest : List Turned) (turning : IsTurning ext room_now s (one ∷ rest)) where
+  module _ (noted : SpaceNotes) (room_now : Entry → RoomNote) (s : S) (one : Turned) (rest : List Turned) (turning : IsTurning noted room_now s (one ∷ rest)) where
     -- the call that makes the next row another, behind all calls before it
     pub runs_one : (new : S) (fault : Option StoreFault)
-        → RunsOverPages g (IsExpectedSpace g ext s def (HasThisRow g ext s def one.hit.rid one.hit.row)) (IsExpectedSpace g ext s def (HasThisRow g ext s def one.hit.rid one.hit.row)) (BreaksExpected g ext s def (HasThisRow g ext s def one.hit.rid one.hit.row)) s new fault
-        → RunsOverPages g AnyPage AnyPage (BreaksReady g before room_of old def HasAll) old new fault
+        → RunsOverPages g (IsExpectedSpace g shape s def (HasThisRow g shape s def one.hit.rid one.hit.row)) (IsExpectedSpace g shape s def (HasThisRow g shape s def one.hit.rid one.hit.row)) (BreaksExpected g shape s def (HasThisRow g shape s def one.hit.rid one.hit.row)) s new fault
+        → RunsOverPages g AnyPage AnyPage (BreaksReady g shape before room_of old def HasAll) old new fault
     runs_one new fault =
-        runs_on_rows g before ext room_of old s def def def.next refl turning.shape HasAll (HasThisRow g ext s def one.hit.rid one.hit.row)
+        runs_on_rows g shape before room_of old s def def def.next refl HasAll (HasThisRow g shape s def one.hit.rid one.hit.row)
         (λ owners forests ready has. let on = turning.turns owners forests ready has in (on.rows.owners_now, on.rows.forests_now, on.rows.ready.ready.stands, on.has.each.0))
         turning.runs
 
     -- the next row has become another
-    pub turning_goes_on : (then : Extents) (room_then : Entry → RoomNote) (new : S) (to : Rid) → IsSameShape ext then
-        → RunsOverPages g (IsExpectedSpace g ext s def (HasThisRow g ext s def one.hit.rid one.hit.row)) (IsExpectedSpace g ext s def (HasThisRow g ext s def one.hit.rid one.hit.row)) (BreaksExpected g ext s def (HasThisRow g ext s def one.hit.rid one.hit.row)) s new None
-        → ((owners : List Kind) (forests : TableForests) → IsReadyTable g ext room_now s def owners forests → HasThisRow g ext s def one.hit.rid one.hit.row owners forests
-        → ChangesOneRow g ext then room_then s new def one.hit.row one.row one.hit.rid to owners forests)
-        → ((owners : List Kind) (forests : TableForests) → IsReadyTable g ext room_now s def owners forests → HasThisRow g ext s def one.hit.rid one.hit.row owners forests
-        → IsSoundBetweenChanges ext def (pages_of g s) → IsSoundBetweenChanges then def (pages_of g new))
-        → ((owners : List Kind) (forests : TableForests) → IsReadyTable g ext room_now s def owners forests → HasThisRow g ext s def one.hit.rid one.hit.row owners forests
-        → IsSoundBetweenChanges ext def (pages_of g s) → (db : Database) → PagesStandFor ext (with_table_page def (pages_of g s)) db
-        → PagesStandFor then (with_table_page def (pages_of g new)) (changed_at db def.number (with_row one.row)))
+    pub turning_goes_on : (then : SpaceNotes) (room_then : Entry → RoomNote) (new : S) (to : Rid)
+        → RunsOverPages g (IsExpectedSpace g shape s def (HasThisRow g shape s def one.hit.rid one.hit.row)) (IsExpectedSpace g shape s def (HasThisRow g shape s def one.hit.rid one.hit.row)) (BreaksExpected g shape s def (HasThisRow g shape s def one.hit.rid one.hit.row)) s new None
+        → ((owners : List Kind) (forests : TableForests) → IsReadyTable g shape noted room_now s def owners forests → HasThisRow g shape s def one.hit.rid one.hit.row owners forests
+        → ChangesOneRow g shape noted then room_then s new def one.hit.row one.row one.hit.rid to owners forests)
+        → ((owners : List Kind) (forests : TableForests) → IsReadyTable g shape noted room_now s def owners forests → HasThisRow g shape s def one.hit.rid one.hit.row owners forests
+        → IsSoundBetweenChanges shape def (pages_of g s) → IsSoundBetweenChanges shape def (pages_of g new))
+        → ((owners : List Kind) (forests : TableForests) → IsReadyTable g shape noted room_now s def owners forests → HasThisRow g shape s def one.hit.rid one.hit.row owners forests
+        → IsSoundBetweenChanges shape def (pages_of g s) → (db : Database) → PagesStandFor shape (with_table_page def (pages_of g s)) db
+        → PagesStandFor shape (with_table_page def (pages_of g new)) (changed_at db def.number (with_row one.row)))
         → IsTurning then room_then new rest
-    turning_goes_on then room_then new to shape run changes sound stands_for = record {
-      shape = shape_then before ext then turning.shape shape;
+    turning_goes_on then room_then new to run changes sound stands_for = record {
       runs = runs_one new None run;
       turns = λ owners forests ready has.
           let on = turning.turns owners forests ready has in
@@ -91,20 +87,20 @@ module _ {S : Type 0} (g : Ghosts S) (before : Extents) (room_of : Entry → Roo
           let trees = on.rows.forests_now in
           let here = on.rows.ready in
           let this = on.has.each.0 in
-          turns_more g before ext then room_now room_then old s new def all one rest to owners forests on (changes now trees here.ready this) run.works
-          (touches_of_row g ext s new def now trees here.ready.stands one.hit.rid one.hit.row this run.touches) (sound now trees here.ready this here.sound)
+          turns_more g shape before noted then room_now room_then old s new def all one rest to owners forests on (changes now trees here.ready this) run.works
+          (touches_of_row g shape s new def now trees here.ready.stands one.hit.rid one.hit.row this run.touches) (sound now trees here.ready this here.sound)
           (stands_for now trees here.ready this here.sound);
     }
 
     -- it runs full
     pub full_at_one : (fault : SpaceFault)
-        → IfFull fault (λ cap. (cap ≡ ext.cap) × ((owners : List Kind) (forests : TableForests) → IsReadyTable g ext room_now s def owners forests → HasThisRow g ext s def one.hit.rid one.hit.row owners forests
-        → UpdateRunsFull ext (pages_of g s) def ((row_in_place one.hit.rid one.hit.row, one.row) ∷ [])))
-        → IfFull fault (λ cap. (cap ≡ before.cap) × ((owners : List Kind) (forests : TableForests) → IsReadyBetween g before room_of old def owners forests → HasAll owners forests
-        → UpdateRunsFull before (pages_of g old) def (map turned_row all)))
+        → IfFull fault (λ cap. (cap ≡ shape.extents) × ((owners : List Kind) (forests : TableForests) → IsReadyTable g shape noted room_now s def owners forests → HasThisRow g shape s def one.hit.rid one.hit.row owners forests
+        → UpdateRunsFull shape (pages_of g s) def ((row_in_place one.hit.rid one.hit.row, one.row) ∷ [])))
+        → IfFull fault (λ cap. (cap ≡ shape.extents) × ((owners : List Kind) (forests : TableForests) → IsReadyBetween g shape before room_of old def owners forests → HasAll owners forests
+        → UpdateRunsFull shape (pages_of g old) def (map turned_row all)))
     full_at_one fault = full_as fault _ _ (λ cap is. (
-      is.0 ∙ turning.shape.cap,
+      is.0,
       λ owners forests ready has.
           let on = turning.turns owners forests ready has in
-          on.full_on (full_at_first ext (pages_of g s) def one rest on.has.rising (is.1 on.rows.owners_now on.rows.forests_now on.rows.ready.ready on.has.each.0)),
+          on.full_on (full_at_first shape (pages_of g s) def one rest on.has.rising (is.1 on.rows.owners_now on.rows.forests_now on.rows.ready.ready on.has.each.0)),
     ))

@@ -7,8 +7,9 @@ use Rattle.mdc_ast.specs.declared.row.Row.{Row}
 use Rattle.mdc_ast.specs.Database.{Database, PlainTable, changed_at}
 use Rattle.store_api.specs.declared.fault.Damage.{Damage}
 use Rattle.store_api.specs.declared.pages.Pages.{Ghosts}
-use Rattle.extent_map.specs.declared.extents.Extents.{Extents}
+use Rattle.store_api.specs.declared.shape.Shape.{Shape}
 use Rattle.extent_map.specs.declared.kind.Kind.{Kind}
+use Rattle.extent_map.specs.declared.space_notes.SpaceNotes.{SpaceNotes}
 use Rattle.table_trees.specs.SpaceChanges.{MakesChanges, SpaceChange}
 use Rattle.table_trees.specs.ToldPages.{PageList}
 use Rattle.mdc_sound.specs.Placing.{Spot}
@@ -23,13 +24,13 @@ use Rattle.statement_rows.specs.OtherTables.{KeepsOtherTables}
 -- ---- before the statement
 
 -- The table is told to stand with right notes, and the pages are sound as they are between two changes of rows.
-pub record IsReadyBetween {S : Type 0} (g : Ghosts S) (ext : Extents) (room_of : Entry → RoomNote) (s : S) (def : TableDef) (owners : List Kind) (forests : TableForests) : Type 0 where
-  pub ready : IsReadyTable g ext room_of s def owners forests
-  pub sound : IsSoundBetweenChanges ext def (pages_of g s)
+pub record IsReadyBetween {S : Type 0} (g : Ghosts S) (shape : Shape) (noted : SpaceNotes) (room_of : Entry → RoomNote) (s : S) (def : TableDef) (owners : List Kind) (forests : TableForests) : Type 0 where
+  pub ready : IsReadyTable g shape noted room_of s def owners forests
+  pub sound : IsSoundBetweenChanges shape def (pages_of g s)
 
 -- these rows lie in these places, by rising row number
-pub record HasTheseRows {S : Type 0} (g : Ghosts S) (ext : Extents) (s : S) (def : TableDef) (rows : List PlacedRow) (owners : List Kind) (forests : TableForests) : Type 0 where
-  pub each : AllByRecursion (λ placed. HasThisRow g ext s def placed.rid placed.row owners forests) rows
+pub record HasTheseRows {S : Type 0} (g : Ghosts S) (shape : Shape) (s : S) (def : TableDef) (rows : List PlacedRow) (owners : List Kind) (forests : TableForests) : Type 0 where
+  pub each : AllByRecursion (λ placed. HasThisRow g shape s def placed.rid placed.row owners forests) rows
   pub rising : AllPairs (λ a b. a.row.number < b.row.number) rows
 
 -- ---- after it
@@ -42,20 +43,20 @@ pub record KeepsTablePages (old new : PageList) : Type 0 where
 -- two changes of rows, the table's blocks were changed as `Places` says, trees took no more space than the changes that it
 -- says with that, and whatever plain database the pages stood for, they stand for the one whose table is changed so. Table pages
 -- stay, and so do the trees of the record indexes and the blocks of other tables.
-pub record ChangesRowsOf {S : Type 0} (g : Ghosts S) (before ext : Extents) (room_of : Entry → RoomNote) (old new : S) (def def_now : TableDef)
+pub record ChangesRowsOf {S : Type 0} (g : Ghosts S) (shape : Shape) (before noted : SpaceNotes) (room_of : Entry → RoomNote) (old new : S) (def def_now : TableDef)
     (owners : List Kind) (forests : TableForests) (Places : List Spot → List SpaceChange → List Spot → Type 0) (change : PlainTable → PlainTable) : Type 0 where
   pub owners_now : List Kind
   pub forests_now : TableForests
-  pub changes : ChangesTable g before ext old new def owners forests owners_now forests_now
+  pub changes : ChangesTable g shape before noted old new def owners forests owners_now forests_now
   pub records : forests_now.indexes ≡ forests.indexes
-  pub now : IsReadyBetween g ext room_of new def_now owners_now forests_now
+  pub now : IsReadyBetween g shape noted room_of new def_now owners_now forests_now
   pub space : List SpaceChange
-  pub places : Places (spots_of g before old def owners forests) space (spots_of g ext new def_now owners_now forests_now)
-  pub makes : MakesChanges before (pages_of g old) space (pages_of g new)
-  pub stands_for : (db : Database) → PagesStandFor before (with_table_page def (pages_of g old)) db
-      → PagesStandFor ext (with_table_page def_now (pages_of g new)) (changed_at db def.number change)
+  pub places : Places (spots_of g shape old def owners forests) space (spots_of g shape new def_now owners_now forests_now)
+  pub makes : MakesChanges shape (pages_of g old) space (pages_of g new)
+  pub stands_for : (db : Database) → PagesStandFor shape (with_table_page def (pages_of g old)) db
+      → PagesStandFor shape (with_table_page def_now (pages_of g new)) (changed_at db def.number change)
   pub table_pages : KeepsTablePages (pages_of g old) (pages_of g new)
-  pub others : KeepsOtherTables before ext (pages_of g old) (pages_of g new) def.number
+  pub others : KeepsOtherTables shape (pages_of g old) (pages_of g new) def.number
 
 -- ---- the plain table
 
@@ -73,10 +74,10 @@ with_rows (row ∷ rows) table = with_rows rows (with_row row table)
 
 -- The damage is that of a part of the table, which wasn't told to stand with right notes in sound pages, with what is expected
 -- besides.
-pub record BreaksReady {S : Type 0} (g : Ghosts S) (ext : Extents) (room_of : Entry → RoomNote) (s : S) (def : TableDef)
+pub record BreaksReady {S : Type 0} (g : Ghosts S) (shape : Shape) (noted : SpaceNotes) (room_of : Entry → RoomNote) (s : S) (def : TableDef)
     (Expected : List Kind → TableForests → Type 0) (damage : Damage) : Type 0 where
-  pub names : NamesTablePart ext def damage
-  pub broken : (owners : List Kind) (forests : TableForests) → IsReadyBetween g ext room_of s def owners forests → Expected owners forests → ⊥
+  pub names : NamesTablePart shape def damage
+  pub broken : (owners : List Kind) (forests : TableForests) → IsReadyBetween g shape noted room_of s def owners forests → Expected owners forests → ⊥
 
 -- nothing is expected besides
 abbrev pub NothingMore : List Kind → TableForests → Type 0

@@ -4,7 +4,6 @@ ghost use Rattle.std.specs.List.{AllByRecursion};
 ghost use Rattle.store_api.specs.Causes.{store_fault_in};
 ghost use Rattle.store_api.specs.RunsOverPages.{RunsOverPages};
 ghost use Rattle.extent_map.specs.Damages.{IfFull, store_part_of};
-ghost use Rattle.extent_map.specs.Owners.{IsSameShape};
 ghost use Rattle.extent_map.specs.declared.kind.Kind.{Kind};
 ghost use Rattle.mdc_ast.specs.TableLimits.{IsTableDef};
 ghost use Rattle.mdc_sound.specs.Placing.{block_slot_count};
@@ -16,11 +15,11 @@ ghost use Rattle.statement_rows.specs.RowsOfStatement.{AnyPage, BreaksReady, Cha
 ghost use Rattle.statement_rows.specs.Turning.{MayTurn, turned_row};
 
 use cell_change::change_row;
-use extent_map::{Extents, SpaceFault};
+use extent_map::{SpaceFault, SpaceNotes};
 use mdc_ast::{Row, TableDef};
 use mdc_table::{Hit, Rooms};
 use std::alloc::Global;
-use store_api::Pages;
+use store_api::{Pages, Shape};
 
 /// A row and where it lies, and the row that it becomes.
 #[derive(Debug, Drop)]
@@ -31,11 +30,12 @@ pub struct Turned {
 
 /// Makes rows others, by rising row number. Each of them was read, and becomes one that fits the definition and has its number. It
 /// claims no more pages than the rows ask for, and `Full` says that an UPDATE of them runs full. After a fault `undo` goes back to
-/// a mark, and the notes of the extents and of the rooms are to be forgotten.
+/// a mark, and the notes of free space and of the rooms are to be forgotten.
 pub fn change_rows<P: Pages>(
     alloc: Global,
     def: &TableDef,
-    ext: &mut Extents,
+    shape: Shape,
+    notes: &mut SpaceNotes,
     rooms: &mut Rooms,
     pages: &mut P,
     turned: &[Turned],
@@ -44,17 +44,16 @@ pub fn change_rows<P: Pages>(
     requires no_indexes { def.now.indexes ≡ [] }
     requires may { AllByRecursion (MayTurn def.now) turned.now }
     requires going { (P.state pages.old).ended ≡ false }
-    ensures changes { OnOk result ((owners : List Kind) (forests : TableForests) → IsReadyBetween P.Pages ext.old (room_of rooms.old) pages.old def.now owners forests
-        → HasTheseRows P.Pages ext.old pages.old def.now (map (λ turned. (turned_row turned).0) turned.now) owners forests
-        → ChangesRowsOf P.Pages ext.old ext.new (room_of rooms.new) pages.old pages.new def.now def.now owners forests
-        (λ was space is. TurnsRowsBy def.now (block_slot_count ext.old def.now) was (map turned_row turned.now) space is) (with_rows (map (λ turned. turned.row) turned.now))) }
-    ensures full { IfErr result (λ fault. IfFull fault (λ cap. (cap ≡ ext.old.cap)
-        × ((owners : List Kind) (forests : TableForests) → IsReadyBetween P.Pages ext.old (room_of rooms.old) pages.old def.now owners forests
-        → HasTheseRows P.Pages ext.old pages.old def.now (map (λ turned. (turned_row turned).0) turned.now) owners forests
-        → UpdateRunsFull ext.old (pages_of P.Pages pages.old) def.now (map turned_row turned.now)))) }
-    ensures shape { IsSameShape ext.old ext.new }
+    ensures changes { OnOk result ((owners : List Kind) (forests : TableForests) → IsReadyBetween P.Pages shape notes.old (room_of rooms.old) pages.old def.now owners forests
+        → HasTheseRows P.Pages shape pages.old def.now (map (λ turned. (turned_row turned).0) turned.now) owners forests
+        → ChangesRowsOf P.Pages shape notes.old notes.new (room_of rooms.new) pages.old pages.new def.now def.now owners forests
+        (λ was space is. TurnsRowsBy def.now (block_slot_count shape def.now) was (map turned_row turned.now) space is) (with_rows (map (λ turned. turned.row) turned.now))) }
+    ensures full { IfErr result (λ fault. IfFull fault (λ cap. (cap ≡ shape.extents)
+        × ((owners : List Kind) (forests : TableForests) → IsReadyBetween P.Pages shape notes.old (room_of rooms.old) pages.old def.now owners forests
+        → HasTheseRows P.Pages shape pages.old def.now (map (λ turned. (turned_row turned).0) turned.now) owners forests
+        → UpdateRunsFull shape (pages_of P.Pages pages.old) def.now (map turned_row turned.now)))) }
     ensures runs { RunsOverPages P.Pages AnyPage AnyPage
-        (BreaksReady P.Pages ext.old (room_of rooms.old) pages.old def.now (HasTheseRows P.Pages ext.old pages.old def.now (map (λ turned. (turned_row turned).0) turned.now)))
+        (BreaksReady P.Pages shape notes.old (room_of rooms.old) pages.old def.now (HasTheseRows P.Pages shape pages.old def.now (map (λ turned. (turned_row turned).0) turned.now)))
         pages.old pages.new (store_fault_in store_part_of result) }
 {
     // The rows of a block mostly come one after the other, and the block map is asked of it once.
@@ -63,7 +62,8 @@ pub fn change_rows<P: Pages>(
         let to = change_row(
             alloc,
             def,
-            ext,
+            shape,
+            notes,
             rooms,
             pages,
             known,

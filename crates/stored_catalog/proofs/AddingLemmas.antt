@@ -10,9 +10,9 @@ use Rattle.mdc_words.proofs.PlacesLemmas.{slice_get-set_same, slice_get-set_othe
 use Rattle.mdc_ast.specs.declared.definition.IndexDef.{IndexDef}
 use Rattle.mdc_ast.specs.declared.definition.TableDef.{TableDef}
 use Rattle.store_api.specs.StoreState.{zero_page}
+use Rattle.store_api.specs.declared.shape.Shape.{Shape}
 use Rattle.extent_map.specs.Kinds.{is_used_place}
 use Rattle.extent_map.specs.Owners.{IsUsedPage, extent_of, owner_of, place_in_extent}
-use Rattle.extent_map.specs.declared.extents.Extents.{Extents}
 use Rattle.extent_map.specs.declared.kind.Kind.{Kind}
 use Rattle.extent_map.specs.declared.kind.Kind.TheVariants.{Free, Block, Index}
 use Rattle.extent_map.proofs.HoldsMapLemmas.{on_map}
@@ -47,16 +47,16 @@ place_there [] t low = absurd (omega arith)
 place_there (x ∷ xs) zero low = (x, refl)
 place_there (x ∷ xs) (suc t) low = place_there xs t (omega (arith, low))
 
-module _ (ext : Extents) (pages : PageList) (view : DatabaseView) (keeps : KeepAllRules ext pages view) where
+module _ (shape : Shape) (pages : PageList) (view : DatabaseView) (keeps : KeepAllRules shape pages view) where
   -- there are 16 places
   places_count : length view.places ≡ 16
-  places_count = range_length (IsTablePlaceSound ext pages view.owners) 0 16 view.places keeps.first.rule3.each
+  places_count = range_length (IsTablePlaceSound shape pages view.owners) 0 16 view.places keeps.first.rule3.each
 
   -- what stands in each is sound
-  place_sound : (u : ℕ) (place : Option TableView) → slice_get view.places u ≡ Some place → IsTablePlaceSound ext pages view.owners u place
+  place_sound : (u : ℕ) (place : Option TableView) → slice_get view.places u ≡ Some place → IsTablePlaceSound shape pages view.owners u place
   place_sound u place at =
       let same : 0 + u ≡ u = omega arith in
-      subst (λ v. IsTablePlaceSound ext pages view.owners v place) same (range_at (IsTablePlaceSound ext pages view.owners) 0 16 view.places u place keeps.first.rule3.each at).1
+      subst (λ v. IsTablePlaceSound shape pages view.owners v place) same (range_at (IsTablePlaceSound shape pages view.owners) 0 16 view.places u place keeps.first.rule3.each at).1
 
   -- a table page of zeros has no table
   pub absent_of_zero : (t : ℕ) → t < 16 → table_page_at pages t ≡ zero_page → slice_get view.places t ≡ Some None
@@ -69,21 +69,21 @@ module _ (ext : Extents) (pages : PageList) (view : DatabaseView) (keeps : KeepA
   -- a block is one of a table that is there
   owned_there : (e u : ℕ) → owner_of view.owners e ≡ Block u → IsTableThere pages u
   owned_there e u block =
-      let below : e < ext.cap = omega (arith, block_below view.owners e u block, keeps.first.rule2.count) in
-      subst (IsOwnerThere pages) block ((keeps.first.rule2.each (e / 512) (on_map ext.cap e below)).owned e refl)
+      let below : e < shape.extents = omega (arith, block_below view.owners e u block, keeps.first.rule2.count) in
+      subst (IsOwnerThere pages) block ((keeps.first.rule2.each (e / 512) (on_map shape.extents e below)).owned e refl)
 
   -- and no block
   pub no_blocks_absent : (t : ℕ) → slice_get view.places t ≡ Some None → HasNoBlocks view.owners t
   no_blocks_absent t absent e block = (owned_there e t block).1 (place_sound t None absent)
 
   -- a sound database stands around an empty place
-  pub opened_adding : (t : ℕ) → t < 16 → slice_get view.places t ≡ Some None → StandsBut ext pages view t [] []
+  pub opened_adding : (t : ℕ) → t < 16 → slice_get view.places t ≡ Some None → StandsBut shape pages view t [] []
   opened_adding t low absent = record {
     within = low;
     count = places_count;
     absent = absent;
     root = keeps.first.rule1;
-    extents = map_of_rules ext pages view keeps.first;
+    extents = map_of_rules shape pages view keeps.first;
     owned = λ e u block. inr (owned_there e u block);
     each = λ u place apart at. place_sound u place at;
     tables_differ = keeps.first.rule3.tables_differ;
@@ -109,22 +109,22 @@ used_is_index j (Block t) is = absurd cc
 used_is_index j (Index used) is = tt
 
 -- where the pages of empty trees are in use, their roots are pages of index extents
-roots_in_indexes : (ext : Extents) (owners : List Kind) (places : List TreePlace) → ((p : ℕ) → 0 < sum_by (times p) (empty_trees places) → IsUsedPage ext owners p)
-    → AllByRecursion (λ place. IsIndexPage ext owners place.root) places
-roots_in_indexes ext owners [] used = tt
-roots_in_indexes ext owners (place ∷ places) used =
+roots_in_indexes : (shape : Shape) (owners : List Kind) (places : List TreePlace) → ((p : ℕ) → 0 < sum_by (times p) (empty_trees places) → IsUsedPage shape owners p)
+    → AllByRecursion (λ place. IsIndexPage shape owners place.root) places
+roots_in_indexes shape owners [] used = tt
+roots_in_indexes shape owners (place ∷ places) used =
     let here = used place.root (omega (arith, once_same place.root, sum_by-cons (times place.root) (empty_tree place.root) (empty_trees places))) in (
-      record { page = here.page; index = used_is_index (place_in_extent ext place.root) (owner_of owners (extent_of ext place.root)) here.used },
-      roots_in_indexes ext owners places (λ p some. used p (omega (arith, some, sum_by-cons (times p) (empty_tree place.root) (empty_trees places)))),
+      record { page = here.page; index = used_is_index (place_in_extent shape place.root) (owner_of owners (extent_of shape place.root)) here.used },
+      roots_in_indexes shape owners places (λ p some. used p (omega (arith, some, sum_by-cons (times p) (empty_tree place.root) (empty_trees places)))),
     )
 
 -- indexes without entries, where there are no rows
-no_entries : (ext : Extents) (pages : PageList) (def : TableDef) (dims : List (List ℕ)) (roots : List ℕ) → length roots ≡ length dims
+no_entries : (pages : PageList) (def : TableDef) (dims : List (List ℕ)) (roots : List ℕ) → length roots ≡ length dims
     → AllZip (λ dim index. IsBlockIndexSound def [] (rising_parts dim) index) dims (map empty_tree roots)
-no_entries ext pages def [] [] one_each = tt
-no_entries ext pages def [] (root ∷ roots) one_each = absurd (omega (arith, one_each))
-no_entries ext pages def (dim ∷ dims) [] one_each = absurd (omega (arith, one_each))
-no_entries ext pages def (dim ∷ dims) (root ∷ roots) one_each = (record { has = tt; only = tt }, no_entries ext pages def dims roots (omega (arith, one_each)))
+no_entries pages def [] [] one_each = tt
+no_entries pages def [] (root ∷ roots) one_each = absurd (omega (arith, one_each))
+no_entries pages def (dim ∷ dims) [] one_each = absurd (omega (arith, one_each))
+no_entries pages def (dim ∷ dims) (root ∷ roots) one_each = (record { has = tt; only = tt }, no_entries pages def dims roots (omega (arith, one_each)))
 
 -- no record index has its tree
 no_record_trees : (R : IndexDef → Forest → Type 0) (indexes : List IndexDef) → indexes ≡ [] → AllZip R indexes []
@@ -141,25 +141,25 @@ no_pairs : {X : Type 0} (R : X → X → Type 0) → AllPairs R []
 no_pairs R i j d low high = absurd (omega arith)
 
 -- what a table without rows and record indexes has of the rules on rows
-module _ (ext : Extents) (pages : PageList) (owners : List Kind) (def : TableDef) (no_indexes : def.indexes ≡ []) (one_each : length def.roots.dims ≡ length def.dims) (none : HasNoBlocks owners def.number) where
+module _ (shape : Shape) (pages : PageList) (owners : List Kind) (def : TableDef) (no_indexes : def.indexes ≡ []) (one_each : length def.roots.dims ≡ length def.dims) (none : HasNoBlocks owners def.number) where
   -- its block map names all of its blocks, for it has none
-  empty_map : IsBlockMapSound ext owners def (empty_tree def.roots.map)
+  empty_map : IsBlockMapSound shape owners def (empty_tree def.roots.map)
   empty_map = record { entries = λ entry there. absurd there; lines = tt; once_each = no_pairs (λ a b. a ≢ b); all_named = λ e low block. absurd (none e block) }
 
   -- its block indexes have all of its Used blocks, for it has none
-  empty_indexes : AreTableBlockIndexesSound ext pages (empty_table def)
-  empty_indexes = record { composite = record { has = tt; only = tt }; dims = no_entries ext pages def def.dims def.roots.dims one_each }
+  empty_indexes : AreTableBlockIndexesSound shape pages (empty_table def)
+  empty_indexes = record { composite = record { has = tt; only = tt }; dims = no_entries pages def def.dims def.roots.dims one_each }
 
 -- where its trees stand and its page is written, the table without rows is one of a sound database
-closed_around : (ext : Extents) (pages : PageList) (view : DatabaseView) (t : ℕ) (def : TableDef) → StandsBut ext pages view t (own_places def) (empty_trees (own_places def))
+closed_around : (shape : Shape) (pages : PageList) (view : DatabaseView) (t : ℕ) (def : TableDef) → StandsBut shape pages view t (own_places def) (empty_trees (own_places def))
     → HasNoBlocks view.owners t → IsTableDef t def → def.indexes ≡ [] → IsNameFree view def.name → table_page_at pages t ≡ table_page def
-    → KeepAllRules ext pages (view_with view view.owners t (Some (empty_table def)))
-closed_around ext pages view t def st none limits no_indexes free printed = record {
+    → KeepAllRules shape pages (view_with view view.owners t (Some (empty_table def)))
+closed_around shape pages view t def st none limits no_indexes free printed = record {
   first = record {
     rule1 = st.root;
     rule2 = record { count = st.extents.count; each = λ i low. record { held = st.extents.pages i low; owned = λ e on. owner_there (owner_of view.owners e) e refl } };
     rule3 = record {
-      each = range_each (IsTablePlaceSound ext pages view.owners) 0 16 (set view.places t (Some table)) (length-set view.places t (Some table) ∙ st.count) place_sound;
+      each = range_each (IsTablePlaceSound shape pages view.owners) 0 16 (set view.places t (Some table)) (length-set view.places t (Some table) ∙ st.count) place_sound;
       tables_differ = subst (λ tables. AllPairs (λ a b. a.name ≢ b.name) (map (λ (other : TableView). other.def) tables)) (sym between.are)
           (names_between between.front between.back table (subst (λ tables. AllPairs (λ a b. a.name ≢ b.name) (map (λ (other : TableView). other.def) tables)) between.were st.tables_differ)
           (subst (AllByRecursion (λ other. other.def.name ≢ def.name)) between.were free));
@@ -167,13 +167,13 @@ closed_around ext pages view t def st none limits no_indexes free printed = reco
     };
     rule4 = all_with (λ other. AllZip (HasTree pages) (tree_places other.def) (trees_of_table other)) st.trees_stand held;
     rule5 = λ p. record { used = λ used. times_with p ∙ st.used p used; others = λ unused. times_with p ∙ st.unused p unused };
-    rule6 = all_with (λ other. IsBlockMapSound ext view.owners other.def other.map) st.block_maps (empty_map ext pages view.owners def no_indexes limits.roots.one_each none_own);
+    rule6 = all_with (λ other. IsBlockMapSound shape view.owners other.def other.map) st.block_maps (empty_map shape pages view.owners def no_indexes limits.roots.one_each none_own);
     rule7 = all_with _ st.rows tt;
     rule8 = record { used = all_with _ st.counts.used tt; idle = all_with _ st.counts.idle tt };
     rule9 = all_with _ st.cells tt;
-    rule10 = all_with (AreTableBlockIndexesSound ext pages) st.block_indexes (empty_indexes ext pages view.owners def no_indexes limits.roots.one_each none_own);
+    rule10 = all_with (AreTableBlockIndexesSound shape pages) st.block_indexes (empty_indexes shape pages view.owners def no_indexes limits.roots.one_each none_own);
   };
-  rule11 = all_with (AreTableIndexesSound ext pages) st.record_indexes (no_record_trees _ def.indexes no_indexes);
+  rule11 = all_with (AreTableIndexesSound shape pages) st.record_indexes (no_record_trees _ def.indexes no_indexes);
   rule12 = record { numbers = all_with _ st.keys.numbers (record { below_next = tt; differ = no_pairs (λ (a b : PlacedRow). a.row.number ≢ b.row.number) }); unique = all_with _ st.keys.unique (none_of _ def.indexes no_indexes) };
 }
   where
@@ -207,49 +207,49 @@ closed_around ext pages view t def st none limits no_indexes free printed = reco
         ap (λ tables. flat_map (λ (d : TableDef). d.indexes) (map (λ (other : TableView). other.def) tables)) between.were
         ∙ (indexes_between between.front between.back table no_indexes ∙ ap (λ tables. flat_map (λ (d : TableDef). d.indexes) (map (λ (other : TableView). other.def) tables)) (sym between.are))
 
-    used_root : (p : ℕ) → 0 < sum_by (times p) (empty_trees (own_places def)) → IsUsedPage ext view.owners p
-    used_root p some = elim (used_or_not ext view.owners p) [ inl used ↦ used | inr unused ↦ absurd (omega (arith, some, st.unused p unused)) ]
+    used_root : (p : ℕ) → 0 < sum_by (times p) (empty_trees (own_places def)) → IsUsedPage shape view.owners p
+    used_root p some = elim (used_or_not shape view.owners p) [ inl used ↦ used | inr unused ↦ absurd (omega (arith, some, st.unused p unused)) ]
 
     owner_there : (kind : Kind) (e : ℕ) → owner_of view.owners e ≡ kind → IsOwnerThere pages kind
     owner_there Free e is = tt
     owner_there (Block u) e is = elim (st.owned e u is) [ inl same ↦ absurd (none e (is ∙ ap Block same)) | inr there ↦ there ]
     owner_there (Index used) e is = tt
 
-    here_sound : IsTablePlaceSound ext pages view.owners t (Some table)
-    here_sound = (record { limits = limits; printed = printed }, subst (AllByRecursion (λ place. IsIndexPage ext view.owners place.root)) (sym (own_places_all def no_indexes)) (roots_in_indexes ext view.owners (own_places def) used_root))
+    here_sound : IsTablePlaceSound shape pages view.owners t (Some table)
+    here_sound = (record { limits = limits; printed = printed }, subst (AllByRecursion (λ place. IsIndexPage shape view.owners place.root)) (sym (own_places_all def no_indexes)) (roots_in_indexes shape view.owners (own_places def) used_root))
 
-    place_sound : (i : ℕ) (place : Option TableView) → slice_get (set view.places t (Some table)) i ≡ Some place → IsTablePlaceSound ext pages view.owners (0 + i) place
-    place_sound i place at = let same : i ≡ 0 + i = omega arith in subst (λ v. IsTablePlaceSound ext pages view.owners v place) same (elim (cases_eq i t) [
+    place_sound : (i : ℕ) (place : Option TableView) → slice_get (set view.places t (Some table)) i ≡ Some place → IsTablePlaceSound shape pages view.owners (0 + i) place
+    place_sound i place at = let same : i ≡ 0 + i = omega arith in subst (λ v. IsTablePlaceSound shape pages view.owners v place) same (elim (cases_eq i t) [
       | inl here ↦
           let is = same_Some (Some table) place (sym (slice_get-set_same view.places t (Some table) (omega (arith, st.within, st.count))) ∙ (ap (slice_get (set view.places t (Some table))) (sym here) ∙ at)) in
-          subst (λ v. IsTablePlaceSound ext pages view.owners v place) (sym here) (subst (IsTablePlaceSound ext pages view.owners t) is here_sound)
+          subst (λ v. IsTablePlaceSound shape pages view.owners v place) (sym here) (subst (IsTablePlaceSound shape pages view.owners t) is here_sound)
       | inr other ↦ st.each i place other (sym (slice_get-set_other view.places t (Some table) i other) ∙ at)
     ])
 
 -- the table without rows stands where its trees do, and its page says so
-pub closed_adding : (ext : Extents) (pages : PageList) (view : DatabaseView) (t : ℕ) (def : TableDef) → StandsBut ext pages view t (own_places def) (empty_trees (own_places def))
+pub closed_adding : (shape : Shape) (pages : PageList) (view : DatabaseView) (t : ℕ) (def : TableDef) → StandsBut shape pages view t (own_places def) (empty_trees (own_places def))
     → HasNoBlocks view.owners t → IsTableDef t def → def.indexes ≡ [] → IsNameFree view def.name
-    → KeepAllRules ext (with_stored pages t (Some def)) (view_with view view.owners t (Some (empty_table def)))
-closed_adding ext pages view t def st none limits no_indexes free =
+    → KeepAllRules shape (with_stored pages t (Some def)) (view_with view view.owners t (Some (empty_table def)))
+closed_adding shape pages view t def st none limits no_indexes free =
     let places = own_places def in
     let trees = empty_trees places in
     let bytes = table_page def in
-    closed_around ext (with_stored pages t (Some def)) view t def
-    (around_kept ext ext pages (with_stored pages t (Some def)) view t places trees view.owners places trees st (page_around ext pages view t places trees bytes st))
-    none limits no_indexes free (page_written ext pages view t places trees bytes st)
+    closed_around shape (with_stored pages t (Some def)) view t def
+    (around_kept shape pages (with_stored pages t (Some def)) view t places trees view.owners places trees st (page_around shape pages view t places trees bytes st))
+    none limits no_indexes free (page_written shape pages view t places trees bytes st)
 
 -- and holds no row
-pub empty_place_held : (ext : Extents) (pages : PageList) (view : DatabaseView) (t : ℕ) (def : TableDef) → StandsBut ext pages view t (own_places def) (empty_trees (own_places def)) → IsTableDef t def
-    → HoldsPlace ext (with_stored pages t (Some def)) t (Some (plain_empty def))
-empty_place_held ext pages view t def st limits =
+pub empty_place_held : (shape : Shape) (pages : PageList) (view : DatabaseView) (t : ℕ) (def : TableDef) → StandsBut shape pages view t (own_places def) (empty_trees (own_places def)) → IsTableDef t def
+    → HoldsPlace shape (with_stored pages t (Some def)) t (Some (plain_empty def))
+empty_place_held shape pages view t def st limits =
     let places = own_places def in
     let trees = empty_trees places in
     let bytes = table_page def in
-    let now = around_kept ext ext pages (with_stored pages t (Some def)) view t places trees view.owners places trees st (page_around ext pages view t places trees bytes st) in
+    let now = around_kept shape pages (with_stored pages t (Some def)) view t places trees view.owners places trees st (page_around shape pages view t places trees bytes st) in
     record {
       def = def;
       map_tree = empty_tree def.roots.map;
-      defines = record { limits = limits; printed = page_written ext pages view t places trees bytes st };
+      defines = record { limits = limits; printed = page_written shape pages view t places trees bytes st };
       has_map = now.held.0;
       def_is = refl;
       same_rows = IsPermutation-refl [];

@@ -12,12 +12,13 @@ use Rattle.mdc_words.specs.ByteOrder.{Entry}
 use Rattle.mdc_ast.specs.declared.definition.TableDef.{TableDef}
 use Rattle.store_api.specs.Frame.{Touches}
 use Rattle.store_api.specs.declared.pages.Pages.{Ghosts}
+use Rattle.store_api.specs.declared.shape.Shape.{Shape}
 use Rattle.extent_map.specs.Kinds.{is_block_kind}
 use Rattle.extent_map.specs.Map.{IsMapPage}
-use Rattle.extent_map.specs.Owners.{IsSameShape, owner_of}
-use Rattle.extent_map.specs.declared.extents.Extents.{Extents}
+use Rattle.extent_map.specs.Owners.{owner_of}
 use Rattle.extent_map.specs.declared.kind.Kind.{Kind}
 use Rattle.extent_map.specs.declared.kind.Kind.TheVariants.{Block}
+use Rattle.extent_map.specs.declared.space_notes.SpaceNotes.{SpaceNotes}
 use Rattle.entry_tree.specs.EntryBounds.{IsEntryOf}
 use Rattle.entry_tree.specs.Forest.{Forest, leaf_entries}
 use Rattle.block_map.specs.BlockMaps.{IsMapForm}
@@ -65,40 +66,40 @@ in_all map_tree n e low there = elim (cases_eq n 2) [
 
 -- ---- whose they are
 
-line_sound : (ext : Extents) (owners : List Kind) (def : TableDef) (map_tree : Forest) (x : Entry) → IsBlockMapSound ext owners def map_tree → IsEntryOf x (leaf_entries map_tree) → IsMapLineSound ext owners def (map_line x)
-line_sound ext owners def map_tree x sound there = go (leaf_entries map_tree) sound.lines there
+line_sound : (shape : Shape) (owners : List Kind) (def : TableDef) (map_tree : Forest) (x : Entry) → IsBlockMapSound shape owners def map_tree → IsEntryOf x (leaf_entries map_tree) → IsMapLineSound shape owners def (map_line x)
+line_sound shape owners def map_tree x sound there = go (leaf_entries map_tree) sound.lines there
   where
-    go : (entries : List Entry) → AllByRecursion (IsMapLineSound ext owners def) (map map_line entries) → IsEntryOf x entries → IsMapLineSound ext owners def (map_line x)
+    go : (entries : List Entry) → AllByRecursion (IsMapLineSound shape owners def) (map map_line entries) → IsEntryOf x entries → IsMapLineSound shape owners def (map_line x)
     go [] all is = absurd is
-    go (y ∷ entries) all (inl same) = subst (λ z. IsMapLineSound ext owners def (map_line z)) (sym same) all.0
+    go (y ∷ entries) all (inl same) = subst (λ z. IsMapLineSound shape owners def (map_line z)) (sym same) all.0
     go (y ∷ entries) all (inr later) = go entries all.1 later
 
-pub block_owned : (ext : Extents) (owners : List Kind) (def : TableDef) (map_tree : Forest) (n : ℕ) → IsBlockMapSound ext owners def map_tree
-    → (e : ℕ) → Contains (blocks_of_state n map_tree) e → (e < ext.cap) × (owner_of owners e ≡ Block def.number)
-block_owned ext owners def map_tree n sound e there =
+pub block_owned : (shape : Shape) (owners : List Kind) (def : TableDef) (map_tree : Forest) (n : ℕ) → IsBlockMapSound shape owners def map_tree
+    → (e : ℕ) → Contains (blocks_of_state n map_tree) e → (e < shape.extents) × (owner_of owners e ≡ Block def.number)
+block_owned shape owners def map_tree n sound e there =
     let a = named_in_state n (leaf_entries map_tree) e there in
-    let line = line_sound ext owners def map_tree a.entry sound a.there in
-    (subst (λ b. b < ext.cap) a.block_is line.within, subst (λ b. owner_of owners b ≡ Block def.number) a.block_is line.owned)
+    let line = line_sound shape owners def map_tree a.entry sound a.there in
+    (subst (λ b. b < shape.extents) a.block_is line.within, subst (λ b. owner_of owners b ≡ Block def.number) a.block_is line.owned)
 
 -- each of them is the table's
-pub blocks_owned : (ext : Extents) (owners : List Kind) (def : TableDef) (map_tree : Forest) → IsBlockMapSound ext owners def map_tree
-    → (e : ℕ) → Contains (blocks_in_map map_tree) e → (e < ext.cap) × (owner_of owners e ≡ Block def.number)
-blocks_owned ext owners def map_tree sound e there = let one = in_one map_tree e there in block_owned ext owners def map_tree one.0 sound e one.1
+pub blocks_owned : (shape : Shape) (owners : List Kind) (def : TableDef) (map_tree : Forest) → IsBlockMapSound shape owners def map_tree
+    → (e : ℕ) → Contains (blocks_in_map map_tree) e → (e < shape.extents) × (owner_of owners e ≡ Block def.number)
+blocks_owned shape owners def map_tree sound e there = let one = in_one map_tree e there in block_owned shape owners def map_tree one.0 sound e one.1
 
 -- a block of the table is in the map, with one of the three states
-pub block_there : (ext : Extents) (owners : List Kind) (def : TableDef) (map_tree : Forest) (e : ℕ) → length owners ≡ ext.cap → IsBlockMapSound ext owners def map_tree
+pub block_there : (shape : Shape) (owners : List Kind) (def : TableDef) (map_tree : Forest) (e : ℕ) → length owners ≡ shape.extents → IsBlockMapSound shape owners def map_tree
     → owner_of owners e ≡ Block def.number → Contains (blocks_in_map map_tree) e
-block_there ext owners def map_tree e count sound is =
-    let form = map_form ext owners def map_tree sound in
+block_there shape owners def map_tree e count sound is =
+    let form = map_form shape owners def map_tree sound in
     let x = named_entry (leaf_entries map_tree) e (sound.all_named e (omega (arith, block_below owners e def.number is, count)) is) in
     in_all map_tree (map_line x.0).state e (form_state map_tree x.0 form x.1)
     (in_state_named (map_line x.0).state (leaf_entries map_tree) e (record { entry = x.0; there = x.1; state = eq-eqb (map_line x.0).state (map_line x.0).state refl; block_is = x.2 }))
 
 -- where all blocks that a block map names were given back, the table has none
-pub no_blocks_left : (ext : Extents) (owners : List Kind) (def : TableDef) (map_tree : Forest) → length owners ≡ ext.cap → IsBlockMapSound ext owners def map_tree
+pub no_blocks_left : (shape : Shape) (owners : List Kind) (def : TableDef) (map_tree : Forest) → length owners ≡ shape.extents → IsBlockMapSound shape owners def map_tree
     → HasNoBlocks (without_blocks owners (blocks_in_map map_tree)) def.number
-no_blocks_left ext owners def map_tree count sound e is =
-    no_block_given owners (blocks_in_map map_tree) e def.number (block_there ext owners def map_tree e count sound (block_before owners (blocks_in_map map_tree) e def.number is)) is
+no_blocks_left shape owners def map_tree count sound e is =
+    no_block_given owners (blocks_in_map map_tree) e def.number (block_there shape owners def map_tree e count sound (block_before owners (blocks_in_map map_tree) e def.number is)) is
 
 -- ---- none is there twice
 
@@ -128,16 +129,16 @@ not_among xs i differ low there =
 
 module _ {S : Type 0} (g : Ghosts S) where
   -- a table that stands may do so, also where blocks of other states were given back before
-  pub stands_to_give : (before ext : Extents) (old mid : S) (def : TableDef) (owners : List Kind) (forests : TableForests) (state : ℕ) (given : List ℕ) → IsSameShape before ext
-      → StandsTable g before old def owners forests → GivesBlocks g before ext mid owners given → (g.state mid).is_told ≡ (g.state old).is_told → Touches g (IsMapPage before) old mid
+  pub stands_to_give : (shape : Shape) (before noted : SpaceNotes) (old mid : S) (def : TableDef) (owners : List Kind) (forests : TableForests) (state : ℕ) (given : List ℕ)
+      → StandsTable g shape old def owners forests → GivesBlocks g shape before noted mid owners given → (g.state mid).is_told ≡ (g.state old).is_told → Touches g (IsMapPage shape) old mid
       → ((e : ℕ) → Contains (blocks_of_state state forests.map) e → Contains given e → ⊥)
-      → StandsToGive g ext mid def state (without_blocks owners given) forests.map (forests.composite ∷ forests.dims ++ forests.indexes)
-  stands_to_give before ext old mid def owners forests state given shape st gave told touched apart = record {
-    trees = trees_after_giving g before ext old mid (tree_places def) (forests_in_order forests) owners given shape st.trees gave told touched;
-    form = map_form before owners def forests.map st.map;
+      → StandsToGive g shape mid def state (without_blocks owners given) forests.map (forests.composite ∷ forests.dims ++ forests.indexes)
+  stands_to_give shape before noted old mid def owners forests state given st gave told touched apart = record {
+    trees = trees_after_giving g shape before noted old mid (tree_places def) (forests_in_order forests) owners given st.trees gave told touched;
+    form = map_form shape owners def forests.map st.map;
     blocks = λ e there.
-        let own = block_owned before owners def forests.map state st.map e there in (
-          omega (arith, own.0, shape.cap),
+        let own = block_owned shape owners def forests.map state st.map e there in (
+          own.0,
           subst (λ k. IsTrue (is_block_kind k)) (sym (owner_without owners given e (apart e there) ∙ own.1)) refl,
         );
   }

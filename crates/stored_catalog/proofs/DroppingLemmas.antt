@@ -8,11 +8,12 @@ use Rattle.mdc_ast.specs.Database.{Database, PlainTable, with_place}
 use Rattle.store_api.specs.Frame.{Touches}
 use Rattle.store_api.specs.StoreState.{page_at, zero_page}
 use Rattle.store_api.specs.declared.pages.Pages.{Ghosts}
+use Rattle.store_api.specs.declared.shape.Shape.{Shape}
 use Rattle.extent_map.specs.Map.{IsMapPage}
-use Rattle.extent_map.specs.Owners.{IsSameShape, owner_of}
-use Rattle.extent_map.specs.declared.extents.Extents.{Extents}
+use Rattle.extent_map.specs.Owners.{owner_of}
 use Rattle.extent_map.specs.declared.kind.Kind.{Kind}
 use Rattle.extent_map.specs.declared.kind.Kind.TheVariants.{Free, Block}
+use Rattle.extent_map.specs.declared.space_notes.SpaceNotes.{SpaceNotes}
 use Rattle.entry_tree.specs.Forest.{Forest}
 use Rattle.entry_tree.specs.Pruning.{without_pages}
 use Rattle.table_page.specs.TablePage.{IsTablePageOf, table_page}
@@ -38,16 +39,16 @@ use Rattle.stored_catalog.proofs.FreedTreesLemmas.{free_without_pages}
 use Rattle.stored_catalog.proofs.GivenBlocksLemmas.{owner_given}
 use Rattle.stored_catalog.proofs.OpenedTableLemmas.{IsDefinedThere, closed_dropping, defined_there, opened_dropping}
 
-module _ {S : Type 0} (g : Ghosts S) (before mid ext : Extents) (old middle new : S) (t : ℕ) (def : TableDef) (told : IsTrue (g.state old).is_told) (low : t < 16)
-    (shape_one : IsSameShape before mid) (count_one : length (g.state middle).work ≡ length (g.state old).work) (told_one : (g.state middle).is_told ≡ (g.state old).is_told)
-    (touched_one : Touches g (IsMapPage before) old middle)
-    (gives : (owners : List Kind) (map_tree : Forest) (rest : List Forest) → StandTrees g before old owners (tree_places def) (map_tree ∷ rest) → GivesBlocks g before mid middle owners (blocks_in_map map_tree))
-    (shape_two : IsSameShape mid ext) (count_two : length (g.state new).work ≡ length (g.state middle).work) (told_two : (g.state new).is_told ≡ (g.state middle).is_told)
-    (touched_two : Touches g (IsMapPage mid) middle new)
-    (frees : (owners : List Kind) (trees : List Forest) → StandTrees g mid middle owners (tree_places def) trees → FreesTrees g mid ext new owners trees)
-    (defines : DefinesTable (pages_of g old) t def) (view : DatabaseView) (keeps : KeepAllRules before (pages_of g old) view) where
+module _ {S : Type 0} (g : Ghosts S) (shape : Shape) (before mid noted : SpaceNotes) (old middle new : S) (t : ℕ) (def : TableDef) (told : IsTrue (g.state old).is_told) (low : t < 16)
+    (count_one : length (g.state middle).work ≡ length (g.state old).work) (told_one : (g.state middle).is_told ≡ (g.state old).is_told)
+    (touched_one : Touches g (IsMapPage shape) old middle)
+    (gives : (owners : List Kind) (map_tree : Forest) (rest : List Forest) → StandTrees g shape old owners (tree_places def) (map_tree ∷ rest) → GivesBlocks g shape before mid middle owners (blocks_in_map map_tree))
+    (count_two : length (g.state new).work ≡ length (g.state middle).work) (told_two : (g.state new).is_told ≡ (g.state middle).is_told)
+    (touched_two : Touches g (IsMapPage shape) middle new)
+    (frees : (owners : List Kind) (trees : List Forest) → StandTrees g shape middle owners (tree_places def) trees → FreesTrees g shape mid noted new owners trees)
+    (defines : DefinesTable (pages_of g old) t def) (view : DatabaseView) (keeps : KeepAllRules shape (pages_of g old) view) where
   there : IsDefinedThere view t def
-  there = defined_there before (pages_of g old) view t def keeps low defines
+  there = defined_there shape (pages_of g old) view t def keeps low defines
 
   abbrev table : TableView
   table = there.table
@@ -59,78 +60,78 @@ module _ {S : Type 0} (g : Ghosts S) (before mid ext : Extents) (old middle new 
   abbrev trees : List Forest
   trees = trees_of_table table
 
-  stands_first : StandsBut before (pages_of g old) view_at_first t (tree_places def) trees
-  stands_first = subst (λ d. StandsBut before (pages_of g old) view_at_first t (tree_places d) trees) there.same (opened_dropping before (pages_of g old) view t table keeps there.there)
+  stands_first : StandsBut shape (pages_of g old) view_at_first t (tree_places def) trees
+  stands_first = subst (λ d. StandsBut shape (pages_of g old) view_at_first t (tree_places d) trees) there.same (opened_dropping shape (pages_of g old) view t table keeps there.there)
 
   number : table.def.number ≡ t
-  number = (number_of_place before (pages_of g old) view keeps.first t table there.there).1
+  number = (number_of_place shape (pages_of g old) view keeps.first t table there.there).1
 
-  map_sound : IsBlockMapSound before view.owners table.def table.map
-  map_sound = there_at (λ other. IsBlockMapSound before view.owners other.def other.map) view.places t table there.there keeps.first.rule6
+  map_sound : IsBlockMapSound shape view.owners table.def table.map
+  map_sound = there_at (λ other. IsBlockMapSound shape view.owners other.def other.map) view.places t table there.there keeps.first.rule6
 
   -- its blocks are given back
-  gave : GivesBlocks g before mid middle view.owners (blocks_in_map table.map)
-  gave = gives view.owners table.map (table.composite ∷ table.dims ++ table.indexes) (trees_beside g old told before view_at_first t (tree_places def) trees stands_first)
+  gave : GivesBlocks g shape before mid middle view.owners (blocks_in_map table.map)
+  gave = gives view.owners table.map (table.composite ∷ table.dims ++ table.indexes) (trees_beside g old told shape view_at_first t (tree_places def) trees stands_first)
 
   abbrev owners_then : List Kind
   owners_then = without_blocks view.owners (blocks_in_map table.map)
 
-  around_one : ChangesAround before mid (pages_of g old) (pages_of g middle) view.owners t trees owners_then (tree_places def) trees
+  around_one : ChangesAround shape (pages_of g old) (pages_of g middle) view.owners t trees owners_then (tree_places def) trees
   around_one =
-      given_around g before mid old middle view_at_first t (tree_places def) trees told stands_first shape_one count_one told_one touched_one (blocks_in_map table.map)
-      (λ e named. (blocks_owned before view.owners table.def table.map map_sound e named).1 ∙ ap Block number) gave
+      given_around g shape old middle view_at_first t (tree_places def) trees told stands_first count_one told_one touched_one (blocks_in_map table.map)
+      (λ e named. (blocks_owned shape view.owners table.def table.map map_sound e named).1 ∙ ap Block number) gave
 
-  stands_then : StandsBut mid (pages_of g middle) (with_owners view_at_first owners_then) t (tree_places def) trees
-  stands_then = around_kept before mid (pages_of g old) (pages_of g middle) view_at_first t (tree_places def) trees owners_then (tree_places def) trees stands_first around_one
+  stands_then : StandsBut shape (pages_of g middle) (with_owners view_at_first owners_then) t (tree_places def) trees
+  stands_then = around_kept shape (pages_of g old) (pages_of g middle) view_at_first t (tree_places def) trees owners_then (tree_places def) trees stands_first around_one
 
   no_blocks : HasNoBlocks owners_then t
-  no_blocks = subst (HasNoBlocks owners_then) number (no_blocks_left before view.owners table.def table.map keeps.first.rule2.count map_sound)
+  no_blocks = subst (HasNoBlocks owners_then) number (no_blocks_left shape view.owners table.def table.map keeps.first.rule2.count map_sound)
 
   -- and then its trees
-  freed : FreesTrees g mid ext new owners_then trees
-  freed = frees owners_then trees (trees_beside g middle (told_one ∙ told) mid (with_owners view_at_first owners_then) t (tree_places def) trees stands_then)
+  freed : FreesTrees g shape mid noted new owners_then trees
+  freed = frees owners_then trees (trees_beside g middle (told_one ∙ told) shape (with_owners view_at_first owners_then) t (tree_places def) trees stands_then)
 
   abbrev owners_last : List Kind
-  owners_last = without_pages mid owners_then freed.given
+  owners_last = without_pages shape owners_then freed.given
 
-  around_two : ChangesAround mid ext (pages_of g middle) (pages_of g new) owners_then t trees owners_last [] []
+  around_two : ChangesAround shape (pages_of g middle) (pages_of g new) owners_then t trees owners_last [] []
   around_two =
-      freed_around g mid ext middle new (with_owners view_at_first owners_then) t (tree_places def) trees (told_one ∙ told) stands_then shape_two count_two told_two touched_two freed
+      freed_around g shape middle new (with_owners view_at_first owners_then) t (tree_places def) trees (told_one ∙ told) stands_then count_two told_two touched_two freed
 
-  stands_last : StandsBut ext (pages_of g new) (view_with view owners_last t None) t [] []
-  stands_last = around_kept mid ext (pages_of g middle) (pages_of g new) (with_owners view_at_first owners_then) t (tree_places def) trees owners_last [] [] stands_then around_two
+  stands_last : StandsBut shape (pages_of g new) (view_with view owners_last t None) t [] []
+  stands_last = around_kept shape (pages_of g middle) (pages_of g new) (with_owners view_at_first owners_then) t (tree_places def) trees owners_last [] [] stands_then around_two
 
   -- what was a block of the table is free
   all_freed : (e : ℕ) → owner_of view.owners e ≡ Block t → owner_of owners_last e ≡ Free
   all_freed e is =
       let own : owner_of view.owners e ≡ Block table.def.number = is ∙ ap Block (sym number) in
-      let named = block_there before view.owners table.def table.map e keeps.first.rule2.count map_sound own in
-      free_without_pages mid owners_then freed.given e (owner_given view.owners (blocks_in_map table.map) e named)
+      let named = block_there shape view.owners table.def table.map e keeps.first.rule2.count map_sound own in
+      free_without_pages shape owners_then freed.given e (owner_given view.owners (blocks_in_map table.map) e named)
 
   -- with zeros as its table page the place is empty
-  pub drops_table : (last : PageList) → last ≡ with_stored (pages_of g new) t None → DropsTable before ext last t view
+  pub drops_table : (last : PageList) → last ≡ with_stored (pages_of g new) t None → DropsTable shape before noted last t view
   drops_table last is = record {
     owners_now = owners_last;
-    sound = subst (λ pages. KeepAllRules ext pages (view_with view owners_last t None)) (sym is)
-        (closed_dropping ext (pages_of g new) (view_with view owners_last t None) t stands_last
-        (no_blocks_freed g mid ext middle new (with_owners view_at_first owners_then) t (tree_places def) trees (told_one ∙ told) stands_then shape_two count_two told_two touched_two freed no_blocks));
+    sound = subst (λ pages. KeepAllRules shape pages (view_with view owners_last t None)) (sym is)
+        (closed_dropping shape (pages_of g new) (view_with view owners_last t None) t stands_last
+        (no_blocks_freed g shape middle new (with_owners view_at_first owners_then) t (tree_places def) trees (told_one ∙ told) stands_then count_two told_two touched_two freed no_blocks));
     notes = λ right. freed.notes (gave.notes right);
     freed = all_freed;
   }
 
   -- and each other place holds what it held
-  place_kept : (u : ℕ) (other : Option PlainTable) → u < 16 → u ≢ t → HoldsPlace before (pages_of g old) u other → HoldsPlace ext (with_stored (pages_of g new) t None) u other
+  place_kept : (u : ℕ) (other : Option PlainTable) → u < 16 → u ≢ t → HoldsPlace shape (pages_of g old) u other → HoldsPlace shape (with_stored (pages_of g new) t None) u other
   place_kept u other few apart held =
-      around_place_kept ext ext (pages_of g new) (with_stored (pages_of g new) t None) (view_with view owners_last t None) t [] [] owners_last [] [] stands_last
-      (page_around ext (pages_of g new) (view_with view owners_last t None) t [] [] zero_page stands_last) u other few apart
-      (around_place_kept mid ext (pages_of g middle) (pages_of g new) (with_owners view_at_first owners_then) t (tree_places def) trees owners_last [] [] stands_then around_two u other few apart
-      (around_place_kept before mid (pages_of g old) (pages_of g middle) view_at_first t (tree_places def) trees owners_then (tree_places def) trees stands_first around_one u other few apart held))
+      around_place_kept shape (pages_of g new) (with_stored (pages_of g new) t None) (view_with view owners_last t None) t [] [] owners_last [] [] stands_last
+      (page_around shape (pages_of g new) (view_with view owners_last t None) t [] [] zero_page stands_last) u other few apart
+      (around_place_kept shape (pages_of g middle) (pages_of g new) (with_owners view_at_first owners_then) t (tree_places def) trees owners_last [] [] stands_then around_two u other few apart
+      (around_place_kept shape (pages_of g old) (pages_of g middle) view_at_first t (tree_places def) trees owners_then (tree_places def) trees stands_first around_one u other few apart held))
 
-  pub stands_for_dropped : (last : PageList) → last ≡ with_stored (pages_of g new) t None → (db : Database) → PagesStandFor before (pages_of g old) db → PagesStandFor ext last (with_place db t None)
+  pub stands_for_dropped : (last : PageList) → last ≡ with_stored (pages_of g new) t None → (db : Database) → PagesStandFor shape (pages_of g old) db → PagesStandFor shape last (with_place db t None)
   stands_for_dropped last is db were =
-      subst (λ pages. PagesStandFor ext pages (with_place db t None)) (sym is)
-      (stands_for_but before ext (pages_of g old) (with_stored (pages_of g new) t None) db t None were place_kept
-      (page_written ext (pages_of g new) (view_with view owners_last t None) t [] [] zero_page stands_last))
+      subst (λ pages. PagesStandFor shape pages (with_place db t None)) (sym is)
+      (stands_for_but shape (pages_of g old) (with_stored (pages_of g new) t None) db t None were place_kept
+      (page_written shape (pages_of g new) (view_with view owners_last t None) t [] [] zero_page stands_last))
 
 -- a page without bytes defines no table
 no_empty_table : (t : ℕ) (def : TableDef) → IsTablePageOf t def [] → ⊥
@@ -150,13 +151,13 @@ page_cleared old mid last t def defines count is =
     ap (λ pages. table_page_at pages t) is ∙ get_or-set_same mid (1 + t) zero_page [] (omega (arith, defined_within old t def defines, count))
 
 -- each other table page is as it was where only this one and those of the extent map were touched
-pub others_untouched : {S : Type 0} (g : Ghosts S) (ext : Extents) (old new : S) (t u : ℕ) → IsTrue (g.state old).is_told → Touches g (IsDroppingPage ext t) old new
+pub others_untouched : {S : Type 0} (g : Ghosts S) (shape : Shape) (old new : S) (t u : ℕ) → IsTrue (g.state old).is_told → Touches g (IsDroppingPage shape t) old new
     → length (g.state new).work ≡ length (g.state old).work → u < 16 → u ≢ t → table_page_at (pages_of g new) u ≡ table_page_at (pages_of g old) u
-others_untouched g ext old new t u told touched count few apart = elim (cases_lt (1 + u) (length (g.state old).work)) [
+others_untouched g shape old new t u told touched count few apart = elim (cases_lt (1 + u) (length (g.state old).work)) [
   | inl within ↦ (touched.others (1 + u) (page_at (g.state old).work (1 + u)) off (record { is_told = told; within = within; bytes_are = refl })).bytes_are
   | inr past ↦ get_or_past (g.state new).work (1 + u) [] (omega (arith, past, count)) ∙ sym (get_or_past (g.state old).work (1 + u) [] past)
 ]
   where
-    off : IsDroppingPage ext t (1 + u) → ⊥
+    off : IsDroppingPage shape t (1 + u) → ⊥
     off (inl same) = apart (omega (arith, same))
     off (inr on) = omega (arith, on.0, few)

@@ -10,9 +10,9 @@ use Rattle.mdc_ast.proofs.FitsLemmas.{bytes_eq-refl}
 use Rattle.store_api.specs.Frame.{Touches}
 use Rattle.store_api.specs.StoreState.{zero_page}
 use Rattle.store_api.specs.declared.pages.Pages.{Ghosts}
+use Rattle.store_api.specs.declared.shape.Shape.{Shape}
 use Rattle.store_api.proofs.FrameLemmas.{holds_here}
 use Rattle.extent_map.specs.Map.{HoldsMap}
-use Rattle.extent_map.specs.declared.extents.Extents.{Extents}
 use Rattle.extent_map.specs.declared.kind.Kind.{Kind}
 use Rattle.extent_map.proofs.DamagesLemmas.{holds_first_count}
 use Rattle.mdc_ast.specs.TableLimits.{AreRootsFor, IsTableDef}
@@ -83,11 +83,11 @@ not_named name (place ∷ defs) from zero def none at =
 not_named name (place ∷ defs) from (suc i) def none at = not_named name defs (from + 1) i def (passed (is_defined name place) from _ none).1 at
 
 -- where no definition has a name, no table has it
-pub name_free : (ext : Extents) (pages : PageList) (view : DatabaseView) (defs : Definitions) (name : Name) → KeepAllRules ext pages view → AreStored pages defs → place_of defs name ≡ None
+pub name_free : (shape : Shape) (pages : PageList) (view : DatabaseView) (defs : Definitions) (name : Name) → KeepAllRules shape pages view → AreStored pages defs → place_of defs name ≡ None
     → IsNameFree view name
-name_free ext pages view defs name keeps stored free = each_there (λ table. table.def.name ≢ name) view.places go
+name_free shape pages view defs name keeps stored free = each_there (λ table. table.def.name ≢ name) view.places go
   where
-    other : (t : ℕ) (table : TableView) (place : Option TableDef) → IsTablePlaceSound ext pages view.owners t (Some table) → slice_get defs t ≡ Some place → IsStoredPlace pages t place → table.def.name ≢ name
+    other : (t : ℕ) (table : TableView) (place : Option TableDef) → IsTablePlaceSound shape pages view.owners t (Some table) → slice_get defs t ≡ Some place → IsStoredPlace pages t place → table.def.name ≢ name
     other t table None sound at is same = no_blank_table t table.def (record { limits = sound.0.limits; printed = sym is ∙ sound.0.printed })
     other t table (Some def) sound at is same =
         let own = one_definition t def table.def (table_page_at pages t) is sound.0 in
@@ -97,11 +97,11 @@ name_free ext pages view defs name keeps stored free = each_there (λ table. tab
 
     go : (t : ℕ) (table : TableView) → slice_get view.places t ≡ Some (Some table) → table.def.name ≢ name
     go t table at =
-        let here = range_at (IsTablePlaceSound ext pages view.owners) 0 16 view.places t (Some table) keeps.first.rule3.each at in
+        let here = range_at (IsTablePlaceSound shape pages view.owners) 0 16 view.places t (Some table) keeps.first.rule3.each at in
         let found = place_there defs t (omega (arith, here.0, range_length (IsStoredPlace pages) 0 16 defs stored)) in
         let is = range_at (IsStoredPlace pages) 0 16 defs t found.0 stored found.1 in
         let same : 0 + t ≡ t = omega arith in
-        other t table found.0 (subst (λ i. IsTablePlaceSound ext pages view.owners i (Some table)) same here.1) found.1 (subst (λ i. IsStoredPlace pages i found.0) same is.1)
+        other t table found.0 (subst (λ i. IsTablePlaceSound shape pages view.owners i (Some table)) same here.1) found.1 (subst (λ i. IsStoredPlace pages i found.0) same is.1)
 
 -- ---- entered, taken out, and put back
 
@@ -190,13 +190,13 @@ module _ (defs entered after : Definitions) (t : ℕ) (def found : TableDef) (e 
         subst AreWithinLimits (sym made_at) (range_set IsWithinLimits 0 16 t defs (Some made) within (λ i is. subst (λ v. IsTableDef v made) (let same : t ≡ i = omega (arith, is) in same) (made_limits new roots)))
 
     -- what is stored stays so, with the table page written
-    pub stored_kept : {S : Type 0} (g : Ghosts S) (ext : Extents) (old new : S) (owners : List Kind) → HoldsMap g ext old owners → Touches g (IsMakingPage g ext old t) old new
+    pub stored_kept : {S : Type 0} (g : Ghosts S) (shape : Shape) (old new : S) (owners : List Kind) → HoldsMap g shape old owners → Touches g (IsMakingPage g shape old t) old new
         → IsNewTableDef def → AreRootsFor found.dims made.roots → AreStored (pages_of g old) defs → table_page_at (pages_of g new) t ≡ table_page made → AreStored (pages_of g new) final
-    stored_kept g ext old new owners held touched is_new roots stored written =
+    stored_kept g shape old new owners held touched is_new roots stored written =
         subst (AreStored (pages_of g new)) (sym made_at)
         (stored_but (pages_of g old) (pages_of g new) defs t (Some made) stored kept (record { limits = made_limits is_new roots; printed = written }))
       where
-        off : (u : ℕ) → u < 16 → u ≢ t → IsMakingPage g ext old t (1 + u) → ⊥
+        off : (u : ℕ) → u < 16 → u ≢ t → IsMakingPage g shape old t (1 + u) → ⊥
         off u low apart mine = elim mine [
           | inl own ↦ apart (omega (arith, own))
           | inr space ↦ elim (space owners held) [
@@ -207,5 +207,5 @@ module _ (defs entered after : Definitions) (t : ℕ) (def found : TableDef) (e 
 
         kept : (u : ℕ) → u < 16 → u ≢ t → table_page_at (pages_of g new) u ≡ table_page_at (pages_of g old) u
         kept u low apart =
-            let there : 1 + u < length (pages_of g old) = omega (arith, holds_first_count ext held, low) in
-            (touched.others (1 + u) (table_page_at (pages_of g old) u) (off u low apart) (holds_here (1 + u) (map_tells g ext old owners held) there)).bytes_are
+            let there : 1 + u < length (pages_of g old) = omega (arith, holds_first_count shape held, low) in
+            (touched.others (1 + u) (table_page_at (pages_of g old) u) (off u low apart) (holds_here (1 + u) (map_tells g shape old owners held) there)).bytes_are

@@ -9,15 +9,14 @@ use Rattle.store_api.specs.RunsOverPages.{RunsOverPages}
 use Rattle.store_api.specs.declared.fault.Damage.{Damage}
 use Rattle.store_api.specs.declared.fault.StoreFault.{StoreFault}
 use Rattle.store_api.specs.declared.pages.Pages.{Ghosts}
+use Rattle.store_api.specs.declared.shape.Shape.{Shape}
 use Rattle.store_api.proofs.RunsOverPagesLemmas.{runs_then}
 use Rattle.extent_map.specs.Map.{IsMapPage}
-use Rattle.extent_map.specs.Owners.{IsSameShape}
-use Rattle.extent_map.specs.declared.extents.Extents.{Extents}
 use Rattle.extent_map.specs.declared.kind.Kind.{Kind}
+use Rattle.extent_map.specs.declared.space_notes.SpaceNotes.{SpaceNotes}
 use Rattle.entry_tree.specs.Forest.{Forest}
 use Rattle.entry_tree.specs.Freeing.{BreaksFreeing, IsFreeingPage}
 use Rattle.entry_tree.specs.declared.tree.Tree.{Tree}
-use Rattle.entry_tree.proofs.ReturnedPagesLemmas.{map_page-shape}
 use Rattle.block_map.proofs.MapLinesLemmas.{contains_more}
 use Rattle.table_trees.specs.TableTrees.{HasBlockIndexes, TreePlace, block_index_places, dimension_place, dimension_places, place_of_tree, record_places, tree_places}
 use Rattle.table_trees.specs.TreesBeside.{IsTreesOrMapPage, StandTrees}
@@ -55,30 +54,30 @@ no_more_places def n has none all =
     let records : length (record_places def) ≡ 0 = rw none refl in
     drop_none (tree_places def) (suc n) (omega (arith, dims, records, all, length-append (dimension_places def) (record_places def)))
 
-module _ {S : Type 0} (g : Ghosts S) (before ext : Extents) (old mid : S) (def : TableDef) (n : ℕ) (tree : Tree) (at : slice_get (tree_places def) n ≡ Some (place_of_tree tree)) (shape : IsSameShape before ext)
-    (leads : (owners : List Kind) (trees : List Forest) → StandTrees g before old owners (tree_places def) trees → FreesSome g before ext mid owners trees (drop n (tree_places def))) where
-  page_of_freeing : (p : ℕ) → IsFreeingPage g ext mid tree p → IsTreesOrMapPage g before old (tree_places def) p
+module _ {S : Type 0} (g : Ghosts S) (shape : Shape) (before noted : SpaceNotes) (old mid : S) (def : TableDef) (n : ℕ) (tree : Tree) (at : slice_get (tree_places def) n ≡ Some (place_of_tree tree))
+    (leads : (owners : List Kind) (trees : List Forest) → StandTrees g shape old owners (tree_places def) trees → FreesSome g shape before noted mid owners trees (drop n (tree_places def))) where
+  page_of_freeing : (p : ℕ) → IsFreeingPage g shape mid tree p → IsTreesOrMapPage g shape old (tree_places def) p
   page_of_freeing p mine owners trees st =
-      let next = next_stands g before ext mid owners trees (tree_places def) n tree at shape (leads owners trees st) in
-      elim (mine _ next.0 next.1) [ inl here ↦ inl (omega (arith, here, next.2 p)) | inr map ↦ inr (map_page-shape before ext p shape map) ]
+      let next = next_stands g shape before noted mid owners trees (tree_places def) n tree at (leads owners trees st) in
+      elim (mine _ next.0 next.1) [ inl here ↦ inl (omega (arith, here, next.2 p)) | inr map ↦ inr map ]
 
-  names_freeing : (damage : Damage) → BreaksFreeing g ext mid tree damage → NamesTablePart before def damage
+  names_freeing : (damage : Damage) → BreaksFreeing g shape mid tree damage → NamesTablePart shape def damage
   names_freeing damage b = elim b.named [
     | inl root ↦ NamesTablePart.tree root.1 (subst (Contains (roots_in (tree_places def))) (sym root.0) (root_there (tree_places def) n (place_of_tree tree) at))
     | inr rest ↦ elim rest [
       | inl count ↦ NamesTablePart.count count.1 count.0
-      | inr more ↦ elim more [ inl map ↦ NamesTablePart.map_page map.1 (map_page-shape before ext damage.page shape map.0) | inr stray ↦ NamesTablePart.tree_page stray ]
+      | inr more ↦ elim more [ inl map ↦ NamesTablePart.map_page map.1 map.0 | inr stray ↦ NamesTablePart.tree_page stray ]
     ]
   ]
 
-  breaks_freeing : (damage : Damage) → BreaksFreeing g ext mid tree damage → BreaksTrees g before old def damage
+  breaks_freeing : (damage : Damage) → BreaksFreeing g shape mid tree damage → BreaksTrees g shape old def damage
   breaks_freeing damage b = record {
     names = names_freeing damage b;
-    broken = λ owners trees st. let next = next_stands g before ext mid owners trees (tree_places def) n tree at shape (leads owners trees st) in b.broken _ next.0 next.1;
+    broken = λ owners trees st. let next = next_stands g shape before noted mid owners trees (tree_places def) n tree at (leads owners trees st) in b.broken _ next.0 next.1;
   }
 
   -- a tree more
-  pub freeing_run : {new : S} {fault : Option StoreFault} → RunsOverPages g (IsMapPage before) (IsTreesOrMapPage g before old (tree_places def)) (BreaksTrees g before old def) old mid None
-      → RunsOverPages g (IsMapPage ext) (IsFreeingPage g ext mid tree) (BreaksFreeing g ext mid tree) mid new fault
-      → RunsOverPages g (IsMapPage before) (IsTreesOrMapPage g before old (tree_places def)) (BreaksTrees g before old def) old new fault
-  freeing_run run more = runs_then run more (λ p there mine. map_page-shape before ext p shape mine) page_of_freeing breaks_freeing
+  pub freeing_run : {new : S} {fault : Option StoreFault} → RunsOverPages g (IsMapPage shape) (IsTreesOrMapPage g shape old (tree_places def)) (BreaksTrees g shape old def) old mid None
+      → RunsOverPages g (IsMapPage shape) (IsFreeingPage g shape mid tree) (BreaksFreeing g shape mid tree) mid new fault
+      → RunsOverPages g (IsMapPage shape) (IsTreesOrMapPage g shape old (tree_places def)) (BreaksTrees g shape old def) old new fault
+  freeing_run run more = runs_then run more (λ p there mine. mine) page_of_freeing breaks_freeing

@@ -5,12 +5,13 @@ use Rattle.std.proofs.lemmas.Bool.{cases_eq, cases_lt}
 use Rattle.std.proofs.lemmas.List.{get_or_past}
 use Rattle.store_api.specs.Frame.{Touches}
 use Rattle.store_api.specs.declared.pages.Pages.{Ghosts}
+use Rattle.store_api.specs.declared.shape.Shape.{Shape}
 use Rattle.extent_map.specs.Kinds.{is_block_kind, is_used_place}
 use Rattle.extent_map.specs.Map.{HoldsMap, IsMapPage}
-use Rattle.extent_map.specs.Owners.{AreRightNotes, IsSameShape, IsUsedPage, extent_of, owner_of, place_in_extent, without_block}
-use Rattle.extent_map.specs.declared.extents.Extents.{Extents}
+use Rattle.extent_map.specs.Owners.{AreRightNotes, IsUsedPage, extent_of, owner_of, place_in_extent, without_block}
 use Rattle.extent_map.specs.declared.kind.Kind.{Kind}
 use Rattle.extent_map.specs.declared.kind.Kind.TheVariants.{Free, Block}
+use Rattle.extent_map.specs.declared.space_notes.SpaceNotes.{SpaceNotes}
 use Rattle.extent_map.proofs.UsedPagesLemmas.{no_space_page, used-without_block}
 use Rattle.entry_tree.specs.Forest.{Forest}
 use Rattle.block_map.proofs.MapLinesLemmas.{contains_cases, contains_more}
@@ -76,52 +77,52 @@ given_then owners (x ∷ first) second one two = (one.0, given_then (without_blo
 -- ---- used pages
 
 -- they are the same ones as before
-pub used_still : (ext : Extents) (owners : List Kind) (given : List ℕ) (p : ℕ) → AreBlocksGiven owners given → IsUsedPage ext owners p → IsUsedPage ext (without_blocks owners given) p
-used_still ext owners [] p blocks used = used
-used_still ext owners (x ∷ given) p blocks used = used_still ext (without_block owners x) given p blocks.1 (used-without_block ext owners x p blocks.0 used)
+pub used_still : (shape : Shape) (owners : List Kind) (given : List ℕ) (p : ℕ) → AreBlocksGiven owners given → IsUsedPage shape owners p → IsUsedPage shape (without_blocks owners given) p
+used_still shape owners [] p blocks used = used
+used_still shape owners (x ∷ given) p blocks used = used_still shape (without_block owners x) given p blocks.1 (used-without_block shape owners x p blocks.0 used)
 
-pub used_before : (ext : Extents) (owners : List Kind) (given : List ℕ) (p : ℕ) → IsUsedPage ext (without_blocks owners given) p → IsUsedPage ext owners p
-used_before ext owners [] p used = used
-used_before ext owners (x ∷ given) p used =
-    let was = used_before ext (without_block owners x) given p used in
+pub used_before : (shape : Shape) (owners : List Kind) (given : List ℕ) (p : ℕ) → IsUsedPage shape (without_blocks owners given) p → IsUsedPage shape owners p
+used_before shape owners [] p used = used
+used_before shape owners (x ∷ given) p used =
+    let was = used_before shape (without_block owners x) given p used in
     record {
       page = was.page;
-      used = elim (cases_eq (extent_of ext p) x) [
+      used = elim (cases_eq (extent_of shape p) x) [
         | inl here ↦
-            let none = subst (λ (k : Kind). IsTrue (is_used_place (place_in_extent ext p) k)) (ap (owner_of (without_block owners x)) here ∙ owner_here owners x) was.used in
+            let none = subst (λ (k : Kind). IsTrue (is_used_place (place_in_extent shape p) k)) (ap (owner_of (without_block owners x)) here ∙ owner_here owners x) was.used in
             absurd (cc)
-        | inr other ↦ subst (λ (k : Kind). IsTrue (is_used_place (place_in_extent ext p) k)) (owner_other owners x (extent_of ext p) other) was.used
+        | inr other ↦ subst (λ (k : Kind). IsTrue (is_used_place (place_in_extent shape p) k)) (owner_other owners x (extent_of shape p) other) was.used
       ];
     }
 
 -- ---- runs of returns
 
 module _ {S : Type 0} (g : Ghosts S) where
-  pub gives_none : (ext : Extents) (s : S) (owners : List Kind) → HoldsMap g ext s owners → GivesBlocks g ext ext s owners []
-  gives_none ext s owners held = record { extents = held; blocks = tt; notes = λ right. right }
+  pub gives_none : (shape : Shape) (noted : SpaceNotes) (s : S) (owners : List Kind) → HoldsMap g shape s owners → GivesBlocks g shape noted noted s owners []
+  gives_none shape noted s owners held = record { extents = held; blocks = tt; notes = λ right. right }
 
   -- one more
-  pub gives_more : (before mid ext : Extents) (middle new : S) (owners : List Kind) (given : List ℕ) (e : ℕ) → GivesBlocks g before mid middle owners given
-      → IsTrue (is_block_kind (owner_of (without_blocks owners given) e)) → HoldsMap g ext new (without_block (without_blocks owners given) e)
-      → (AreRightNotes mid (without_blocks owners given) → AreRightNotes ext (without_block (without_blocks owners given) e)) → GivesBlocks g before ext new owners (given ++ e ∷ [])
-  gives_more before mid ext middle new owners given e gave block held notes = record {
-    extents = subst (HoldsMap g ext new) (sym (without_blocks_then owners given (e ∷ []))) held;
+  pub gives_more : (shape : Shape) (before mid noted : SpaceNotes) (middle new : S) (owners : List Kind) (given : List ℕ) (e : ℕ) → GivesBlocks g shape before mid middle owners given
+      → IsTrue (is_block_kind (owner_of (without_blocks owners given) e)) → HoldsMap g shape new (without_block (without_blocks owners given) e)
+      → (AreRightNotes shape mid (without_blocks owners given) → AreRightNotes shape noted (without_block (without_blocks owners given) e)) → GivesBlocks g shape before noted new owners (given ++ e ∷ [])
+  gives_more shape before mid noted middle new owners given e gave block held notes = record {
+    extents = subst (HoldsMap g shape new) (sym (without_blocks_then owners given (e ∷ []))) held;
     blocks = given_then owners given (e ∷ []) gave.blocks (block, tt);
-    notes = λ right. subst (AreRightNotes ext) (sym (without_blocks_then owners given (e ∷ []))) (notes (gave.notes right));
+    notes = λ right. subst (AreRightNotes shape noted) (sym (without_blocks_then owners given (e ∷ []))) (notes (gave.notes right));
   }
 
-  pub gives_then : (before mid ext : Extents) (middle new : S) (owners : List Kind) (first second : List ℕ) → GivesBlocks g before mid middle owners first
-      → GivesBlocks g mid ext new (without_blocks owners first) second → GivesBlocks g before ext new owners (first ++ second)
-  gives_then before mid ext middle new owners first second gave gives = record {
-    extents = subst (HoldsMap g ext new) (sym (without_blocks_then owners first second)) gives.extents;
+  pub gives_then : (shape : Shape) (before mid noted : SpaceNotes) (middle new : S) (owners : List Kind) (first second : List ℕ) → GivesBlocks g shape before mid middle owners first
+      → GivesBlocks g shape mid noted new (without_blocks owners first) second → GivesBlocks g shape before noted new owners (first ++ second)
+  gives_then shape before mid noted middle new owners first second gave gives = record {
+    extents = subst (HoldsMap g shape new) (sym (without_blocks_then owners first second)) gives.extents;
     blocks = given_then owners first second gave.blocks gives.blocks;
-    notes = λ right. subst (AreRightNotes ext) (sym (without_blocks_then owners first second)) (gives.notes (gave.notes right));
+    notes = λ right. subst (AreRightNotes shape noted) (sym (without_blocks_then owners first second)) (gives.notes (gave.notes right));
   }
 
   -- trees stand as they did
-  pub trees_after_giving : (before ext : Extents) (old mid : S) (places : List TreePlace) (trees : List Forest) (owners : List Kind) (given : List ℕ) → IsSameShape before ext
-      → StandTrees g before old owners places trees → GivesBlocks g before ext mid owners given → (g.state mid).is_told ≡ (g.state old).is_told → Touches g (IsMapPage before) old mid
-      → StandTrees g ext mid (without_blocks owners given) places trees
-  trees_after_giving before ext old mid places trees owners given shape st gave told touched =
-      stand_on (IsMapPage before) before ext old mid owners (without_blocks owners given) places trees st shape gave.extents
-      (λ p used. used_still before owners given p gave.blocks used) touched told (λ p l mine. no_space_page before p (st.used p l).page (inr mine))
+  pub trees_after_giving : (shape : Shape) (before noted : SpaceNotes) (old mid : S) (places : List TreePlace) (trees : List Forest) (owners : List Kind) (given : List ℕ)
+      → StandTrees g shape old owners places trees → GivesBlocks g shape before noted mid owners given → (g.state mid).is_told ≡ (g.state old).is_told → Touches g (IsMapPage shape) old mid
+      → StandTrees g shape mid (without_blocks owners given) places trees
+  trees_after_giving shape before noted old mid places trees owners given st gave told touched =
+      stand_on (IsMapPage shape) shape old mid owners (without_blocks owners given) places trees st gave.extents
+      (λ p used. used_still shape owners given p gave.blocks used) touched told (λ p l mine. no_space_page shape p (st.used p l).page (inr mine))

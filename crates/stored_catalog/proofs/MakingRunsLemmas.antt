@@ -9,19 +9,17 @@ use Rattle.store_api.specs.RunsOverPages.{RunsOverPages}
 use Rattle.store_api.specs.declared.fault.Damage.{Damage}
 use Rattle.store_api.specs.declared.fault.StoreFault.{StoreFault}
 use Rattle.store_api.specs.declared.pages.Pages.{Ghosts}
+use Rattle.store_api.specs.declared.shape.Shape.{Shape}
 use Rattle.store_api.proofs.RunsOverPagesLemmas.{runs_then}
 use Rattle.extent_map.specs.Damages.{BreaksSpace, IfFull}
 use Rattle.extent_map.specs.Map.{HoldsMap}
-use Rattle.extent_map.specs.Owners.{AreRightNotes, IsSameShape}
-use Rattle.extent_map.specs.declared.extents.Extents.{Extents}
+use Rattle.extent_map.specs.Owners.{AreRightNotes}
 use Rattle.extent_map.specs.declared.fault.SpaceFault.{SpaceFault}
 use Rattle.extent_map.specs.declared.fault.SpaceFault.TheVariants as fault
 use Rattle.extent_map.specs.declared.kind.Kind.{Kind}
+use Rattle.extent_map.specs.declared.space_notes.SpaceNotes.{SpaceNotes}
 use Rattle.extent_map.proofs.DamagesLemmas.{breaks_space_never}
-use Rattle.extent_map.proofs.HoldsMapLemmas.{holds_map_along}
 use Rattle.entry_tree.specs.Standing.{IsFullMap, IsMapSpace, with_pages}
-use Rattle.entry_tree.proofs.ClaimsLemmas.{space_same}
-use Rattle.entry_tree.proofs.UsedPagesLemmas.{shape_back}
 use Rattle.table_trees.specs.SpaceChanges.{AsksTooMuch, RunsFull, SpaceChange}
 use Rattle.table_trees.specs.SpaceChanges.SpaceChange.{MakeTree}
 use Rattle.table_trees.specs.TableTrees.{TreePlace, dimension_place, rising_parts}
@@ -32,60 +30,59 @@ use Rattle.stored_catalog.specs.NewTables.{places_with_roots}
 use Rattle.stored_catalog.specs.TreeRuns.{BreaksMaking, MakesTrees}
 use Rattle.table_trees.proofs.SpaceStepsLemmas.{making_asks}
 use Rattle.stored_catalog.proofs.MakingTreesLemmas.{made_then, map_space_back, map_tells}
-use Rattle.table_trees.proofs.SpaceChainsLemmas.{asks_full, full_shaped, full_then, same_space_itself}
+use Rattle.table_trees.proofs.SpaceChainsLemmas.{asks_full, full_then, same_space_itself}
 
 module _ {S : Type 0} (g : Ghosts S) where
   -- ---- damage
 
   -- what a claim may name
-  pub breaks_making : (ext : Extents) (s : S) (damage : Damage) → BreaksSpace g ext s damage → BreaksMaking g ext s damage
-  breaks_making ext s damage breaks = record {
+  pub breaks_making : (shape : Shape) (s : S) (damage : Damage) → BreaksSpace g shape s damage → BreaksMaking g shape s damage
+  breaks_making shape s damage breaks = record {
     names = elim breaks [ inl count ↦ inl (count.page, count.rule) | inr map_page ↦ inr ((omega (arith, map_page.1.page), omega (arith, map_page.1.page, map_page.1.on_map)), map_page.1.rule) ];
     broken = λ owners held. breaks_space_never damage held breaks;
   }
 
   -- damage met after some trees were made
-  pub breaks_making_back : (before mid : Extents) (old middle : S) (places : List TreePlace) (damage : Damage) → IsSameShape before mid
-      → ((owners : List Kind) → HoldsMap g before old owners → MakesTrees g before mid old middle owners places) → BreaksMaking g mid middle damage → BreaksMaking g before old damage
-  breaks_making_back before mid old middle places damage shape made breaks = record {
+  pub breaks_making_back : (shape : Shape) (before mid : SpaceNotes) (old middle : S) (places : List TreePlace) (damage : Damage)
+      → ((owners : List Kind) → HoldsMap g shape old owners → MakesTrees g shape before mid old middle owners places) → BreaksMaking g shape middle damage → BreaksMaking g shape old damage
+  breaks_making_back shape before mid old middle places damage made breaks = record {
     names = elim breaks.names [
       | inl count ↦ inl count
-      | inr map_page ↦ elim (space_same before mid damage.page shape (inr map_page.0)) [ inl root ↦ absurd (omega (arith, root, map_page.0.0)) | inr is ↦ inr (is, map_page.1) ]
+      | inr map_page ↦ inr map_page
     ];
-    broken = λ owners held. breaks.broken (with_pages before owners (roots_in places)) (made owners held).extents;
+    broken = λ owners held. breaks.broken (with_pages shape owners (roots_in places)) (made owners held).extents;
   }
 
   -- ---- runs
 
   -- a run of claims after some trees were made
-  pub making_then : (before mid : Extents) (old middle new : S) (places : List TreePlace) (fault : Option StoreFault) → IsSameShape before mid
-      → ((owners : List Kind) → HoldsMap g before old owners → MakesTrees g before mid old middle owners places)
-      → RunsOverPages g (IsMapSpace g before old) (IsMapSpace g before old) (BreaksMaking g before old) old middle None
-      → RunsOverPages g (IsMapSpace g mid middle) (IsMapSpace g mid middle) (BreaksMaking g mid middle) middle new fault
-      → RunsOverPages g (IsMapSpace g before old) (IsMapSpace g before old) (BreaksMaking g before old) old new fault
-  making_then before mid old middle new places fault shape made first second =
-      runs_then first second (λ p there space. map_space_back g before mid old middle places p shape made space) (λ p space. map_space_back g before mid old middle places p shape made space)
-      (λ damage breaks. breaks_making_back before mid old middle places damage shape made breaks)
+  pub making_then : (shape : Shape) (before mid : SpaceNotes) (old middle new : S) (places : List TreePlace) (fault : Option StoreFault)
+      → ((owners : List Kind) → HoldsMap g shape old owners → MakesTrees g shape before mid old middle owners places)
+      → RunsOverPages g (IsMapSpace g shape old) (IsMapSpace g shape old) (BreaksMaking g shape old) old middle None
+      → RunsOverPages g (IsMapSpace g shape middle) (IsMapSpace g shape middle) (BreaksMaking g shape middle) middle new fault
+      → RunsOverPages g (IsMapSpace g shape old) (IsMapSpace g shape old) (BreaksMaking g shape old) old new fault
+  making_then shape before mid old middle new places fault made first second =
+      runs_then first second (λ p there space. map_space_back g shape before mid old middle places p made space) (λ p space. map_space_back g shape before mid old middle places p made space)
+      (λ damage breaks. breaks_making_back shape before mid old middle places damage made breaks)
 
   -- ---- full
 
   -- where no page can be claimed, a tree asks for too much
-  pub full_asks : (ext : Extents) (s : S) (found : SpaceFault)
-      → IfFull found (λ cap. (cap ≡ ext.cap) × ((owners : List Kind) → HoldsMap g ext s owners → AreRightNotes ext owners → IsFullMap ext owners))
-      → IfFull found (λ cap. (cap ≡ ext.cap) × ((owners : List Kind) → HoldsMap g ext s owners → AreRightNotes ext owners → (place : TreePlace) → AsksTooMuch ext (pages_of g s) (MakeTree place)))
-  full_asks ext s (fault.Full cap) full = (full.0, λ owners held right place. making_asks ext s place owners held (map_tells g ext s owners held) (full.1 owners held right))
-  full_asks ext s (fault.Store what) full = tt
+  pub full_asks : (shape : Shape) (noted : SpaceNotes) (s : S) (found : SpaceFault)
+      → IfFull found (λ cap. (cap ≡ shape.extents) × ((owners : List Kind) → HoldsMap g shape s owners → AreRightNotes shape noted owners → IsFullMap shape owners))
+      → IfFull found (λ cap. (cap ≡ shape.extents) × ((owners : List Kind) → HoldsMap g shape s owners → AreRightNotes shape noted owners → (place : TreePlace) → AsksTooMuch shape (pages_of g s) (MakeTree place)))
+  full_asks shape noted s (fault.Full cap) full = (full.0, λ owners held right place. making_asks shape s place owners held (map_tells g shape s owners held) (full.1 owners held right))
+  full_asks shape noted s (fault.Store what) full = tt
 
   -- after some trees were made the rest runs full
-  pub full_later : (before mid : Extents) (old middle : S) (owners : List Kind) (places : List TreePlace) (rest : List SpaceChange) → IsSameShape before mid → AreRightNotes before owners
-      → MakesTrees g before mid old middle owners places → RunsFull mid (pages_of g middle) rest → RunsFull before (pages_of g old) (map MakeTree places ++ rest)
-  full_later before mid old middle owners places rest shape right made full =
-      let now = with_pages before owners (roots_in places) in
-      let held : HoldsMap told_pages before (pages_of g middle) now =
-      holds_map_along (shape_back before mid shape) (map_of_told g middle (map_tells g mid middle now made.extents) mid now made.extents) in
-      full_then before (pages_of g old) (pages_of g middle) (map MakeTree places) rest
-      (record { reached = pages_of g middle; goes = made.goes right; same = same_space_itself before (pages_of g middle) now held })
-      (full_shaped before mid (pages_of g middle) rest shape full)
+  pub full_later : (shape : Shape) (before mid : SpaceNotes) (old middle : S) (owners : List Kind) (places : List TreePlace) (rest : List SpaceChange) → AreRightNotes shape before owners
+      → MakesTrees g shape before mid old middle owners places → RunsFull shape (pages_of g middle) rest → RunsFull shape (pages_of g old) (map MakeTree places ++ rest)
+  full_later shape before mid old middle owners places rest right made full =
+      let now = with_pages shape owners (roots_in places) in
+      let held : HoldsMap told_pages shape (pages_of g middle) now =
+      map_of_told g middle (map_tells g shape middle now made.extents) shape now made.extents in
+      full_then shape (pages_of g old) (pages_of g middle) (map MakeTree places) rest
+      (record { reached = pages_of g middle; goes = made.goes right; same = same_space_itself shape (pages_of g middle) now held }) full
 
 -- ---- the indexes of dimensions
 
@@ -155,47 +152,47 @@ length-any_roots : {A : Type 0} (xs : List A) → length (any_roots xs) ≡ leng
 length-any_roots [] = refl
 length-any_roots (x ∷ xs) = ap suc (length-any_roots xs)
 
-module _ {S : Type 0} (g : Ghosts S) (before mid : Extents) (old middle : S) (def : TableDef) (roots : List ℕ) (i : ℕ) (dim : List ℕ) where
+module _ {S : Type 0} (g : Ghosts S) (shape : Shape) (before mid : SpaceNotes) (old middle : S) (def : TableDef) (roots : List ℕ) (i : ℕ) (dim : List ℕ) where
   -- what was made so far: the indexes of the first dimensions
   abbrev Made : Type 0
-  Made = (owners : List Kind) → HoldsMap g before old owners → MakesTrees g before mid old middle owners (places_with_roots def roots)
+  Made = (owners : List Kind) → HoldsMap g shape old owners → MakesTrees g shape before mid old middle owners (places_with_roots def roots)
 
   -- one index more was made
-  pub dimension_made : (ext : Extents) (new : S) (root width : ℕ) → length roots ≡ i → i < length def.dims → dim ≡ get_or def.dims i dim → width ≡ width_of_parts def.columns (rising_parts dim) + 4
-      → IsSameShape before mid → length (pages_of g old) ≤ length (pages_of g middle) → length (pages_of g middle) ≤ length (pages_of g new) → Touches g (IsMapSpace g mid middle) middle new → Made
-      → ((owners : List Kind) → HoldsMap g mid middle owners → MakesTrees g mid ext middle new owners (record { root = root; width = width } ∷ []))
-      → (owners : List Kind) → HoldsMap g before old owners → MakesTrees g before ext old new owners (places_with_roots def (roots ++ root ∷ []))
-  dimension_made ext new root width count within is wide shape longer longer_then touched made more owners held =
+  pub dimension_made : (noted : SpaceNotes) (new : S) (root width : ℕ) → length roots ≡ i → i < length def.dims → dim ≡ get_or def.dims i dim → width ≡ width_of_parts def.columns (rising_parts dim) + 4
+      → length (pages_of g old) ≤ length (pages_of g middle) → length (pages_of g middle) ≤ length (pages_of g new) → Touches g (IsMapSpace g shape middle) middle new → Made
+      → ((owners : List Kind) → HoldsMap g shape middle owners → MakesTrees g shape mid noted middle new owners (record { root = root; width = width } ∷ []))
+      → (owners : List Kind) → HoldsMap g shape old owners → MakesTrees g shape before noted old new owners (places_with_roots def (roots ++ root ∷ []))
+  dimension_made noted new root width count within is wide longer longer_then touched made more owners held =
       let was = made owners held in
-      let now = with_pages before owners (roots_in (places_with_roots def roots)) in
-      let one = subst (λ w. MakesTrees g mid ext middle new now (record { root = root; width = w } ∷ [])) wide (more now was.extents) in
-      subst (MakesTrees g before ext old new owners) (sym (places_push def roots root i dim count within is))
-      (made_then g before mid ext old middle new owners (places_with_roots def roots) (dimension_place def dim root ∷ []) held shape longer longer_then touched was one)
+      let now = with_pages shape owners (roots_in (places_with_roots def roots)) in
+      let one = subst (λ w. MakesTrees g shape mid noted middle new now (record { root = root; width = w } ∷ [])) wide (more now was.extents) in
+      subst (MakesTrees g shape before noted old new owners) (sym (places_push def roots root i dim count within is))
+      (made_then g shape before mid noted old middle new owners (places_with_roots def roots) (dimension_place def dim root ∷ []) held longer longer_then touched was one)
 
   -- the next index asks for too much
-  pub dimension_full : (found : SpaceFault) → length roots ≡ i → i < length def.dims → dim ≡ get_or def.dims i dim → IsSameShape before mid → Made
-      → IfFull found (λ cap. (cap ≡ mid.cap) × ((owners : List Kind) → HoldsMap g mid middle owners → AreRightNotes mid owners → (place : TreePlace) → AsksTooMuch mid (pages_of g middle) (MakeTree place)))
-      → IfFull found (λ cap. (cap ≡ before.cap) × ((owners : List Kind) → HoldsMap g before old owners → AreRightNotes before owners
-      → (all : List ℕ) × (length all ≡ length def.dims) × RunsFull before (pages_of g old) (map MakeTree (places_with_roots def all))))
-  dimension_full (fault.Store what) count within is shape made full = tt
-  dimension_full (fault.Full cap) count within is shape made full = (full.0 ∙ shape.cap, runs)
+  pub dimension_full : (found : SpaceFault) → length roots ≡ i → i < length def.dims → dim ≡ get_or def.dims i dim → Made
+      → IfFull found (λ cap. (cap ≡ shape.extents) × ((owners : List Kind) → HoldsMap g shape middle owners → AreRightNotes shape mid owners → (place : TreePlace) → AsksTooMuch shape (pages_of g middle) (MakeTree place)))
+      → IfFull found (λ cap. (cap ≡ shape.extents) × ((owners : List Kind) → HoldsMap g shape old owners → AreRightNotes shape before owners
+      → (all : List ℕ) × (length all ≡ length def.dims) × RunsFull shape (pages_of g old) (map MakeTree (places_with_roots def all))))
+  dimension_full (fault.Store what) count within is made full = tt
+  dimension_full (fault.Full cap) count within is made full = (full.0, runs)
     where
       rest : List (List ℕ)
       rest = drop (i + 1) def.dims
 
-      runs : (owners : List Kind) → HoldsMap g before old owners → AreRightNotes before owners
-          → (all : List ℕ) × (length all ≡ length def.dims) × RunsFull before (pages_of g old) (map MakeTree (places_with_roots def all))
+      runs : (owners : List Kind) → HoldsMap g shape old owners → AreRightNotes shape before owners
+          → (all : List ℕ) × (length all ≡ length def.dims) × RunsFull shape (pages_of g old) (map MakeTree (places_with_roots def all))
       runs owners held right =
           let was = made owners held in
-          let now = with_pages before owners (roots_in (places_with_roots def roots)) in
+          let now = with_pages shape owners (roots_in (places_with_roots def roots)) in
           let more = places_for def rest (any_roots rest) in
           let place = dimension_place def dim 0 in
           let all = roots ++ 0 ∷ any_roots rest in
           let same : map MakeTree (places_with_roots def all) ≡ map MakeTree (places_with_roots def roots) ++ MakeTree place ∷ map MakeTree more =
           ap (map MakeTree) (places_more def roots (0 ∷ any_roots rest) i dim count within is) ∙ map-append MakeTree (places_with_roots def roots) (place ∷ more) in
-          let late = full_later g before mid old middle owners (places_with_roots def roots) (MakeTree place ∷ map MakeTree more) shape right was
-          (asks_full mid (pages_of g middle) (MakeTree place) (map MakeTree more) (full.1 now was.extents (was.notes right) place)) in (
+          let late = full_later g shape before mid old middle owners (places_with_roots def roots) (MakeTree place ∷ map MakeTree more) right was
+          (asks_full shape (pages_of g middle) (MakeTree place) (map MakeTree more) (full.1 now was.extents (was.notes right) place)) in (
             all,
             omega (arith, length-append roots (0 ∷ any_roots rest), count, within, length-any_roots rest, length-drop (i + 1) def.dims),
-            subst (RunsFull before (pages_of g old)) (sym same) late,
+            subst (RunsFull shape (pages_of g old)) (sym same) late,
           )

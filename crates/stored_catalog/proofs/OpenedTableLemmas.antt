@@ -11,8 +11,8 @@ use Rattle.mdc_words.proofs.PlacesLemmas.{slice_get-set_other, slice_get-set_sam
 use Rattle.mdc_ast.specs.declared.definition.IndexDef.{IndexDef}
 use Rattle.mdc_ast.specs.declared.definition.TableDef.{TableDef}
 use Rattle.store_api.specs.StoreState.{zero_page}
+use Rattle.store_api.specs.declared.shape.Shape.{Shape}
 use Rattle.extent_map.specs.Owners.{owner_of}
-use Rattle.extent_map.specs.declared.extents.Extents.{Extents}
 use Rattle.extent_map.specs.declared.kind.Kind.{Kind}
 use Rattle.extent_map.specs.declared.kind.Kind.TheVariants.{Free, Block, Index}
 use Rattle.extent_map.proofs.HoldsMapLemmas.{on_map}
@@ -128,13 +128,13 @@ place_at [] i low = absurd (omega arith)
 place_at (x ∷ xs) zero low = (x, refl)
 place_at (x ∷ xs) (suc i) low = place_at xs i (omega (arith, low))
 
-pub defined_there : (ext : Extents) (pages : PageList) (view : DatabaseView) (t : ℕ) (def : TableDef) → KeepAllRules ext pages view → t < 16 → DefinesTable pages t def → IsDefinedThere view t def
-defined_there ext pages view t def keeps low defines =
-    let count = range_length (IsTablePlaceSound ext pages view.owners) 0 16 view.places keeps.first.rule3.each in
+pub defined_there : (shape : Shape) (pages : PageList) (view : DatabaseView) (t : ℕ) (def : TableDef) → KeepAllRules shape pages view → t < 16 → DefinesTable pages t def → IsDefinedThere view t def
+defined_there shape pages view t def keeps low defines =
+    let count = range_length (IsTablePlaceSound shape pages view.owners) 0 16 view.places keeps.first.rule3.each in
     let at = place_at view.places t (omega (arith, low, count)) in
-    go at.0 at.1 (range_at (IsTablePlaceSound ext pages view.owners) 0 16 view.places t at.0 keeps.first.rule3.each at.1).1
+    go at.0 at.1 (range_at (IsTablePlaceSound shape pages view.owners) 0 16 view.places t at.0 keeps.first.rule3.each at.1).1
   where
-    go : (place : Option TableView) → slice_get view.places t ≡ Some place → IsTablePlaceSound ext pages view.owners (0 + t) place → IsDefinedThere view t def
+    go : (place : Option TableView) → slice_get view.places t ≡ Some place → IsTablePlaceSound shape pages view.owners (0 + t) place → IsDefinedThere view t def
     go None at sound = absurd (no_blank_table t def (subst (λ page. IsTablePageOf t def page) (subst (λ u. table_page_at pages u ≡ zero_page) (omega arith) sound) defines))
     go (Some table) at sound = record {
       table = table;
@@ -143,23 +143,23 @@ defined_there ext pages view t def keeps low defines =
     }
 
 -- a sound database stands around one of its tables, with all trees of that beside it
-pub opened_dropping : (ext : Extents) (pages : PageList) (view : DatabaseView) (t : ℕ) (table : TableView) → KeepAllRules ext pages view → slice_get view.places t ≡ Some (Some table)
-    → StandsBut ext pages (view_with view view.owners t None) t (tree_places table.def) (trees_of_table table)
-opened_dropping ext pages view t table keeps there =
+pub opened_dropping : (shape : Shape) (pages : PageList) (view : DatabaseView) (t : ℕ) (table : TableView) → KeepAllRules shape pages view → slice_get view.places t ≡ Some (Some table)
+    → StandsBut shape pages (view_with view view.owners t None) t (tree_places table.def) (trees_of_table table)
+opened_dropping shape pages view t table keeps there =
     let first = keeps.first in
-    let low = (number_of_place ext pages view first t table there).0 in
-    let count = range_length (IsTablePlaceSound ext pages view.owners) 0 16 view.places first.rule3.each in
+    let low = (number_of_place shape pages view first t table there).0 in
+    let count = range_length (IsTablePlaceSound shape pages view.owners) 0 16 view.places first.rule3.each in
     record {
       within = low;
       count = length-set view.places t None ∙ count;
       absent = slice_get-set_same view.places t None (omega (arith, low, count));
       root = first.rule1;
-      extents = map_of_rules ext pages view first;
-      owned = λ e u is. inr (subst (IsOwnerThere pages) is ((first.rule2.each (e / 512) (on_map ext.cap e (omega (arith, block_below view.owners e u is, first.rule2.count)))).owned e refl));
+      extents = map_of_rules shape pages view first;
+      owned = λ e u is. inr (subst (IsOwnerThere pages) is ((first.rule2.each (e / 512) (on_map shape.extents e (omega (arith, block_below view.owners e u is, first.rule2.count)))).owned e refl));
       each = λ u place apart at.
           let same : 0 + u ≡ u = omega arith in
-          subst (λ v. IsTablePlaceSound ext pages view.owners v place) same
-          (range_at (IsTablePlaceSound ext pages view.owners) 0 16 view.places u place first.rule3.each (sym (slice_get-set_other view.places t None u apart) ∙ at)).1;
+          subst (λ v. IsTablePlaceSound shape pages view.owners v place) same
+          (range_at (IsTablePlaceSound shape pages view.owners) 0 16 view.places u place first.rule3.each (sym (slice_get-set_other view.places t None u apart) ∙ at)).1;
       tables_differ = tables_without (λ (a b : TableDef). a.name ≢ b.name) view.places t table there first.rule3.tables_differ;
       indexes_differ = indexes_without (λ (a b : IndexDef). a.name ≢ b.name) view.places t table there first.rule3.indexes_differ;
       trees_stand = each_without _ view.places t first.rule4;
@@ -178,16 +178,16 @@ opened_dropping ext pages view t table keeps there =
 -- ---- closing
 
 -- without trees and blocks, and with a page of zeros, the place is empty
-pub closed_dropping : (ext : Extents) (pages : PageList) (view : DatabaseView) (t : ℕ) → StandsBut ext pages view t [] [] → HasNoBlocks view.owners t
-    → KeepAllRules ext (with_stored pages t None) view
-closed_dropping ext pages view t st none =
-    let now = around_kept ext ext pages (with_stored pages t None) view t [] [] view.owners [] [] st (page_around ext pages view t [] [] zero_page st) in
+pub closed_dropping : (shape : Shape) (pages : PageList) (view : DatabaseView) (t : ℕ) → StandsBut shape pages view t [] [] → HasNoBlocks view.owners t
+    → KeepAllRules shape (with_stored pages t None) view
+closed_dropping shape pages view t st none =
+    let now = around_kept shape pages (with_stored pages t None) view t [] [] view.owners [] [] st (page_around shape pages view t [] [] zero_page st) in
     record {
       first = record {
         rule1 = now.root;
         rule2 = record { count = now.extents.count; each = λ i low. record { held = now.extents.pages i low; owned = λ e on. owner_there now (owner_of view.owners e) e refl } };
         rule3 = record {
-          each = range_each (IsTablePlaceSound ext (with_stored pages t None) view.owners) 0 16 view.places st.count (λ u place at. each_place now u place at);
+          each = range_each (IsTablePlaceSound shape (with_stored pages t None) view.owners) 0 16 view.places st.count (λ u place at. each_place now u place at);
           tables_differ = now.tables_differ;
           indexes_differ = now.indexes_differ;
         };
@@ -203,19 +203,19 @@ closed_dropping ext pages view t st none =
       rule12 = now.keys;
     }
   where
-    owner_there : StandsBut ext (with_stored pages t None) view t [] [] → (kind : Kind) (e : ℕ) → owner_of view.owners e ≡ kind → IsOwnerThere (with_stored pages t None) kind
+    owner_there : StandsBut shape (with_stored pages t None) view t [] [] → (kind : Kind) (e : ℕ) → owner_of view.owners e ≡ kind → IsOwnerThere (with_stored pages t None) kind
     owner_there now Free e is = tt
     owner_there now (Block u) e is = elim (now.owned e u is) [ inl same ↦ absurd (none e (is ∙ ap Block same)) | inr there ↦ there ]
     owner_there now (Index used) e is = tt
 
-    each_place : StandsBut ext (with_stored pages t None) view t [] [] → (u : ℕ) (place : Option TableView) → slice_get view.places u ≡ Some place
-        → IsTablePlaceSound ext (with_stored pages t None) view.owners (0 + u) place
+    each_place : StandsBut shape (with_stored pages t None) view t [] [] → (u : ℕ) (place : Option TableView) → slice_get view.places u ≡ Some place
+        → IsTablePlaceSound shape (with_stored pages t None) view.owners (0 + u) place
     each_place now u place at =
         let same : u ≡ 0 + u = omega arith in
-        subst (λ v. IsTablePlaceSound ext (with_stored pages t None) view.owners v place) same (elim (cases_eq u t) [
+        subst (λ v. IsTablePlaceSound shape (with_stored pages t None) view.owners v place) same (elim (cases_eq u t) [
           | inl here ↦
               let blank : place ≡ None = same_Some place None (sym at ∙ (ap (slice_get view.places) here ∙ st.absent)) in
-              subst (λ q. IsTablePlaceSound ext (with_stored pages t None) view.owners u q) (sym blank)
-              (subst (λ v. table_page_at (with_stored pages t None) v ≡ zero_page) (sym here) (page_written ext pages view t [] [] zero_page st))
+              subst (λ q. IsTablePlaceSound shape (with_stored pages t None) view.owners u q) (sym blank)
+              (subst (λ v. table_page_at (with_stored pages t None) v ≡ zero_page) (sym here) (page_written shape pages view t [] [] zero_page st))
           | inr apart ↦ now.each u place apart at
         ])

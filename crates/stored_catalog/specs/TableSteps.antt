@@ -3,10 +3,11 @@ use Rattle.std.specs.Prelude.{◌≡◌, ◌≢◌, ℕ, List, [], Some, None}
 use Rattle.mdc_ast.specs.declared.definition.TableDef.{TableDef}
 use Rattle.mdc_ast.specs.declared.name.Name.{Name}
 use Rattle.mdc_ast.specs.Database.{PlainTable}
+use Rattle.store_api.specs.declared.shape.Shape.{Shape}
 use Rattle.extent_map.specs.Owners.{AreRightNotes, owner_of}
-use Rattle.extent_map.specs.declared.extents.Extents.{Extents}
 use Rattle.extent_map.specs.declared.kind.Kind.{Kind}
 use Rattle.extent_map.specs.declared.kind.Kind.TheVariants.{Free, Block}
+use Rattle.extent_map.specs.declared.space_notes.SpaceNotes.{SpaceNotes}
 use Rattle.table_trees.specs.SpaceChanges.{MakesChanges}
 use Rattle.table_trees.specs.ToldPages.{PageList}
 use Rattle.mdc_sound.specs.RunningFull.{creating_changes}
@@ -26,15 +27,15 @@ plain_empty def = record { def = rootless def; rows = [] }
 
 -- The table of this definition was made in its place, which was empty. The pages are sound, with the table without rows there.
 -- Where the notes were right they are so now, and no more space was taken than its trees ask for.
-pub record AddsTable (before ext : Extents) (old new : PageList) (def : TableDef) (view : DatabaseView) : Type 0 where
+pub record AddsTable (shape : Shape) (before noted : SpaceNotes) (old new : PageList) (def : TableDef) (view : DatabaseView) : Type 0 where
   pub owners_now : List Kind
-  pub sound : KeepAllRules ext new (view_with view owners_now def.number (Some (empty_table def)))
-  pub notes : AreRightNotes before view.owners → AreRightNotes ext owners_now
-  pub makes : AreRightNotes before view.owners → MakesChanges before old (creating_changes def) new
+  pub sound : KeepAllRules shape new (view_with view owners_now def.number (Some (empty_table def)))
+  pub notes : AreRightNotes shape before view.owners → AreRightNotes shape noted owners_now
+  pub makes : AreRightNotes shape before view.owners → MakesChanges shape old (creating_changes def) new
 
 -- Table t was dropped. The pages are sound without it, the notes are as right as they were, and the extents of its blocks are free.
-pub record DropsTable (before ext : Extents) (new : PageList) (t : ℕ) (view : DatabaseView) : Type 0 where
+pub record DropsTable (shape : Shape) (before noted : SpaceNotes) (new : PageList) (t : ℕ) (view : DatabaseView) : Type 0 where
   pub owners_now : List Kind
-  pub sound : KeepAllRules ext new (view_with view owners_now t None)
-  pub notes : AreRightNotes before view.owners → AreRightNotes ext owners_now
+  pub sound : KeepAllRules shape new (view_with view owners_now t None)
+  pub notes : AreRightNotes shape before view.owners → AreRightNotes shape noted owners_now
   pub freed : (e : ℕ) → owner_of view.owners e ≡ Block t → owner_of owners_now e ≡ Free

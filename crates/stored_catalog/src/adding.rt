@@ -9,7 +9,7 @@ ghost use Rattle.store_api.specs.RunsOverPages.{RunsOverPages};
 ghost use Rattle.store_api.specs.StoreState.{zero_page};
 ghost use Rattle.extent_map.specs.Damages.{IfFull, store_part_of};
 ghost use Rattle.extent_map.specs.Map.{HoldsMap};
-ghost use Rattle.extent_map.specs.Owners.{AreRightNotes, IsSameShape};
+ghost use Rattle.extent_map.specs.Owners.{AreRightNotes};
 ghost use Rattle.extent_map.specs.declared.kind.Kind.{Kind};
 ghost use Rattle.entry_tree.specs.Standing.{IsMapSpace};
 ghost use Rattle.mdc_ast.specs.TableLimits.{AreRootsFor};
@@ -30,12 +30,12 @@ ghost use Rattle.stored_catalog.specs.TreeRuns.{BreaksMaking, IsAddingPage, IsMa
 use crate::saving::write_def;
 use catalog::Catalog;
 use entry_tree::Tree;
-use extent_map::{Extents, SpaceFault};
+use extent_map::{SpaceFault, SpaceNotes};
 use mdc_ast::{Roots, TableDef};
 use mdc_values::List;
 use std::alloc::Global;
 use store_api::layout::{BLOCK_BYTES, BLOCK_MAP_WIDTH};
-use store_api::{Pages, StoreFault};
+use store_api::{Pages, Shape, StoreFault};
 use table_trees::{cell_width, places_width};
 
 /// Makes a table of this definition in the lowest empty place, and answers that place: its trees, without entries, and its table
@@ -44,7 +44,8 @@ use table_trees::{cell_width, places_width};
 pub fn add_table<P: Pages>(
     alloc: Global,
     catalog: &mut Catalog,
-    ext: &mut Extents,
+    shape: Shape,
+    notes: &mut SpaceNotes,
     pages: &mut P,
     def: TableDef,
 ) -> Result<u8, SpaceFault>
@@ -57,23 +58,22 @@ pub fn add_table<P: Pages>(
     ensures entered { IfOk result (λ place. (roots : Roots) × (catalog.new ≡ with_def catalog.old place (rooted def roots))) }
     ensures kept { OnErr result (catalog.new ≡ catalog.old) }
     ensures limits { OnOk result (AreWithinLimits catalog.new) }
-    ensures stored { OnOk result ((owners : List Kind) → HoldsMap P.Pages ext.old pages.old owners → AreStored (P.state pages.old).work catalog.old → AreStored (P.state pages.new).work catalog.new) }
-    ensures adds { IfOk result (λ place. IsTrue (P.state pages.old).is_told → AreStored (P.state pages.old).work catalog.old → (view : DatabaseView) → KeepAllRules ext.old (P.state pages.old).work view
-        → IfSome (def_at catalog.new place) (λ now. AddsTable ext.old ext.new (P.state pages.old).work (P.state pages.new).work now view)) }
-    ensures stands_for { IfOk result (λ place. IsTrue (P.state pages.old).is_told → AreStored (P.state pages.old).work catalog.old → (view : DatabaseView) → KeepAllRules ext.old (P.state pages.old).work view
-        → (db : Database) → PagesStandFor ext.old (P.state pages.old).work db
-        → IfSome (def_at catalog.new place) (λ now. PagesStandFor ext.new (P.state pages.new).work (with_place db place (Some (plain_empty now))))) }
-    ensures full { IfErr result (λ fault. IfFull fault (λ cap. (cap ≡ ext.old.cap) × ((owners : List Kind) → HoldsMap P.Pages ext.old pages.old owners → AreRightNotes ext.old owners
-        → CreateRunsFull ext.old (P.state pages.old).work def))) }
-    ensures shape { IsSameShape ext.old ext.new }
-    ensures runs { RunsOverPages P.Pages (IsAddingPage P.Pages ext.old pages.old catalog.old) (IsMapSpace P.Pages ext.old pages.old)
-        (BreaksMaking P.Pages ext.old pages.old) pages.old pages.new (store_fault_in store_part_of result) }
+    ensures stored { OnOk result ((owners : List Kind) → HoldsMap P.Pages shape pages.old owners → AreStored (P.state pages.old).work catalog.old → AreStored (P.state pages.new).work catalog.new) }
+    ensures adds { IfOk result (λ place. IsTrue (P.state pages.old).is_told → AreStored (P.state pages.old).work catalog.old → (view : DatabaseView) → KeepAllRules shape (P.state pages.old).work view
+        → IfSome (def_at catalog.new place) (λ now. AddsTable shape notes.old notes.new (P.state pages.old).work (P.state pages.new).work now view)) }
+    ensures stands_for { IfOk result (λ place. IsTrue (P.state pages.old).is_told → AreStored (P.state pages.old).work catalog.old → (view : DatabaseView) → KeepAllRules shape (P.state pages.old).work view
+        → (db : Database) → PagesStandFor shape (P.state pages.old).work db
+        → IfSome (def_at catalog.new place) (λ now. PagesStandFor shape (P.state pages.new).work (with_place db place (Some (plain_empty now))))) }
+    ensures full { IfErr result (λ fault. IfFull fault (λ cap. (cap ≡ shape.extents) × ((owners : List Kind) → HoldsMap P.Pages shape pages.old owners → AreRightNotes shape notes.old owners
+        → CreateRunsFull shape (P.state pages.old).work def))) }
+    ensures runs { RunsOverPages P.Pages (IsAddingPage P.Pages shape pages.old catalog.old) (IsMapSpace P.Pages shape pages.old)
+        (BreaksMaking P.Pages shape pages.old) pages.old pages.new (store_fault_in store_part_of result) }
 {
     let place = catalog.enter(def);
     let Some(mut def) = catalog.take(place) else {
         unreachable!()
     };
-    make_table(alloc, ext, pages, &mut def)?;
+    make_table(alloc, shape, notes, pages, &mut def)?;
     catalog.put(place, def);
     Ok(place)
 }
@@ -81,7 +81,8 @@ pub fn add_table<P: Pages>(
 /// Makes the trees and the table page of a definition that has its number, and gives it its roots.
 fn make_table<P: Pages>(
     alloc: Global,
-    ext: &mut Extents,
+    shape: Shape,
+    notes: &mut SpaceNotes,
     pages: &mut P,
     def: &mut TableDef,
 ) -> Result<(), SpaceFault>
@@ -91,20 +92,19 @@ fn make_table<P: Pages>(
     ensures rooted { OnOk result (def.new ≡ rooted def.old def.new.roots) }
     ensures roots { OnOk result (AreRootsFor def.old.dims def.new.roots) }
     ensures writes { OnOk result (IsTrue (P.state pages.old).is_told → table_page_at (P.state pages.new).work def.old.number ≡ table_page def.new) }
-    ensures adds { OnOk result (IsTrue (P.state pages.old).is_told → (view : DatabaseView) → KeepAllRules ext.old (P.state pages.old).work view
+    ensures adds { OnOk result (IsTrue (P.state pages.old).is_told → (view : DatabaseView) → KeepAllRules shape (P.state pages.old).work view
         → table_page_at (P.state pages.old).work def.old.number ≡ zero_page → IsNameFree view def.old.name
-        → AddsTable ext.old ext.new (P.state pages.old).work (P.state pages.new).work def.new view) }
-    ensures stands_for { OnOk result (IsTrue (P.state pages.old).is_told → (view : DatabaseView) → KeepAllRules ext.old (P.state pages.old).work view
+        → AddsTable shape notes.old notes.new (P.state pages.old).work (P.state pages.new).work def.new view) }
+    ensures stands_for { OnOk result (IsTrue (P.state pages.old).is_told → (view : DatabaseView) → KeepAllRules shape (P.state pages.old).work view
         → table_page_at (P.state pages.old).work def.old.number ≡ zero_page → IsNameFree view def.old.name
-        → (db : Database) → PagesStandFor ext.old (P.state pages.old).work db
-        → PagesStandFor ext.new (P.state pages.new).work (with_place db def.old.number (Some (plain_empty def.new)))) }
-    ensures full { IfErr result (λ fault. IfFull fault (λ cap. (cap ≡ ext.old.cap) × ((owners : List Kind) → HoldsMap P.Pages ext.old pages.old owners → AreRightNotes ext.old owners
-        → CreateRunsFull ext.old (P.state pages.old).work def.old))) }
-    ensures shape { IsSameShape ext.old ext.new }
-    ensures runs { RunsOverPages P.Pages (IsMakingPage P.Pages ext.old pages.old def.old.number) (IsMapSpace P.Pages ext.old pages.old)
-        (BreaksMaking P.Pages ext.old pages.old) pages.old pages.new (store_fault_in store_part_of result) }
+        → (db : Database) → PagesStandFor shape (P.state pages.old).work db
+        → PagesStandFor shape (P.state pages.new).work (with_place db def.old.number (Some (plain_empty def.new)))) }
+    ensures full { IfErr result (λ fault. IfFull fault (λ cap. (cap ≡ shape.extents) × ((owners : List Kind) → HoldsMap P.Pages shape pages.old owners → AreRightNotes shape notes.old owners
+        → CreateRunsFull shape (P.state pages.old).work def.old))) }
+    ensures runs { RunsOverPages P.Pages (IsMakingPage P.Pages shape pages.old def.old.number) (IsMapSpace P.Pages shape pages.old)
+        (BreaksMaking P.Pages shape pages.old) pages.old pages.new (store_fault_in store_part_of result) }
 {
-    let roots = make_trees(alloc, ext, pages, def)?;
+    let roots = make_trees(alloc, shape, notes, pages, def)?;
     def.next = 0;
     def.roots = roots;
     write_def(pages, def.number, def)?;
@@ -114,25 +114,25 @@ fn make_table<P: Pages>(
 /// Makes the block map and the block indexes of a table, in this order, and answers their roots.
 fn make_trees<P: Pages>(
     alloc: Global,
-    ext: &mut Extents,
+    shape: Shape,
+    notes: &mut SpaceNotes,
     pages: &mut P,
     def: &TableDef,
 ) -> Result<Roots, SpaceFault>
     requires composite { AreIndexParts def.now.columns (cell_parts def.now) }
     requires dimensions { AllByRecursion (λ dim. AreIndexParts def.now.columns (rising_parts dim)) def.now.dims }
     requires going { (P.state pages.old).ended ≡ false }
-    ensures makes { IfOk result (λ roots. (owners : List Kind) → HoldsMap P.Pages ext.old pages.old owners
-        → MakesTrees P.Pages ext.old ext.new pages.old pages.new owners (own_places (rooted def.now roots))) }
+    ensures makes { IfOk result (λ roots. (owners : List Kind) → HoldsMap P.Pages shape pages.old owners
+        → MakesTrees P.Pages shape notes.old notes.new pages.old pages.new owners (own_places (rooted def.now roots))) }
     ensures roots { IfOk result (AreRootsFor def.now.dims) }
-    ensures full { IfErr result (λ fault. IfFull fault (λ cap. (cap ≡ ext.old.cap) × ((owners : List Kind) → HoldsMap P.Pages ext.old pages.old owners → AreRightNotes ext.old owners
-        → CreateRunsFull ext.old (P.state pages.old).work def.now))) }
-    ensures shape { IsSameShape ext.old ext.new }
-    ensures runs { RunsOverPages P.Pages (IsMapSpace P.Pages ext.old pages.old) (IsMapSpace P.Pages ext.old pages.old)
-        (BreaksMaking P.Pages ext.old pages.old) pages.old pages.new (store_fault_in store_part_of result) }
+    ensures full { IfErr result (λ fault. IfFull fault (λ cap. (cap ≡ shape.extents) × ((owners : List Kind) → HoldsMap P.Pages shape pages.old owners → AreRightNotes shape notes.old owners
+        → CreateRunsFull shape (P.state pages.old).work def.now))) }
+    ensures runs { RunsOverPages P.Pages (IsMapSpace P.Pages shape pages.old) (IsMapSpace P.Pages shape pages.old)
+        (BreaksMaking P.Pages shape pages.old) pages.old pages.new (store_fault_in store_part_of result) }
 {
-    let map = make_tree(alloc, ext, pages, BLOCK_MAP_WIDTH)?;
-    let composite = make_tree(alloc, ext, pages, cell_width(def) + BLOCK_BYTES)?;
-    let dims = make_dimensions(alloc, ext, pages, def)?;
+    let map = make_tree(alloc, shape, notes, pages, BLOCK_MAP_WIDTH)?;
+    let composite = make_tree(alloc, shape, notes, pages, cell_width(def) + BLOCK_BYTES)?;
+    let dims = make_dimensions(alloc, shape, notes, pages, def)?;
     Ok(Roots {
         map,
         composite,
@@ -143,26 +143,26 @@ fn make_trees<P: Pages>(
 /// Makes the index of each dimension of a table, in order, and answers their roots.
 fn make_dimensions<P: Pages>(
     alloc: Global,
-    ext: &mut Extents,
+    shape: Shape,
+    notes: &mut SpaceNotes,
     pages: &mut P,
     def: &TableDef,
 ) -> Result<List<u32>, SpaceFault>
     requires dimensions { AllByRecursion (λ dim. AreIndexParts def.now.columns (rising_parts dim)) def.now.dims }
     requires going { (P.state pages.old).ended ≡ false }
-    ensures makes { IfOk result (λ roots. (owners : List Kind) → HoldsMap P.Pages ext.old pages.old owners
-        → MakesTrees P.Pages ext.old ext.new pages.old pages.new owners (places_with_roots def.now roots)) }
+    ensures makes { IfOk result (λ roots. (owners : List Kind) → HoldsMap P.Pages shape pages.old owners
+        → MakesTrees P.Pages shape notes.old notes.new pages.old pages.new owners (places_with_roots def.now roots)) }
     ensures one_each { IfOk result (λ roots. length roots ≡ length def.now.dims) }
     ensures small { IfOk result (AllByRecursion (λ root. root < 2 ^ 32)) }
-    ensures full { IfErr result (λ fault. IfFull fault (λ cap. (cap ≡ ext.old.cap) × ((owners : List Kind) → HoldsMap P.Pages ext.old pages.old owners → AreRightNotes ext.old owners
-        → (roots : List ℕ) × (length roots ≡ length def.now.dims) × RunsFull ext.old (P.state pages.old).work (map MakeTree (places_with_roots def.now roots))))) }
-    ensures shape { IsSameShape ext.old ext.new }
-    ensures runs { RunsOverPages P.Pages (IsMapSpace P.Pages ext.old pages.old) (IsMapSpace P.Pages ext.old pages.old)
-        (BreaksMaking P.Pages ext.old pages.old) pages.old pages.new (store_fault_in store_part_of result) }
+    ensures full { IfErr result (λ fault. IfFull fault (λ cap. (cap ≡ shape.extents) × ((owners : List Kind) → HoldsMap P.Pages shape pages.old owners → AreRightNotes shape notes.old owners
+        → (roots : List ℕ) × (length roots ≡ length def.now.dims) × RunsFull shape (P.state pages.old).work (map MakeTree (places_with_roots def.now roots))))) }
+    ensures runs { RunsOverPages P.Pages (IsMapSpace P.Pages shape pages.old) (IsMapSpace P.Pages shape pages.old)
+        (BreaksMaking P.Pages shape pages.old) pages.old pages.new (store_fault_in store_part_of result) }
 {
     let mut roots = List::new(alloc);
     for dim in def.dims.as_slice() {
         let width = places_width(&def.columns, dim) + BLOCK_BYTES;
-        let root = make_tree(alloc, ext, pages, width)?;
+        let root = make_tree(alloc, shape, notes, pages, width)?;
         push_root(&mut roots, root)?;
     }
     Ok(roots)
@@ -171,23 +171,23 @@ fn make_dimensions<P: Pages>(
 /// Makes a tree without entries, and answers its root.
 fn make_tree<P: Pages>(
     alloc: Global,
-    ext: &mut Extents,
+    shape: Shape,
+    notes: &mut SpaceNotes,
     pages: &mut P,
     width: u16,
 ) -> Result<u32, SpaceFault>
     requires wide { 5 ≤ width }
     requires narrow { width ≤ 134 }
     requires going { (P.state pages.old).ended ≡ false }
-    ensures makes { IfOk result (λ root. (owners : List Kind) → HoldsMap P.Pages ext.old pages.old owners
-        → MakesTrees P.Pages ext.old ext.new pages.old pages.new owners (record { root = root; width = width } ∷ [])) }
+    ensures makes { IfOk result (λ root. (owners : List Kind) → HoldsMap P.Pages shape pages.old owners
+        → MakesTrees P.Pages shape notes.old notes.new pages.old pages.new owners (record { root = root; width = width } ∷ [])) }
     ensures small { IfOk result (λ root. root < 2 ^ 32) }
-    ensures full { IfErr result (λ fault. IfFull fault (λ cap. (cap ≡ ext.old.cap) × ((owners : List Kind) → HoldsMap P.Pages ext.old pages.old owners → AreRightNotes ext.old owners
-        → (place : TreePlace) → AsksTooMuch ext.old (P.state pages.old).work (MakeTree place)))) }
-    ensures shape { IsSameShape ext.old ext.new }
-    ensures runs { RunsOverPages P.Pages (IsMapSpace P.Pages ext.old pages.old) (IsMapSpace P.Pages ext.old pages.old)
-        (BreaksMaking P.Pages ext.old pages.old) pages.old pages.new (store_fault_in store_part_of result) }
+    ensures full { IfErr result (λ fault. IfFull fault (λ cap. (cap ≡ shape.extents) × ((owners : List Kind) → HoldsMap P.Pages shape pages.old owners → AreRightNotes shape notes.old owners
+        → (place : TreePlace) → AsksTooMuch shape (P.state pages.old).work (MakeTree place)))) }
+    ensures runs { RunsOverPages P.Pages (IsMapSpace P.Pages shape pages.old) (IsMapSpace P.Pages shape pages.old)
+        (BreaksMaking P.Pages shape pages.old) pages.old pages.new (store_fault_in store_part_of result) }
 {
-    let tree = Tree::make(alloc, ext, pages, width)?;
+    let tree = Tree::make(alloc, shape, notes, pages, width)?;
     Ok(tree.root)
 }
 

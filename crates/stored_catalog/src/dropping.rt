@@ -6,7 +6,6 @@ ghost use Rattle.store_api.specs.Causes.{fault_of};
 ghost use Rattle.store_api.specs.RunsOverPages.{RunsOverPages};
 ghost use Rattle.store_api.specs.StoreState.{zero_page};
 ghost use Rattle.extent_map.specs.Map.{IsMapPage};
-ghost use Rattle.extent_map.specs.Owners.{IsSameShape};
 ghost use Rattle.extent_map.specs.declared.kind.Kind.{Kind};
 ghost use Rattle.entry_tree.specs.Forest.{Forest};
 ghost use Rattle.mdc_ast.specs.TableLimits.{IsTableDef};
@@ -26,11 +25,11 @@ ghost use Rattle.stored_catalog.specs.TreeRuns.{BreaksDropping, BreaksGiving, Br
 use crate::saving::clear_def;
 use block_map::{BlockMap, BlockState};
 use catalog::Catalog;
-use extent_map::Extents;
+use extent_map::SpaceNotes;
 use mdc_ast::TableDef;
 use std::alloc::Global;
 use store_api::rules::BLOCK_MAPS_RULE;
-use store_api::{Damage, Pages, StoreFault};
+use store_api::{Damage, Pages, Shape, StoreFault};
 use table_trees::{block_index_tree, block_map_tree};
 
 /// Drops the table in a place: its blocks and the pages of its trees are given back, and its table page is zeros. Rows aren't
@@ -39,7 +38,8 @@ use table_trees::{block_index_tree, block_map_tree};
 pub fn drop_table<P: Pages>(
     alloc: Global,
     catalog: &mut Catalog,
-    ext: &mut Extents,
+    shape: Shape,
+    notes: &mut SpaceNotes,
     pages: &mut P,
     table: u8,
 ) -> Result<(), StoreFault>
@@ -52,19 +52,18 @@ pub fn drop_table<P: Pages>(
     ensures kept { OnErr result (catalog.new ≡ catalog.old) }
     ensures limits { OnOk result (AreWithinLimits catalog.new) }
     ensures stored { OnOk result (IsTrue (P.state pages.old).is_told → AreStored (P.state pages.old).work catalog.old → AreStored (P.state pages.new).work catalog.new) }
-    ensures drops { OnOk result (IsTrue (P.state pages.old).is_told → AreStored (P.state pages.old).work catalog.old → (view : DatabaseView) → KeepAllRules ext.old (P.state pages.old).work view
-        → DropsTable ext.old ext.new (P.state pages.new).work table view) }
-    ensures stands_for { OnOk result (IsTrue (P.state pages.old).is_told → AreStored (P.state pages.old).work catalog.old → (view : DatabaseView) → KeepAllRules ext.old (P.state pages.old).work view
-        → (db : Database) → PagesStandFor ext.old (P.state pages.old).work db → PagesStandFor ext.new (P.state pages.new).work (with_place db table None)) }
+    ensures drops { OnOk result (IsTrue (P.state pages.old).is_told → AreStored (P.state pages.old).work catalog.old → (view : DatabaseView) → KeepAllRules shape (P.state pages.old).work view
+        → DropsTable shape notes.old notes.new (P.state pages.new).work table view) }
+    ensures stands_for { OnOk result (IsTrue (P.state pages.old).is_told → AreStored (P.state pages.old).work catalog.old → (view : DatabaseView) → KeepAllRules shape (P.state pages.old).work view
+        → (db : Database) → PagesStandFor shape (P.state pages.old).work db → PagesStandFor shape (P.state pages.new).work (with_place db table None)) }
     ensures count { length (P.state pages.new).work ≡ length (P.state pages.old).work }
-    ensures shape { IsSameShape ext.old ext.new }
-    ensures runs { RunsOverPages P.Pages (IsDroppingPage ext.old table) (IsDroppedPage P.Pages ext.old pages.old catalog.old table)
-        (BreaksDropping P.Pages ext.old pages.old catalog.old table) pages.old pages.new (fault_of result) }
+    ensures runs { RunsOverPages P.Pages (IsDroppingPage shape table) (IsDroppedPage P.Pages shape pages.old catalog.old table)
+        (BreaksDropping P.Pages shape pages.old catalog.old table) pages.old pages.new (fault_of result) }
 {
     let Some(def) = catalog.def(table) else {
         unreachable!()
     };
-    unmake_table(alloc, ext, pages, table, def)?;
+    unmake_table(alloc, shape, notes, pages, table, def)?;
     catalog.leave(table);
     Ok(())
 }
@@ -72,7 +71,8 @@ pub fn drop_table<P: Pages>(
 /// Gives the blocks and the trees of a table back, and clears its table page.
 fn unmake_table<P: Pages>(
     alloc: Global,
-    ext: &mut Extents,
+    shape: Shape,
+    notes: &mut SpaceNotes,
     pages: &mut P,
     table: u8,
     def: &TableDef,
@@ -82,62 +82,61 @@ fn unmake_table<P: Pages>(
     requires no_indexes { def.now.indexes ≡ [] }
     requires going { (P.state pages.old).ended ≡ false }
     ensures clears { OnOk result (IsTrue (P.state pages.old).is_told → DefinesTable (P.state pages.old).work table def.now → table_page_at (P.state pages.new).work table ≡ zero_page) }
-    ensures drops { OnOk result (IsTrue (P.state pages.old).is_told → DefinesTable (P.state pages.old).work table def.now → (view : DatabaseView) → KeepAllRules ext.old (P.state pages.old).work view
-        → DropsTable ext.old ext.new (P.state pages.new).work table view) }
-    ensures stands_for { OnOk result (IsTrue (P.state pages.old).is_told → DefinesTable (P.state pages.old).work table def.now → (view : DatabaseView) → KeepAllRules ext.old (P.state pages.old).work view
-        → (db : Database) → PagesStandFor ext.old (P.state pages.old).work db → PagesStandFor ext.new (P.state pages.new).work (with_place db table None)) }
+    ensures drops { OnOk result (IsTrue (P.state pages.old).is_told → DefinesTable (P.state pages.old).work table def.now → (view : DatabaseView) → KeepAllRules shape (P.state pages.old).work view
+        → DropsTable shape notes.old notes.new (P.state pages.new).work table view) }
+    ensures stands_for { OnOk result (IsTrue (P.state pages.old).is_told → DefinesTable (P.state pages.old).work table def.now → (view : DatabaseView) → KeepAllRules shape (P.state pages.old).work view
+        → (db : Database) → PagesStandFor shape (P.state pages.old).work db → PagesStandFor shape (P.state pages.new).work (with_place db table None)) }
     ensures count { length (P.state pages.new).work ≡ length (P.state pages.old).work }
-    ensures shape { IsSameShape ext.old ext.new }
-    ensures runs { RunsOverPages P.Pages (IsDroppingPage ext.old table) (IsTreesOrMapPage P.Pages ext.old pages.old (tree_places def.now))
-        (BreaksTable P.Pages ext.old pages.old def.now) pages.old pages.new (fault_of result) }
+    ensures runs { RunsOverPages P.Pages (IsDroppingPage shape table) (IsTreesOrMapPage P.Pages shape pages.old (tree_places def.now))
+        (BreaksTable P.Pages shape pages.old def.now) pages.old pages.new (fault_of result) }
 {
-    give_blocks(alloc, ext, pages, def)?;
-    free_trees(alloc, ext, pages, def)?;
+    give_blocks(alloc, shape, notes, pages, def)?;
+    free_trees(alloc, shape, notes, pages, def)?;
     clear_def(pages, table)
 }
 
 /// Gives all blocks of a table back.
 fn give_blocks<P: Pages>(
     alloc: Global,
-    ext: &mut Extents,
+    shape: Shape,
+    notes: &mut SpaceNotes,
     pages: &mut P,
     def: &TableDef,
 ) -> Result<(), StoreFault>
     requires going { (P.state pages.old).ended ≡ false }
-    ensures gives { OnOk result ((owners : List Kind) (map_tree : Forest) (rest : List Forest) → StandTrees P.Pages ext.old pages.old owners (tree_places def.now) (map_tree ∷ rest)
-        → GivesBlocks P.Pages ext.old ext.new pages.new owners (blocks_in_map map_tree)) }
+    ensures gives { OnOk result ((owners : List Kind) (map_tree : Forest) (rest : List Forest) → StandTrees P.Pages shape pages.old owners (tree_places def.now) (map_tree ∷ rest)
+        → GivesBlocks P.Pages shape notes.old notes.new pages.new owners (blocks_in_map map_tree)) }
     ensures count { length (P.state pages.new).work ≡ length (P.state pages.old).work }
-    ensures shape { IsSameShape ext.old ext.new }
-    ensures runs { RunsOverPages P.Pages (IsMapPage ext.old) (IsTreesOrMapPage P.Pages ext.old pages.old (tree_places def.now))
-        (BreaksTable P.Pages ext.old pages.old def.now) pages.old pages.new (fault_of result) }
+    ensures runs { RunsOverPages P.Pages (IsMapPage shape) (IsTreesOrMapPage P.Pages shape pages.old (tree_places def.now))
+        (BreaksTable P.Pages shape pages.old def.now) pages.old pages.new (fault_of result) }
 {
-    give_blocks_in(alloc, ext, pages, def, BlockState::Free)?;
-    give_blocks_in(alloc, ext, pages, def, BlockState::Used)?;
-    give_blocks_in(alloc, ext, pages, def, BlockState::Pending)
+    give_blocks_in(alloc, shape, notes, pages, def, BlockState::Free)?;
+    give_blocks_in(alloc, shape, notes, pages, def, BlockState::Used)?;
+    give_blocks_in(alloc, shape, notes, pages, def, BlockState::Pending)
 }
 
 /// Gives the blocks back that the block map of a table names in a state.
 fn give_blocks_in<P: Pages>(
     alloc: Global,
-    ext: &mut Extents,
+    shape: Shape,
+    notes: &mut SpaceNotes,
     pages: &mut P,
     def: &TableDef,
     state: BlockState,
 ) -> Result<(), StoreFault>
     requires going { (P.state pages.old).ended ≡ false }
-    ensures gives { OnOk result ((owners : List Kind) (map_tree : Forest) (rest : List Forest) → StandTrees P.Pages ext.old pages.old owners (tree_places def.now) (map_tree ∷ rest)
-        → GivesBlocks P.Pages ext.old ext.new pages.new owners (blocks_of_state (state_number state) map_tree)) }
+    ensures gives { OnOk result ((owners : List Kind) (map_tree : Forest) (rest : List Forest) → StandTrees P.Pages shape pages.old owners (tree_places def.now) (map_tree ∷ rest)
+        → GivesBlocks P.Pages shape notes.old notes.new pages.new owners (blocks_of_state (state_number state) map_tree)) }
     ensures count { length (P.state pages.new).work ≡ length (P.state pages.old).work }
-    ensures shape { IsSameShape ext.old ext.new }
-    ensures runs { RunsOverPages P.Pages (IsMapPage ext.old) (IsTreesOrMapPage P.Pages ext.old pages.old (tree_places def.now))
-        (BreaksGiving P.Pages ext.old pages.old def.now (state_number state)) pages.old pages.new (fault_of result) }
+    ensures runs { RunsOverPages P.Pages (IsMapPage shape) (IsTreesOrMapPage P.Pages shape pages.old (tree_places def.now))
+        (BreaksGiving P.Pages shape pages.old def.now (state_number state)) pages.old pages.new (fault_of result) }
 {
     let blocks = BlockMap::at(alloc, def.roots.map).list(pages, state)?;
     for block in blocks.as_slice() {
-        if *block >= ext.cap {
+        if *block >= shape.extents {
             return Err(no_extent(def));
         }
-        ext.give_back(pages, *block)?;
+        notes.give_back(shape, pages, *block)?;
     }
     Ok(())
 }
@@ -145,23 +144,23 @@ fn give_blocks_in<P: Pages>(
 /// Gives all pages of the trees of a table back, which has no record index.
 fn free_trees<P: Pages>(
     alloc: Global,
-    ext: &mut Extents,
+    shape: Shape,
+    notes: &mut SpaceNotes,
     pages: &mut P,
     def: &TableDef,
 ) -> Result<(), StoreFault>
     requires defined { IsTableDef def.now.number def.now }
     requires no_indexes { def.now.indexes ≡ [] }
     requires going { (P.state pages.old).ended ≡ false }
-    ensures frees { OnOk result ((owners : List Kind) (trees : List Forest) → StandTrees P.Pages ext.old pages.old owners (tree_places def.now) trees
-        → FreesTrees P.Pages ext.old ext.new pages.new owners trees) }
+    ensures frees { OnOk result ((owners : List Kind) (trees : List Forest) → StandTrees P.Pages shape pages.old owners (tree_places def.now) trees
+        → FreesTrees P.Pages shape notes.old notes.new pages.new owners trees) }
     ensures count { length (P.state pages.new).work ≡ length (P.state pages.old).work }
-    ensures shape { IsSameShape ext.old ext.new }
-    ensures runs { RunsOverPages P.Pages (IsMapPage ext.old) (IsTreesOrMapPage P.Pages ext.old pages.old (tree_places def.now))
-        (BreaksTrees P.Pages ext.old pages.old def.now) pages.old pages.new (fault_of result) }
+    ensures runs { RunsOverPages P.Pages (IsMapPage shape) (IsTreesOrMapPage P.Pages shape pages.old (tree_places def.now))
+        (BreaksTrees P.Pages shape pages.old def.now) pages.old pages.new (fault_of result) }
 {
-    block_map_tree(alloc, def).free_all(ext, pages)?;
+    block_map_tree(alloc, def).free_all(shape, notes, pages)?;
     for index in 0..def.dims.len() + 1 {
-        block_index_tree(alloc, def, index).free_all(ext, pages)?;
+        block_index_tree(alloc, def, index).free_all(shape, notes, pages)?;
     }
     Ok(())
 }

@@ -5,6 +5,7 @@ use crate::stores::{fresh_store, store_with};
 use crate::tables::{make_two, wide_page};
 use crate::wrong::Wrong;
 use entry_tree_tests::extents_of;
+use extent_map::SpaceNotes;
 use std::alloc::Global;
 use std::test::Fail;
 use store_api::{Damage, Page, Pages, StoreFault, patch_page, write_page};
@@ -62,7 +63,7 @@ fn patched<P: Pages>(alloc: Global, pages: &mut P, patch: Patch) -> Result<Optio
     requires going { (P.state pages.old).ended ≡ false }
 {
     let (page, at, bytes, _) = patch;
-    make_two(alloc, &mut extents_of(16)?, pages)?;
+    make_two(alloc, extents_of(16)?, &mut SpaceNotes::new(), pages)?;
     if page >= pages.count() || at > 4000 || bytes.len() > 96 {
         return Err(Fail::new("no such part of a page"));
     }

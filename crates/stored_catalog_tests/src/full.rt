@@ -9,12 +9,12 @@ use crate::stores::fresh_store;
 use crate::tables::{TWO_TABLES, check_loaded, create, create_two, loaded, taken, try_create};
 use catalog::Catalog;
 use entry_tree_tests::extents_of;
-use extent_map::{Extents, SpaceFault};
+use extent_map::{SpaceFault, SpaceNotes};
 use mdc_ast::TableDef;
 use mdc_values::Rid;
 use std::alloc::Global;
 use std::test::Fail;
-use store_api::Pages;
+use store_api::{Pages, Shape};
 
 // The place of the first row of a table.
 const FIRST_PLACE: Rid = Rid { block: 2, slot: 0 };
@@ -23,7 +23,8 @@ const FIRST_PLACE: Rid = Rid { block: 2, slot: 0 };
 fn make_and_take<P: Pages>(
     alloc: Global,
     catalog: &mut Catalog,
-    ext: &mut Extents,
+    shape: Shape,
+    notes: &mut SpaceNotes,
     pages: &mut P,
 ) -> Result<TableDef, Fail>
     requires catalog { AreWithinLimits catalog.old }
@@ -33,12 +34,17 @@ fn make_and_take<P: Pages>(
     ensures going { (P.state pages.new).ended ≡ false }
     ensures marked { (P.state pages.new).marked ≡ (P.state pages.old).marked }
 {
-    create(alloc, catalog, ext, pages, b'W', 0)?;
+    create(alloc, catalog, shape, notes, pages, b'W', 0)?;
     taken(catalog, 0)
 }
 
 // The definition of a new table in the database that the pages have.
-fn new_table<P: Pages>(alloc: Global, ext: &mut Extents, pages: &mut P) -> Result<TableDef, Fail>
+fn new_table<P: Pages>(
+    alloc: Global,
+    shape: Shape,
+    notes: &mut SpaceNotes,
+    pages: &mut P,
+) -> Result<TableDef, Fail>
     requires going { (P.state pages.old).ended ≡ false }
     ensures defined { IfOk result (λ def. IsTableDef def.number def) }
     ensures no_indexes { IfOk result (λ def. def.indexes ≡ []) }
@@ -46,7 +52,7 @@ fn new_table<P: Pages>(alloc: Global, ext: &mut Extents, pages: &mut P) -> Resul
     ensures marked { (P.state pages.new).marked ≡ (P.state pages.old).marked }
 {
     let mut catalog = loaded(alloc, pages)?;
-    make_and_take(alloc, &mut catalog, ext, pages)
+    make_and_take(alloc, &mut catalog, shape, notes, pages)
 }
 
 // Fails unless the answer is Full, with so many extents.
@@ -61,7 +67,8 @@ fn check_full<T: Copy>(answer: Result<T, SpaceFault>, extents: u32) -> Result<()
 fn insert_and_undo<P: Pages>(
     alloc: Global,
     def: &mut TableDef,
-    ext: &mut Extents,
+    shape: Shape,
+    notes: &mut SpaceNotes,
     pages: &mut P,
 ) -> Result<(), Fail>
     requires defined { IsTableDef def.old.number def.old }
@@ -73,9 +80,9 @@ fn insert_and_undo<P: Pages>(
     ensures going { (P.state pages.new).ended ≡ false }
 {
     pages.mark();
-    let answer = try_insert(alloc, def, ext, pages, 15)?;
+    let answer = try_insert(alloc, def, shape, notes, pages, 15)?;
     pages.undo();
-    ext.forget();
+    notes.forget();
     check_full(answer, 16)
 }
 
@@ -83,7 +90,8 @@ fn insert_and_undo<P: Pages>(
 fn retry<P: Pages>(
     alloc: Global,
     def: &mut TableDef,
-    ext: &mut Extents,
+    shape: Shape,
+    notes: &mut SpaceNotes,
     pages: &mut P,
 ) -> Result<(), Fail>
     requires defined { IsTableDef def.old.number def.old }
@@ -91,8 +99,8 @@ fn retry<P: Pages>(
     requires going { (P.state pages.old).ended ≡ false }
     ensures going { (P.state pages.new).ended ≡ false }
 {
-    delete(alloc, def, ext, pages, FIRST_PLACE, 0, 1)?;
-    insert(alloc, def, ext, pages, 15, FIRST_PLACE)?;
+    delete(alloc, def, shape, notes, pages, FIRST_PLACE, 0, 1)?;
+    insert(alloc, def, shape, notes, pages, 15, FIRST_PLACE)?;
     if def.next != 15 {
         return Err(Fail::new("another next row number"));
     }
@@ -103,7 +111,8 @@ fn retry<P: Pages>(
 fn fill_and_retry<P: Pages>(
     alloc: Global,
     def: &mut TableDef,
-    ext: &mut Extents,
+    shape: Shape,
+    notes: &mut SpaceNotes,
     pages: &mut P,
 ) -> Result<(), Fail>
     requires defined { IsTableDef def.old.number def.old }
@@ -111,26 +120,36 @@ fn fill_and_retry<P: Pages>(
     requires going { (P.state pages.old).ended ≡ false }
     requires unmarked { (P.state pages.old).marked ≡ None }
 {
-    fill(alloc, def, ext, pages, 14, 2)?;
+    fill(alloc, def, shape, notes, pages, 14, 2)?;
     check_count(pages, 50)?;
-    insert_and_undo(alloc, def, ext, pages)?;
-    retry(alloc, def, ext, pages)
+    insert_and_undo(alloc, def, shape, notes, pages)?;
+    retry(alloc, def, shape, notes, pages)
 }
 
 // The same in a new table.
-fn fill_with_rows<P: Pages>(alloc: Global, ext: &mut Extents, pages: &mut P) -> Result<(), Fail>
+fn fill_with_rows<P: Pages>(
+    alloc: Global,
+    shape: Shape,
+    notes: &mut SpaceNotes,
+    pages: &mut P,
+) -> Result<(), Fail>
     requires going { (P.state pages.old).ended ≡ false }
     requires unmarked { (P.state pages.old).marked ≡ None }
 {
-    let mut def = new_table(alloc, ext, pages)?;
-    fill_and_retry(alloc, &mut def, ext, pages)
+    let mut def = new_table(alloc, shape, notes, pages)?;
+    fill_and_retry(alloc, &mut def, shape, notes, pages)
 }
 
 // The three trees take the extents 0 and 1, so there are fourteen blocks. All 16 extents are 32 pages behind the first 18.
 #[test]
 fn a_row_of_a_new_cell_finds_no_extent(rt: HostRuntime) -> Result<(), Fail> {
     let alloc = rt.alloc();
-    fill_with_rows(alloc, &mut extents_of(16)?, &mut fresh_store(alloc)?)
+    fill_with_rows(
+        alloc,
+        extents_of(16)?,
+        &mut SpaceNotes::new(),
+        &mut fresh_store(alloc)?,
+    )
 }
 
 // The entries of an extent that is full of index pages, and of a free one.
@@ -142,7 +161,8 @@ const FREE: [u8; 8] = [0; 8];
 fn make_third_and_undo<P: Pages>(
     alloc: Global,
     catalog: &mut Catalog,
-    ext: &mut Extents,
+    shape: Shape,
+    notes: &mut SpaceNotes,
     pages: &mut P,
 ) -> Result<(), Fail>
     requires catalog { AreWithinLimits catalog.old }
@@ -151,9 +171,9 @@ fn make_third_and_undo<P: Pages>(
     ensures going { (P.state pages.new).ended ≡ false }
 {
     pages.mark();
-    let answer = try_create(alloc, catalog, ext, pages, b'C')?;
+    let answer = try_create(alloc, catalog, shape, notes, pages, b'C')?;
     pages.undo();
-    ext.forget();
+    notes.forget();
     check_full(answer, 4)
 }
 
@@ -168,44 +188,60 @@ fn check_undone<P: Pages>(alloc: Global, pages: &mut P) -> Result<(), Fail>
 }
 
 // Inserts a row into the second table of the pages. It takes the block 3.
-fn insert_into_second<P: Pages>(alloc: Global, ext: &mut Extents, pages: &mut P) -> Result<(), Fail>
+fn insert_into_second<P: Pages>(
+    alloc: Global,
+    shape: Shape,
+    notes: &mut SpaceNotes,
+    pages: &mut P,
+) -> Result<(), Fail>
     requires going { (P.state pages.old).ended ≡ false }
     ensures going { (P.state pages.new).ended ≡ false }
 {
     let mut catalog = loaded(alloc, pages)?;
-    fill_table(alloc, &mut catalog, ext, pages, 1, 1, 3)
+    fill_table(alloc, &mut catalog, shape, notes, pages, 1, 1, 3)
 }
 
 // Two tables come, and a third has no room for its third tree; it is undone. A row of the second takes the extent that is left.
 fn make_three<P: Pages>(
     alloc: Global,
     catalog: &mut Catalog,
-    ext: &mut Extents,
+    shape: Shape,
+    notes: &mut SpaceNotes,
     pages: &mut P,
 ) -> Result<(), Fail>
     requires catalog { AreWithinLimits catalog.old }
     requires going { (P.state pages.old).ended ≡ false }
     requires unmarked { (P.state pages.old).marked ≡ None }
 {
-    create_two(alloc, catalog, ext, pages)?;
-    make_third_and_undo(alloc, catalog, ext, pages)?;
+    create_two(alloc, catalog, shape, notes, pages)?;
+    make_third_and_undo(alloc, catalog, shape, notes, pages)?;
     check_undone(alloc, pages)?;
-    insert_into_second(alloc, ext, pages)?;
+    insert_into_second(alloc, shape, notes, pages)?;
     check_tables(catalog, &TWO_TABLES)?;
     check_count(pages, 26)
 }
 
 // The same in the database that the pages have.
-fn fill_with_tables<P: Pages>(alloc: Global, ext: &mut Extents, pages: &mut P) -> Result<(), Fail>
+fn fill_with_tables<P: Pages>(
+    alloc: Global,
+    shape: Shape,
+    notes: &mut SpaceNotes,
+    pages: &mut P,
+) -> Result<(), Fail>
     requires going { (P.state pages.old).ended ≡ false }
     requires unmarked { (P.state pages.old).marked ≡ None }
 {
     let mut catalog = loaded(alloc, pages)?;
-    make_three(alloc, &mut catalog, ext, pages)
+    make_three(alloc, &mut catalog, shape, notes, pages)
 }
 
 #[test]
 fn a_table_finds_no_page_for_a_tree(rt: HostRuntime) -> Result<(), Fail> {
     let alloc = rt.alloc();
-    fill_with_tables(alloc, &mut extents_of(4)?, &mut fresh_store(alloc)?)
+    fill_with_tables(
+        alloc,
+        extents_of(4)?,
+        &mut SpaceNotes::new(),
+        &mut fresh_store(alloc)?,
+    )
 }

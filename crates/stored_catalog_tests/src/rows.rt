@@ -9,13 +9,13 @@ use crate::wrong::Wrong;
 use catalog::Catalog;
 use cell_change::{delete_row, insert_row};
 use cell_change_tests::does_fit;
-use extent_map::{Extents, SpaceFault};
+use extent_map::{SpaceFault, SpaceNotes};
 use mdc_ast::{Row, TableDef};
 use mdc_table::Rooms;
 use mdc_values::{Chars, List, Memory, Rid, Value};
 use std::alloc::Global;
 use std::test::Fail;
-use store_api::Pages;
+use store_api::{Pages, Shape};
 
 // The row of a number with this D.
 fn row_of(alloc: Global, number: u64, d: u32) -> Result<Row, Memory>
@@ -52,7 +52,8 @@ fn fitting_row(alloc: Global, def: &TableDef, number: u64, d: u32) -> Result<Row
 pub fn try_insert<P: Pages>(
     alloc: Global,
     def: &mut TableDef,
-    ext: &mut Extents,
+    shape: Shape,
+    notes: &mut SpaceNotes,
     pages: &mut P,
     d: u32,
 ) -> Result<Result<Rid, SpaceFault>, Fail>
@@ -69,14 +70,15 @@ pub fn try_insert<P: Pages>(
     }
     let row = fitting_row(alloc, def, def.next, d)?;
     let mut rooms = Rooms::new(alloc);
-    Ok(insert_row(alloc, def, ext, &mut rooms, pages, &row))
+    Ok(insert_row(alloc, def, shape, notes, &mut rooms, pages, &row))
 }
 
 /// Inserts the next row, with this D, which has to come in this place.
 pub fn insert<P: Pages>(
     alloc: Global,
     def: &mut TableDef,
-    ext: &mut Extents,
+    shape: Shape,
+    notes: &mut SpaceNotes,
     pages: &mut P,
     d: u32,
     place: Rid,
@@ -89,7 +91,7 @@ pub fn insert<P: Pages>(
     ensures going { (P.state pages.new).ended ≡ false }
     ensures marked { (P.state pages.new).marked ≡ (P.state pages.old).marked }
 {
-    let rid = try_insert(alloc, def, ext, pages, d)??;
+    let rid = try_insert(alloc, def, shape, notes, pages, d)??;
     if rid != place {
         return Err(Fail::from(Wrong::Row(rid)));
     }
@@ -100,7 +102,8 @@ pub fn insert<P: Pages>(
 pub fn delete<P: Pages>(
     alloc: Global,
     def: &TableDef,
-    ext: &mut Extents,
+    shape: Shape,
+    notes: &mut SpaceNotes,
     pages: &mut P,
     rid: Rid,
     number: u64,
@@ -113,7 +116,7 @@ pub fn delete<P: Pages>(
 {
     let row = fitting_row(alloc, def, number, d)?;
     let mut rooms = Rooms::new(alloc);
-    delete_row(alloc, def, ext, &mut rooms, pages, rid, &row)?;
+    delete_row(alloc, def, shape, notes, &mut rooms, pages, rid, &row)?;
     Ok(())
 }
 
@@ -121,7 +124,8 @@ pub fn delete<P: Pages>(
 pub fn fill<P: Pages>(
     alloc: Global,
     def: &mut TableDef,
-    ext: &mut Extents,
+    shape: Shape,
+    notes: &mut SpaceNotes,
     pages: &mut P,
     rows: u32,
     first: u32,
@@ -139,7 +143,7 @@ pub fn fill<P: Pages>(
             block: first.wrapping_add(i),
             slot: 0,
         };
-        insert(alloc, def, ext, pages, i.wrapping_add(1), place)?;
+        insert(alloc, def, shape, notes, pages, i.wrapping_add(1), place)?;
     }
     Ok(())
 }
@@ -148,7 +152,8 @@ pub fn fill<P: Pages>(
 pub fn fill_table<P: Pages>(
     alloc: Global,
     catalog: &mut Catalog,
-    ext: &mut Extents,
+    shape: Shape,
+    notes: &mut SpaceNotes,
     pages: &mut P,
     table: u8,
     rows: u32,
@@ -159,6 +164,6 @@ pub fn fill_table<P: Pages>(
     ensures going { (P.state pages.new).ended ≡ false }
 {
     let mut def = taken(catalog, table)?;
-    fill(alloc, &mut def, ext, pages, rows, first)?;
+    fill(alloc, &mut def, shape, notes, pages, rows, first)?;
     save(catalog, pages, def)
 }

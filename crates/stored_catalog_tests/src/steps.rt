@@ -9,13 +9,13 @@ use crate::stores::{fresh_store, root_page};
 use crate::tables::{check_loaded, create, drop_at, loaded, taken, wide_page};
 use catalog::Catalog;
 use entry_tree_tests::extents_of;
-use extent_map::Extents;
+use extent_map::SpaceNotes;
 use mdc_ast::TableDef;
 use mdc_table::row_at;
 use mdc_values::Rid;
 use std::alloc::Global;
 use std::test::Fail;
-use store_api::{Pages, blank_page};
+use store_api::{Pages, Shape, blank_page};
 
 /// A change, or a look.
 #[derive(Clone, Copy)]
@@ -60,7 +60,8 @@ fn load_again<P: Pages>(alloc: Global, catalog: &mut Catalog, pages: &mut P) -> 
 fn fill_and_load<P: Pages>(
     alloc: Global,
     catalog: &mut Catalog,
-    ext: &mut Extents,
+    shape: Shape,
+    notes: &mut SpaceNotes,
     pages: &mut P,
     table: u8,
     rows: u32,
@@ -71,7 +72,7 @@ fn fill_and_load<P: Pages>(
     ensures catalog { OnOk result (AreWithinLimits catalog.new) }
     ensures going { (P.state pages.new).ended ≡ false }
 {
-    fill_table(alloc, catalog, ext, pages, table, rows, first)?;
+    fill_table(alloc, catalog, shape, notes, pages, table, rows, first)?;
     load_again(alloc, catalog, pages)
 }
 
@@ -79,7 +80,7 @@ fn fill_and_load<P: Pages>(
 fn check_row<P: Pages>(
     alloc: Global,
     def: &TableDef,
-    ext: &Extents,
+    shape: Shape,
     pages: &mut P,
     rid: Rid,
 ) -> Result<(), Fail>
@@ -87,7 +88,7 @@ fn check_row<P: Pages>(
     requires going { (P.state pages.old).ended ≡ false }
     ensures going { (P.state pages.new).ended ≡ false }
 {
-    let is_there = match row_at(alloc, def, ext, pages, rid)? {
+    let is_there = match row_at(alloc, def, shape, pages, rid)? {
         Some(row) => row.number == 0,
         None => false,
     };
@@ -101,7 +102,7 @@ fn check_row<P: Pages>(
 fn check_row_of_second<P: Pages>(
     alloc: Global,
     catalog: &mut Catalog,
-    ext: &Extents,
+    shape: Shape,
     pages: &mut P,
     rid: Rid,
 ) -> Result<(), Fail>
@@ -110,13 +111,13 @@ fn check_row_of_second<P: Pages>(
     ensures going { (P.state pages.new).ended ≡ false }
 {
     let def = taken(catalog, 1)?;
-    check_row(alloc, &def, ext, pages, rid)
+    check_row(alloc, &def, shape, pages, rid)
 }
 
 // The same of the catalog that the pages have.
 fn check_loaded_row<P: Pages>(
     alloc: Global,
-    ext: &Extents,
+    shape: Shape,
     pages: &mut P,
     rid: Rid,
 ) -> Result<(), Fail>
@@ -124,14 +125,15 @@ fn check_loaded_row<P: Pages>(
     ensures going { (P.state pages.new).ended ≡ false }
 {
     let mut catalog = loaded(alloc, pages)?;
-    check_row_of_second(alloc, &mut catalog, ext, pages, rid)
+    check_row_of_second(alloc, &mut catalog, shape, pages, rid)
 }
 
 // Makes the change, or fails where something else is seen.
 fn play<P: Pages>(
     alloc: Global,
     catalog: &mut Catalog,
-    ext: &mut Extents,
+    shape: Shape,
+    notes: &mut SpaceNotes,
     pages: &mut P,
     step: Step,
 ) -> Result<(), Fail>
@@ -141,15 +143,15 @@ fn play<P: Pages>(
     ensures going { (P.state pages.new).ended ≡ false }
 {
     match step {
-        Step::Create(name, place) => create(alloc, catalog, ext, pages, name, place),
+        Step::Create(name, place) => create(alloc, catalog, shape, notes, pages, name, place),
         Step::Fill { table, rows, first } => {
-            fill_and_load(alloc, catalog, ext, pages, table, rows, first)
+            fill_and_load(alloc, catalog, shape, notes, pages, table, rows, first)
         }
-        Step::DropTable(table) => drop_at(alloc, catalog, ext, pages, table),
+        Step::DropTable(table) => drop_at(alloc, catalog, shape, notes, pages, table),
         Step::Load => load_again(alloc, catalog, pages),
         Step::Kept(places) => check_tables(catalog, &places),
         Step::Loaded(places) => check_loaded(alloc, pages, &places),
-        Step::RowOfSecond(rid) => check_loaded_row(alloc, ext, pages, rid),
+        Step::RowOfSecond(rid) => check_loaded_row(alloc, shape, pages, rid),
         Step::Count(count) => check_count(pages, count),
         Step::Root(many) => check_page(pages, 0, &root_page(many)),
         Step::Definition(page, name, roots) => check_page(pages, page, &wide_page(name, roots)),
@@ -162,7 +164,8 @@ fn play<P: Pages>(
 fn play_all<P: Pages>(
     alloc: Global,
     catalog: &mut Catalog,
-    ext: &mut Extents,
+    shape: Shape,
+    notes: &mut SpaceNotes,
     pages: &mut P,
     steps: &[Step],
 ) -> Result<(), Fail>
@@ -170,7 +173,7 @@ fn play_all<P: Pages>(
     requires going { (P.state pages.old).ended ≡ false }
 {
     for step in steps {
-        play(alloc, catalog, ext, pages, *step)?;
+        play(alloc, catalog, shape, notes, pages, *step)?;
     }
     Ok(())
 }
@@ -178,18 +181,24 @@ fn play_all<P: Pages>(
 // The same on the catalog that the pages have.
 fn load_and_play<P: Pages>(
     alloc: Global,
-    ext: &mut Extents,
+    shape: Shape,
+    notes: &mut SpaceNotes,
     pages: &mut P,
     steps: &[Step],
 ) -> Result<(), Fail>
     requires going { (P.state pages.old).ended ≡ false }
 {
     let mut catalog = loaded(alloc, pages)?;
-    play_all(alloc, &mut catalog, ext, pages, steps)
+    play_all(alloc, &mut catalog, shape, notes, pages, steps)
 }
 
 /// Plays these steps in an empty database of 16 extents.
 pub fn run_steps(alloc: Global, steps: &[Step]) -> Result<(), Fail> {
-    let mut ext = extents_of(16)?;
-    load_and_play(alloc, &mut ext, &mut fresh_store(alloc)?, steps)
+    load_and_play(
+        alloc,
+        extents_of(16)?,
+        &mut SpaceNotes::new(),
+        &mut fresh_store(alloc)?,
+        steps,
+    )
 }

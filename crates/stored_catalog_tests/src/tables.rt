@@ -8,11 +8,11 @@ ghost use Rattle.stored_catalog.specs.StoredDefinitions.{AreWithinLimits};
 use crate::looks::{Look, check_count, check_tables};
 use crate::wrong::Wrong;
 use catalog::Catalog;
-use extent_map::{Extents, SpaceFault};
+use extent_map::{SpaceFault, SpaceNotes};
 use mdc_ast::{Name, TableDef};
 use std::alloc::Global;
 use std::test::Fail;
-use store_api::{Page, Pages, blank_page, put};
+use store_api::{Page, Pages, Shape, blank_page, put};
 use stored_catalog::{add_table, drop_table, load_catalog, save_table};
 use table_page::def_of;
 
@@ -91,7 +91,8 @@ fn is_free(catalog: &Catalog, name: &Name) -> bool
 pub fn try_create<P: Pages>(
     alloc: Global,
     catalog: &mut Catalog,
-    ext: &mut Extents,
+    shape: Shape,
+    notes: &mut SpaceNotes,
     pages: &mut P,
     name: u8,
 ) -> Result<Result<u8, SpaceFault>, Fail>
@@ -105,7 +106,7 @@ pub fn try_create<P: Pages>(
     if !has_room(catalog) || !is_free(catalog, &def.name) {
         return Err(Fail::new("no place for a table of this name"));
     }
-    match add_table(alloc, catalog, ext, pages, def) {
+    match add_table(alloc, catalog, shape, notes, pages, def) {
         Ok(place) => Ok(Ok(place)),
         Err(fault) => Ok(Err(fault)),
     }
@@ -115,7 +116,8 @@ pub fn try_create<P: Pages>(
 pub fn create<P: Pages>(
     alloc: Global,
     catalog: &mut Catalog,
-    ext: &mut Extents,
+    shape: Shape,
+    notes: &mut SpaceNotes,
     pages: &mut P,
     name: u8,
     place: u8,
@@ -126,7 +128,7 @@ pub fn create<P: Pages>(
     ensures going { (P.state pages.new).ended ≡ false }
     ensures marked { (P.state pages.new).marked ≡ (P.state pages.old).marked }
 {
-    let made = try_create(alloc, catalog, ext, pages, name)??;
+    let made = try_create(alloc, catalog, shape, notes, pages, name)??;
     if made != place {
         return Err(Fail::from(Wrong::Table(made)));
     }
@@ -154,7 +156,8 @@ pub const TWO_TABLES: [Option<Look>; 2] = [
 pub fn create_two<P: Pages>(
     alloc: Global,
     catalog: &mut Catalog,
-    ext: &mut Extents,
+    shape: Shape,
+    notes: &mut SpaceNotes,
     pages: &mut P,
 ) -> Result<(), Fail>
     requires catalog { AreWithinLimits catalog.old }
@@ -163,19 +166,24 @@ pub fn create_two<P: Pages>(
     ensures going { (P.state pages.new).ended ≡ false }
     ensures marked { (P.state pages.new).marked ≡ (P.state pages.old).marked }
 {
-    create(alloc, catalog, ext, pages, b'A', 0)?;
+    create(alloc, catalog, shape, notes, pages, b'A', 0)?;
     check_count(pages, 22)?;
-    create(alloc, catalog, ext, pages, b'B', 1)?;
+    create(alloc, catalog, shape, notes, pages, b'B', 1)?;
     check_count(pages, 24)
 }
 
 /// Makes them in the database that the pages have.
-pub fn make_two<P: Pages>(alloc: Global, ext: &mut Extents, pages: &mut P) -> Result<(), Fail>
+pub fn make_two<P: Pages>(
+    alloc: Global,
+    shape: Shape,
+    notes: &mut SpaceNotes,
+    pages: &mut P,
+) -> Result<(), Fail>
     requires going { (P.state pages.old).ended ≡ false }
     ensures going { (P.state pages.new).ended ≡ false }
 {
     let mut catalog = loaded(alloc, pages)?;
-    create_two(alloc, &mut catalog, ext, pages)
+    create_two(alloc, &mut catalog, shape, notes, pages)
 }
 
 // Whether there is a table in a place, which has no record index.
@@ -197,7 +205,8 @@ fn may_drop(catalog: &Catalog, table: u8) -> bool
 pub fn drop_at<P: Pages>(
     alloc: Global,
     catalog: &mut Catalog,
-    ext: &mut Extents,
+    shape: Shape,
+    notes: &mut SpaceNotes,
     pages: &mut P,
     table: u8,
 ) -> Result<(), Fail>
@@ -209,7 +218,7 @@ pub fn drop_at<P: Pages>(
     if !may_drop(catalog, table) {
         return Err(Fail::new("no table to drop"));
     }
-    drop_table(alloc, catalog, ext, pages, table)?;
+    drop_table(alloc, catalog, shape, notes, pages, table)?;
     Ok(())
 }
 

@@ -1,7 +1,7 @@
 // A table of a file is filled.
 use crate::fill_rows::fill_store;
 use crate::plan::Amount;
-use crate::setup::{extents_of, opened};
+use crate::setup::{opened, shape_of};
 use crate::stop::Stop;
 use crate::text::{append, append_number};
 use checked_table::Account;
@@ -17,8 +17,8 @@ pub fn fill<H: Host + Drop>(
     amount: Amount,
 ) -> Result<(), Stop> {
     let mut store = opened(alloc, host, path)?;
-    let ext = extents_of(&store)?;
-    let account = fill_store(alloc, ext, &mut store, amount)?;
+    let shape = shape_of(&store)?;
+    let account = fill_store(alloc, shape, &mut store, amount)?;
     let mut host = store.close();
     let mut text = Vec::new(alloc);
     append_account(account, &mut text)?;

@@ -5,23 +5,22 @@ use crate::filled::Filled;
 use crate::plan::Amount;
 use crate::stop::Stop;
 use checked_table::Account;
-use extent_map::Extents;
 use mdc_values::Rid;
 use std::alloc::Global;
-use store_api::Store;
+use store_api::{Shape, Store};
 
 /// Makes a table, puts so many rows, changes every fifth and deletes every seventh. Answers how many of its blocks are in each
 /// state.
 pub fn fill_store<S: Store>(
     alloc: Global,
-    ext: Extents,
+    shape: Shape,
     store: &mut S,
     amount: Amount,
 ) -> Result<Account, Stop>
     requires going { (S.state store.old).ended ≡ false }
     requires unmarked { (S.state store.old).marked ≡ None }
 {
-    let mut table = Filled::make(alloc, amount.seed, ext, store)?;
+    let mut table = Filled::make(alloc, amount.seed, shape, store)?;
     let mut rids = insert_rows(alloc, &mut table, store, amount.rows)?;
     change_rows(&mut table, store, &mut rids)?;
     delete_rows(&mut table, store, &rids)?;

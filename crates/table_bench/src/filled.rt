@@ -10,11 +10,11 @@ use crate::table_w::{COMPOSITE_WIDTH, FIRST_WIDTH, MAP_WIDTH, SECOND_WIDTH, tabl
 use cell_change::{change_row, delete_row, insert_row};
 use checked_table::{Account, Rooms, account_of, row_at};
 use entry_tree::Tree;
-use extent_map::Extents;
+use extent_map::SpaceNotes;
 use mdc_ast::{Roots, Row, TableDef};
 use mdc_values::{List, Rid};
 use std::alloc::Global;
-use store_api::{Pages, Store, blank_page};
+use store_api::{Pages, Shape, Store, blank_page};
 use table_page::def_page;
 
 // The page of the table in place 0.
@@ -26,14 +26,15 @@ const COMMIT: u32 = 1000;
 // How many rows a table may have had.
 const MOST_NUMBERS: u64 = 1 << 32;
 
-/// A table W that is being filled from a seed, with the notes on extents and rooms, the number of the next row as its page has
+/// A table W that is being filled from a seed, with the notes of free space and rooms, the number of the next row as its page has
 /// it, and how many changes aren't committed.
 #[derive(Debug, Drop)]
 pub struct Filled {
     alloc: Global,
     seed: u32,
     def: TableDef,
-    ext: Extents,
+    shape: Shape,
+    notes: SpaceNotes,
     rooms: Rooms,
     next_on_page: u64,
     changes: u32,
@@ -45,7 +46,7 @@ impl Filled {
     pub fn make<S: Pages>(
         alloc: Global,
         seed: u32,
-        mut ext: Extents,
+        shape: Shape,
         store: &mut S,
     ) -> Result<Filled, Stop>
         requires going { (S.state store.old).ended ≡ false }
@@ -55,14 +56,16 @@ impl Filled {
         if !is_zero_page(store, TABLE_PAGE)? {
             return Err(Stop::Taken);
         }
-        let roots = make_roots(alloc, &mut ext, store)?;
+        let mut notes = SpaceNotes::new();
+        let roots = make_roots(alloc, shape, &mut notes, store)?;
         let def = table_w(alloc, roots)?;
         write_definition(&def, store)?;
         Ok(Filled {
             alloc,
             seed,
             def,
-            ext,
+            shape,
+            notes,
             rooms: Rooms::new(alloc),
             next_on_page: 0,
             changes: 0,
@@ -84,7 +87,8 @@ impl Filled {
         let rid = insert_row(
             self.alloc,
             &mut self.def,
-            &mut self.ext,
+            self.shape,
+            &mut self.notes,
             &mut self.rooms,
             store,
             &row,
@@ -104,7 +108,8 @@ impl Filled {
         let to = change_row(
             self.alloc,
             &self.def,
-            &mut self.ext,
+            self.shape,
+            &mut self.notes,
             &mut self.rooms,
             store,
             None,
@@ -126,7 +131,8 @@ impl Filled {
         delete_row(
             self.alloc,
             &self.def,
-            &mut self.ext,
+            self.shape,
+            &mut self.notes,
             &mut self.rooms,
             store,
             rid,
@@ -143,7 +149,7 @@ impl Filled {
         ensures going { (S.state store.new).ended ≡ false }
         ensures unmarked { (S.state store.new).marked ≡ None }
     {
-        match row_at(self.alloc, &self.def, &self.ext, store, rid)? {
+        match row_at(self.alloc, &self.def, self.shape, store, rid)? {
             Some(row) => Ok(row),
             None => Err(Stop::NoRow),
         }
@@ -183,21 +189,26 @@ impl Filled {
         requires going { (S.state store.old).ended ≡ false }
         requires unmarked { (S.state store.old).marked ≡ None }
     {
-        Ok(account_of(self.alloc, &self.def, &self.ext, store)?)
+        Ok(account_of(self.alloc, &self.def, self.shape, store)?)
     }
 }
 
 // Makes the trees of the table, without entries.
-fn make_roots<S: Pages>(alloc: Global, ext: &mut Extents, store: &mut S) -> Result<Roots, Stop>
+fn make_roots<S: Pages>(
+    alloc: Global,
+    shape: Shape,
+    notes: &mut SpaceNotes,
+    store: &mut S,
+) -> Result<Roots, Stop>
     requires going { (S.state store.old).ended ≡ false }
     ensures roots { IfOk result AreRootsOfW }
     ensures going { (S.state store.new).ended ≡ false }
     ensures marked { (S.state store.new).marked ≡ (S.state store.old).marked }
 {
-    let map = Tree::make(alloc, ext, store, MAP_WIDTH)?.root;
-    let composite = Tree::make(alloc, ext, store, COMPOSITE_WIDTH)?.root;
-    let first = Tree::make(alloc, ext, store, FIRST_WIDTH)?.root;
-    let second = Tree::make(alloc, ext, store, SECOND_WIDTH)?.root;
+    let map = Tree::make(alloc, shape, notes, store, MAP_WIDTH)?.root;
+    let composite = Tree::make(alloc, shape, notes, store, COMPOSITE_WIDTH)?.root;
+    let first = Tree::make(alloc, shape, notes, store, FIRST_WIDTH)?.root;
+    let second = Tree::make(alloc, shape, notes, store, SECOND_WIDTH)?.root;
     let mut dims = List::new(alloc);
     dims.push(first)?;
     dims.push(second)?;

@@ -2,11 +2,10 @@
 ghost use Rattle.std.specs.Prelude.{◌≡◌, false, None, IfOk};
 
 use crate::stop::Stop;
-use extent_map::Extents;
 use mdc_outside::Host;
 use page_store::FileStore;
 use std::alloc::Global;
-use store_api::Pages;
+use store_api::{Pages, Shape};
 
 // How many clean pages a store keeps.
 const CACHE: usize = 1024;
@@ -23,11 +22,11 @@ pub fn opened<H: Host + Drop>(alloc: Global, mut host: H, path: &str) -> Result<
     }
 }
 
-/// The extents of such a database.
-pub fn extents_of<H: Host>(store: &FileStore<H>) -> Result<Extents, Stop> {
+/// The shape of such a database.
+pub fn shape_of<H: Host>(store: &FileStore<H>) -> Result<Shape, Stop> {
     let (extents, extent_pages) = store.shape();
-    match Extents::new(extents, extent_pages) {
-        Some(ext) => Ok(ext),
+    match Shape::new(extents, extent_pages) {
+        Some(shape) => Ok(shape),
         None => Err(Stop::Shape),
     }
 }

@@ -1,5 +1,5 @@
 // The tables of a file.
-use crate::setup::{extents_of, opened};
+use crate::setup::{opened, shape_of};
 use crate::stop::Stop;
 use crate::table_text::append_table;
 use mdc_outside::Host;
@@ -9,8 +9,8 @@ use std::alloc::Global;
 /// Shows the tables of a file, in order of their places.
 pub fn show<H: Host + Drop>(alloc: Global, host: H, path: &str) -> Result<(), Stop> {
     let mut store = opened(alloc, host, path)?;
-    let ext = extents_of(&store)?;
-    let tables = read_database(alloc, &ext, &mut store)?;
+    let shape = shape_of(&store)?;
+    let tables = read_database(alloc, shape, &mut store)?;
     let mut host = store.close();
     for (place, table) in tables.as_slice().iter().enumerate() {
         if let Some(table) = table {

@@ -2,7 +2,7 @@
 use Rattle.std.proofs.Common.{ℕ, List, inl, inr}
 use Rattle.mdc_ast.specs.declared.definition.TableDef.{TableDef}
 use Rattle.store_api.specs.declared.pages.Pages.{Ghosts}
-use Rattle.extent_map.specs.declared.extents.Extents.{Extents}
+use Rattle.store_api.specs.declared.shape.Shape.{Shape}
 use Rattle.extent_map.specs.declared.kind.Kind.{Kind}
 use Rattle.mdc_sound.specs.StandingTable.{IsBlockOrMapPage, StandsTable, TableForests}
 use Rattle.table_blocks.specs.AroundBlock.{StandsAround}
@@ -11,9 +11,9 @@ use Rattle.table_blocks.specs.BlockNow.{IsOwnBlock}
 
 module _ {S : Type 0} {g : Ghosts S} where
   -- what is said of a table that stands but for the block is so of one that stands
-  pub place_of_block : (ext : Extents) (s : S) (def : TableDef) (block p : ℕ)
-      → ((owners : List Kind) (forests : TableForests) → StandsTable g ext s def owners forests → StandsAround g ext s def owners forests block × IsOwnBlock ext owners def block)
-      → IsPlaceAround g ext s def block p → IsBlockOrMapPage g ext s def block p
-  place_of_block ext s def block p opens is owners forests st =
+  pub place_of_block : (shape : Shape) (s : S) (def : TableDef) (block p : ℕ)
+      → ((owners : List Kind) (forests : TableForests) → StandsTable g shape s def owners forests → StandsAround g shape s def owners forests block × IsOwnBlock shape owners def block)
+      → IsPlaceAround g shape s def block p → IsBlockOrMapPage g shape s def block p
+  place_of_block shape s def block p opens is owners forests st =
       let o = opens owners forests st in
       elim (is owners forests o.0 o.1) [ inl here ↦ inl here | inr rest ↦ elim rest [ inl of_block ↦ inr (inl (record { page = of_block; own = o.1.owned })) | inr on_map ↦ inr (inr on_map) ] ]

@@ -5,8 +5,8 @@ use Rattle.std.specs.Prelude.{List, Some}
 use Rattle.mdc_ast.specs.declared.definition.TableDef.{TableDef}
 use Rattle.store_api.specs.Frame.{Touches}
 use Rattle.store_api.specs.declared.pages.Pages.{Ghosts}
+use Rattle.store_api.specs.declared.shape.Shape.{Shape}
 use Rattle.extent_map.specs.Owners.{extent_of, owner_of, place_in_extent}
-use Rattle.extent_map.specs.declared.extents.Extents.{Extents}
 use Rattle.extent_map.specs.declared.kind.Kind.{Kind}
 use Rattle.extent_map.proofs.UsedPagesLemmas.{no_space_page}
 use Rattle.entry_tree.specs.HeldTrees.{IsTreePage}
@@ -36,22 +36,22 @@ line_used line block rows here used counted =
 
 module _ {S : Type 0} {g : Ghosts S} where
   -- a call on the rows of the block
-  pub rows_same : (ext : Extents) (old new : S) (def : TableDef) (block : ℕ) (owners : List Kind) (forests : TableForests) → StandsAround g ext old def owners forests block → IsOwnBlock ext owners def block
-      → Touches g (IsPageOfBlock ext block) old new → (g.state new).is_told ≡ (g.state old).is_told → length (g.state new).work ≡ length (g.state old).work
-      → IsSameSpace ext (g.state old).work (g.state new).work
-  rows_same ext old new def block owners forests st own touched told count =
-      space_stays ext old new owners (IsPageOfBlock ext block) st.trees.map st.told told count touched
+  pub rows_same : (shape : Shape) (old new : S) (def : TableDef) (block : ℕ) (owners : List Kind) (forests : TableForests) → StandsAround g shape old def owners forests block → IsOwnBlock shape owners def block
+      → Touches g (IsPageOfBlock shape block) old new → (g.state new).is_told ≡ (g.state old).is_told → length (g.state new).work ≡ length (g.state old).work
+      → IsSameSpace shape (g.state old).work (g.state new).work
+  rows_same shape old new def block owners forests st own touched told count =
+      space_stays shape old new owners (IsPageOfBlock shape block) st.trees.map st.told told count touched
       (λ p mine used.
-      let none = used_no_block (place_in_extent ext p) (owner_of owners (extent_of ext p)) used.used in
-      let some : table_of_block (owner_of owners (extent_of ext p)) ≡ Some def.number = ap table_of_block (ap (owner_of owners) mine.1 ∙ own.owned) in
+      let none = used_no_block (place_in_extent shape p) (owner_of owners (extent_of shape p)) used.used in
+      let some : table_of_block (owner_of owners (extent_of shape p)) ≡ Some def.number = ap table_of_block (ap (owner_of owners) mine.1 ∙ own.owned) in
       absurd (cc))
-      (λ p mine on_map. no_space_page ext p mine.0 on_map)
+      (λ p mine on_map. no_space_page shape p mine.0 on_map)
 
   -- a call that writes its line
-  pub line_makes : (tree : Tree) (def : TableDef) → tree.root ≡ def.roots.map → tree.width ≡ 7 → (ext : Extents) (old new : S) (block : ℕ) (was is : BlockRow) (owners : List Kind) (forests : TableForests)
-      → StandsAround g ext old def owners forests block → ChangesRowTo g new tree was is forests.map → Touches g (IsTreePage g old tree) old new → (g.state new).is_told ≡ (g.state old).is_told
+  pub line_makes : (tree : Tree) (def : TableDef) → tree.root ≡ def.roots.map → tree.width ≡ 7 → (shape : Shape) (old new : S) (block : ℕ) (was is : BlockRow) (owners : List Kind) (forests : TableForests)
+      → StandsAround g shape old def owners forests block → ChangesRowTo g new tree was is forests.map → Touches g (IsTreePage g old tree) old new → (g.state new).is_told ≡ (g.state old).is_told
       → length (g.state new).work ≡ length (g.state old).work
-      → MakesChange ext (g.state old).work (AmendEntry (map_place def) (row_entry was) (row_entry is)) (g.state new).work
-  line_makes tree def root width ext old new block was is owners forests st changes touched told count =
-      subst (λ place. MakesChange ext (g.state old).work (AmendEntry place (row_entry was) (row_entry is)) (g.state new).work) (same_tree_place (place_of_tree tree) (map_place def) root width)
-      (amendment_makes ext old new tree (row_entry was) (row_entry is) owners forests.map (map_around tree def root width ext old owners forests block st) st.told told count touched changes)
+      → MakesChange shape (g.state old).work (AmendEntry (map_place def) (row_entry was) (row_entry is)) (g.state new).work
+  line_makes tree def root width shape old new block was is owners forests st changes touched told count =
+      subst (λ place. MakesChange shape (g.state old).work (AmendEntry place (row_entry was) (row_entry is)) (g.state new).work) (same_tree_place (place_of_tree tree) (map_place def) root width)
+      (amendment_makes shape old new tree (row_entry was) (row_entry is) owners forests.map (map_around tree def root width shape old owners forests block st) st.told told count touched changes)

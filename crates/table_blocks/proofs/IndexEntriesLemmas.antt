@@ -3,12 +3,12 @@ use Rattle.std.proofs.Common.{◌≡◌, ◌<◌, ◌^◌, ℕ, zero, suc, List,
 use Rattle.std.specs.Prelude.{Some, slice_get}
 use Rattle.std.specs.List.{AllByRecursion, AllZip}
 use Rattle.std.proofs.lemmas.Option.{same_Some}
+use Rattle.store_api.specs.declared.shape.Shape.{Shape}
 use Rattle.mdc_words.specs.ByteOrder.{Entry}
 use Rattle.mdc_values.specs.declared.value.Value.{Value}
 use Rattle.mdc_ast.specs.declared.definition.ColumnDef.{ColumnDef}
 use Rattle.mdc_ast.specs.declared.definition.KeyPart.{KeyPart}
 use Rattle.mdc_ast.specs.declared.definition.TableDef.{TableDef}
-use Rattle.extent_map.specs.declared.extents.Extents.{Extents}
 use Rattle.entry_tree.specs.EntryBounds.{IsEntryOf}
 use Rattle.entry_tree.specs.Forest.{Forest, leaf_entries}
 use Rattle.key_codec.specs.Keys.{key_bytes}
@@ -55,10 +55,10 @@ module _ (def : TableDef) (parts : List KeyPart) (values : List Value) (block : 
       loses.absent (subst (λ (z : Entry). IsEntryOf z (leaf_entries u)) same there)
 
   -- others stay
-  module _ (before ext : Extents) (old new : PageList) (map_tree : Forest)
-      (forth : (placed : PlacedRow) → IsOtherRow before old def map_tree block placed → IsOtherRow ext new def map_tree block placed)
-      (back : (placed : PlacedRow) → IsOtherRow ext new def map_tree block placed → IsOtherRow before old def map_tree block placed) where
-    pub around_gained : GainsEntry mine t u → IsIndexAround before old def map_tree parts block t → IsIndexAround ext new def map_tree parts block u
+  module _ (shape : Shape) (old new : PageList) (map_tree : Forest)
+      (forth : (placed : PlacedRow) → IsOtherRow shape old def map_tree block placed → IsOtherRow shape new def map_tree block placed)
+      (back : (placed : PlacedRow) → IsOtherRow shape new def map_tree block placed → IsOtherRow shape old def map_tree block placed) where
+    pub around_gained : GainsEntry mine t u → IsIndexAround shape old def map_tree parts block t → IsIndexAround shape new def map_tree parts block u
     around_gained gains was = record {
       has = λ placed other. still_gained gains (entry_of_block def parts placed) (was.has placed (back placed other));
       only = λ y there names. elim (in_gained gains y there) [
@@ -67,8 +67,8 @@ module _ (def : TableDef) (parts : List KeyPart) (values : List Value) (block : 
       ];
     }
 
-    pub around_lost : block < 2 ^ 32 → ((placed : PlacedRow) → IsOtherRow before old def map_tree block placed → placed.rid.block < 2 ^ 32) → LosesEntry mine t u
-        → IsIndexAround before old def map_tree parts block t → IsIndexAround ext new def map_tree parts block u
+    pub around_lost : block < 2 ^ 32 → ((placed : PlacedRow) → IsOtherRow shape old def map_tree block placed → placed.rid.block < 2 ^ 32) → LosesEntry mine t u
+        → IsIndexAround shape old def map_tree parts block t → IsIndexAround shape new def map_tree parts block u
     around_lost small small_other loses was = record {
       has = λ placed other. elim (in_lost loses (entry_of_block def parts placed) (was.has placed (back placed other))) [
         | inl e ↦ absurd (other.other (same_named (key_bytes def.columns parts placed.row.values) (key_bytes def.columns parts values) placed.rid.block block (small_other placed (back placed other)) small e))

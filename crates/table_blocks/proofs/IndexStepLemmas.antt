@@ -7,8 +7,7 @@ use Rattle.mdc_ast.specs.declared.row.Cell.{Cell}
 use Rattle.store_api.specs.Frame.{Touches}
 use Rattle.store_api.specs.declared.fault.Damage.{Damage}
 use Rattle.store_api.specs.declared.pages.Pages.{Ghosts}
-use Rattle.extent_map.specs.Owners.{AreRightNotes, IsSameShape, IsUsedPage, extent_of, owner_of}
-use Rattle.extent_map.specs.declared.extents.Extents.{Extents}
+use Rattle.extent_map.specs.Owners.{AreRightNotes, IsUsedPage, extent_of, owner_of}
 use Rattle.extent_map.specs.declared.kind.Kind.{Kind}
 use Rattle.entry_tree.specs.Forest.{times, Forest, leaf_entries}
 use Rattle.table_trees.specs.RowCells.{cell_places}
@@ -31,6 +30,7 @@ use Rattle.extent_map.specs.Damages.{BreaksSpace}
 use Rattle.mdc_words.specs.ByteOrder.{Entry}
 use Rattle.mdc_sound.specs.Placing.Spot.{FreeExtent, IndexExtent}
 use Rattle.extent_map.specs.Map.{HoldsMap, HoldsMapPage}
+use Rattle.extent_map.specs.declared.space_notes.SpaceNotes.{SpaceNotes}
 use Rattle.entry_tree.specs.EntryBounds.{IsEntryOf}
 use Rattle.table_blocks.proofs.IndexEntriesLemmas.{IsKeyedDimension, around_gained, around_lost, at_dimension, keyed_dimensions, listed_in, move_each, moves_both, not_yet, unlisted_in}
 use Rattle.mdc_sound.proofs.TableRowsLemmas.{KeepsBlockPages}
@@ -48,11 +48,10 @@ use Rattle.table_blocks.proofs.SpotChangesLemmas.{claims_change, returns_change}
 use Rattle.block_map.proofs.MapLinesLemmas.{contains_more}
 use Rattle.extent_map.proofs.ExtentsLemmas.{extent_below}
 use Rattle.table_blocks.proofs.OtherBlocksLemmas.{index_used, map_still, not_freed, other_row_now, other_row_small, other_row_was, rows_held_still, spot_after}
-use Rattle.store_api.specs.Extents.{map_pages}
+use Rattle.store_api.specs.declared.shape.Shape.{Shape}
 use Rattle.extent_map.proofs.UsedPagesLemmas.{no_space_page}
 use Rattle.extent_map.proofs.HoldsMapLemmas.{on_map}
 use Rattle.std.proofs.lemmas.Option.{same_Some}
-use Rattle.entry_tree.proofs.UsedPagesLemmas.{shape_back, used_same}
 use Rattle.table_trees.proofs.TreeListsLemmas.{times-parts}
 use Rattle.store_api.proofs.FrameLemmas.{touches_wider}
 
@@ -78,32 +77,32 @@ root_there (first ∷ places) (suc n) place at = contains_more place.root first.
 -- ---- damage
 
 -- what an index that the call had come to may name
-module _ (def : TableDef) (n : ℕ) (tree : Tree) (at : slice_get (block_index_places def) n ≡ Some (place_of_tree tree)) (before now : Extents) (shape : IsSameShape before now) (damage : Damage) where
-  tree_named : damage.page ≡ tree.root → damage.rule ≡ 4 → NamesTablePart before def damage
+module _ (def : TableDef) (n : ℕ) (tree : Tree) (at : slice_get (block_index_places def) n ≡ Some (place_of_tree tree)) (shape : Shape) (damage : Damage) where
+  tree_named : damage.page ≡ tree.root → damage.rule ≡ 4 → NamesTablePart shape def damage
   tree_named page rule =
       NamesTablePart.tree rule (subst (Contains (roots_in (tree_places def))) (sym page) (root_there (tree_places def) (suc n) (place_of_tree tree) (place_in_front (block_index_places def) (record_places def) n (place_of_tree tree) at)))
 
-  index_named : damage.page ≡ tree.root → damage.rule ≡ 10 → NamesTablePart before def damage
+  index_named : damage.page ≡ tree.root → damage.rule ≡ 10 → NamesTablePart shape def damage
   index_named page rule = NamesTablePart.block_index rule (subst (Contains (roots_in (block_index_places def))) (sym page) (root_there (block_index_places def) n (place_of_tree tree) at))
 
-  space_named : {S : Type 0} (g : Ghosts S) (s : S) → BreaksSpace g now s damage → NamesTablePart before def damage
+  space_named : {S : Type 0} (g : Ghosts S) (s : S) → BreaksSpace g shape s damage → NamesTablePart shape def damage
   space_named g s (inl count) = NamesTablePart.count count.rule count.page
-  space_named g s (inr (i, page)) = NamesTablePart.map_page page.rule (omega (arith, page.page), omega (arith, page.page, page.on_map, ap map_pages shape.cap))
+  space_named g s (inr (i, page)) = NamesTablePart.map_page page.rule (omega (arith, page.page), omega (arith, page.page, page.on_map))
 
 -- what is named where a page is given back
-return_named : {S : Type 0} {g : Ghosts S} (def : TableDef) (before now : Extents) (old mid : S) (tree : Tree) → IsSameShape before now → (damage : Damage)
-    → BreaksAtReturn g now (λ owners. (t : Forest) × StandsTree g now mid tree owners t) damage → NamesTablePart before def damage
-return_named def before now old mid tree shape damage at_return = elim at_return.breaks [
+return_named : {S : Type 0} {g : Ghosts S} (def : TableDef) (shape : Shape) (old mid : S) (tree : Tree) (damage : Damage)
+    → BreaksAtReturn g shape (λ owners. (t : Forest) × StandsTree g shape mid tree owners t) damage → NamesTablePart shape def damage
+return_named def shape old mid tree damage at_return = elim at_return.breaks [
   | inl space ↦ elim space [
     | inl count ↦ NamesTablePart.count count.rule count.page
-    | inr page ↦ NamesTablePart.map_page page.1.rule (omega (arith, page.1.page), omega (arith, page.1.page, page.1.on_map, ap map_pages at_return.shape.cap, ap map_pages shape.cap))
+    | inr page ↦ NamesTablePart.map_page page.1.rule (omega (arith, page.1.page), omega (arith, page.1.page, page.1.on_map))
   ]
   | inr unused ↦ NamesTablePart.tree_page unused.rule
 ]
 
 -- the page of the map that says what a page is
-map_page_told : {S : Type 0} {g : Ghosts S} {ext : Extents} {s : S} {owners : List Kind} {p : ℕ} → HoldsMap g ext s owners → IsUsedPage ext owners p → HoldsMapPage g ext s owners (extent_of ext p / 512)
-map_page_told {ext = ext} {p = p} map used = map.pages (extent_of ext p / 512) (on_map ext.cap (extent_of ext p) (extent_below ext p used.page))
+map_page_told : {S : Type 0} {g : Ghosts S} {shape : Shape} {s : S} {owners : List Kind} {p : ℕ} → HoldsMap g shape s owners → IsUsedPage shape owners p → HoldsMapPage g shape s owners (extent_of shape p / 512)
+map_page_told {shape = shape} {p = p} map used = map.pages (extent_of shape p / 512) (on_map shape.extents (extent_of shape p) (extent_below shape p used.page))
 
 -- ---- claims and returns
 
@@ -111,33 +110,33 @@ map_page_told {ext = ext} {p = p} map used = map.pages (extent_of ext p / 512) (
 abbrev all_entries : TableDef → List Value → ℕ → List Entry
 all_entries def values block = block_entry def.columns (cell_parts def) values block ∷ map (λ dim. block_entry def.columns (rising_parts dim) values block) def.dims
 
-module _ {S : Type 0} {g : Ghosts S} (before ext : Extents) (old new : S) (owners owners_now : List Kind) (places : List TreePlace) (trees trees_now : List Forest) (changes : ChangesTrees g before ext new places owners trees owners_now trees_now) where
+module _ {S : Type 0} {g : Ghosts S} (shape : Shape) (before noted : SpaceNotes) (old new : S) (owners owners_now : List Kind) (places : List TreePlace) (trees trees_now : List Forest) (changes : ChangesTrees g shape before noted new places owners trees owners_now trees_now) where
   -- where no page left the trees, no index extent became free
-  no_less : HoldsMap g before old owners → ((p : ℕ) → sum_by (times p) trees ≤ sum_by (times p) trees_now) → (e used : ℕ) → owner_of owners e ≡ Index used → owner_of owners_now e ≡ Free → ⊥
-  no_less map more e used was now = not_freed before owners owners_now e (index_used before old owners e used map was) still now
+  no_less : HoldsMap g shape old owners → ((p : ℕ) → sum_by (times p) trees ≤ sum_by (times p) trees_now) → (e used : ℕ) → owner_of owners e ≡ Index used → owner_of owners_now e ≡ Free → ⊥
+  no_less map more e used was now = not_freed shape owners owners_now e (index_used shape old owners e used map was) still now
     where
-      still : (p : ℕ) → IsUsedPage before owners p → IsUsedPage before owners_now p
+      still : (p : ℕ) → IsUsedPage shape owners p → IsUsedPage shape owners_now p
       still p used = elim (cases_lt 0 (sum_by (times p) trees)) [
-        | inl some ↦ used_same before ext owners_now p changes.shape (changes.stand.used p (omega (arith, some, more p)))
+        | inl some ↦ changes.stand.used p (omega (arith, some, more p))
         | inr none ↦ changes.kept.others p used (omega (arith, none))
       ]
 
   -- where none came to them, no free extent became an index extent
-  no_more : StandTrees g before old owners places trees → ((p : ℕ) → sum_by (times p) trees_now ≤ sum_by (times p) trees) → (e used : ℕ) → owner_of owners e ≡ Free → owner_of owners_now e ≡ Index used → ⊥
-  no_more stand fewer e used was now = not_freed ext owners_now owners e (index_used ext new owners_now e used changes.stand.map now) still was
+  no_more : StandTrees g shape old owners places trees → ((p : ℕ) → sum_by (times p) trees_now ≤ sum_by (times p) trees) → (e used : ℕ) → owner_of owners e ≡ Free → owner_of owners_now e ≡ Index used → ⊥
+  no_more stand fewer e used was now = not_freed shape owners_now owners e (index_used shape new owners_now e used changes.stand.map now) still was
     where
-      still : (p : ℕ) → IsUsedPage ext owners_now p → IsUsedPage ext owners p
-      still p used = elim (changes.kept.used p (used_same before ext owners_now p changes.shape used)) [
-        | inl some ↦ used_same ext before owners p (shape_back before ext changes.shape) (stand.used p (omega (arith, some, fewer p)))
-        | inr stayed ↦ used_same ext before owners p (shape_back before ext changes.shape) stayed.0
+      still : (p : ℕ) → IsUsedPage shape owners_now p → IsUsedPage shape owners p
+      still p used = elim (changes.kept.used p used) [
+        | inl some ↦ stand.used p (omega (arith, some, fewer p))
+        | inr stayed ↦ stayed.0
       ]
 
 -- the page count, where no page came and page 0 isn't touched
-grows_untouched : {S : Type 0} {g : Ghosts S} (ext : Extents) (old new : S) (owners : List Kind) (places : List TreePlace) (trees : List Forest) → StandTrees g ext old owners places trees
-    → Touches g (IsTreesOrMapPage g ext old places) old new → length (g.state new).work ≡ length (g.state old).work → GrowsPages g ext old new
-grows_untouched ext old new owners places trees st touched count = record {
+grows_untouched : {S : Type 0} {g : Ghosts S} (shape : Shape) (old new : S) (owners : List Kind) (places : List TreePlace) (trees : List Forest) → StandTrees g shape old owners places trees
+    → Touches g (IsTreesOrMapPage g shape old places) old new → length (g.state new).work ≡ length (g.state old).work → GrowsPages g shape old new
+grows_untouched shape old new owners places trees st touched count = record {
   stated = record {
-    same = λ same bytes holds. touched.others 0 bytes (λ mine. elim (mine owners trees st) [ inl here ↦ no_space_page ext 0 (st.used 0 here).page (inl refl) | inr map ↦ omega (arith, map.0) ]) holds;
+    same = λ same bytes holds. touched.others 0 bytes (λ mine. elim (mine owners trees st) [ inl here ↦ no_space_page shape 0 (st.used 0 here).page (inl refl) | inr map ↦ omega (arith, map.0) ]) holds;
     grown = λ more. absurd (omega (arith, more, count));
     whole = λ more. absurd (omega (arith, more, count));
   };
@@ -182,67 +181,67 @@ module _ (def : TableDef) (values : List Value) (block : ℕ) (small : block < 2
       subst (λ (y : Entry). IsEntryOf y (leaf_entries t)) (sym here.3) here.2.has
 
 -- what taking a block out of the indexes names, under whichever values
-pub names_unlisting : {S : Type 0} (g : Ghosts S) (def : TableDef) (values : List Value) (block : ℕ) (ext : Extents) (s : S) (damage : Damage) → BreaksUnlisting g ext s def values block damage → NamesTablePart ext def damage
-names_unlisting g def values block ext s damage breaks = elim breaks.breaks [
+pub names_unlisting : {S : Type 0} (g : Ghosts S) (def : TableDef) (values : List Value) (block : ℕ) (shape : Shape) (noted : SpaceNotes) (s : S) (damage : Damage) → BreaksUnlisting g shape noted s def values block damage → NamesTablePart shape def damage
+names_unlisting g def values block shape noted s damage breaks = elim breaks.breaks [
   | inl tree_or_return ↦ elim tree_or_return [
-    | inl broken ↦ tree_named def breaks.comes.n breaks.tree breaks.comes.place ext breaks.now breaks.comes.shape damage broken.page broken.rule
-    | inr at_return ↦ return_named def ext breaks.now s breaks.mid breaks.tree breaks.comes.shape damage at_return
+    | inl broken ↦ tree_named def breaks.comes.n breaks.tree breaks.comes.place shape damage broken.page broken.rule
+    | inr at_return ↦ return_named def shape s breaks.mid breaks.tree damage at_return
   ]
-  | inr index ↦ index_named def breaks.comes.n breaks.tree breaks.comes.place ext breaks.now breaks.comes.shape damage index.page index.rule
+  | inr index ↦ index_named def breaks.comes.n breaks.tree breaks.comes.place shape damage index.page index.rule
 ]
 
 module _ {S : Type 0} {g : Ghosts S} (def : TableDef) (block : ℕ) (has : HasBlockIndexes def) where
-  as_many : (ext : Extents) (s : S) (owners : List Kind) (forests : TableForests) → StandsAround g ext s def owners forests block → length (block_index_places def) ≡ length (forests.composite ∷ forests.dims)
-  as_many ext s owners forests st =
-      let dims = AllZip-long (λ dim index. IsIndexAround ext (pages_of g s) def forests.map (rising_parts dim) block index) def.dims forests.dims st.dims in
+  as_many : (shape : Shape) (s : S) (owners : List Kind) (forests : TableForests) → StandsAround g shape s def owners forests block → length (block_index_places def) ≡ length (forests.composite ∷ forests.dims)
+  as_many shape s owners forests st =
+      let dims = AllZip-long (λ dim index. IsIndexAround shape (pages_of g s) def forests.map (rising_parts dim) block index) def.dims forests.dims st.dims in
       omega (arith, dims, count_dimensions def def.dims def.roots.dims has.one_each)
 
   -- the block indexes stand side by side
-  pub indexes_around : (ext : Extents) (s : S) (owners : List Kind) (forests : TableForests) → StandsAround g ext s def owners forests block → StandTrees g ext s owners (block_index_places def) (forests.composite ∷ forests.dims)
-  indexes_around ext s owners forests st =
-      part_stands ext s owners (map_place def ∷ []) (block_index_places def) (record_places def) (forests.map ∷ []) (forests.composite ∷ forests.dims) forests.indexes refl (as_many ext s owners forests st) st.trees
+  pub indexes_around : (shape : Shape) (s : S) (owners : List Kind) (forests : TableForests) → StandsAround g shape s def owners forests block → StandTrees g shape s owners (block_index_places def) (forests.composite ∷ forests.dims)
+  indexes_around shape s owners forests st =
+      part_stands shape s owners (map_place def ∷ []) (block_index_places def) (record_places def) (forests.map ∷ []) (forests.composite ∷ forests.dims) forests.indexes refl (as_many shape s owners forests st) st.trees
 
   -- the pages
-  pub space_of_indexes : (ext : Extents) (s : S) (p : ℕ) → IsSpaceOfTrees g ext s (block_index_places def) p → IsSpaceAround g ext s def block p
-  space_of_indexes ext s p at owners forests st own =
-      elim (part_space ext s (map_place def ∷ []) (block_index_places def) (record_places def) p at owners (forests_in_order forests) st.trees) [ inl here ↦ inl here | inr rest ↦ inr (inr rest) ]
+  pub space_of_indexes : (shape : Shape) (s : S) (p : ℕ) → IsSpaceOfTrees g shape s (block_index_places def) p → IsSpaceAround g shape s def block p
+  space_of_indexes shape s p at owners forests st own =
+      elim (part_space shape s (map_place def ∷ []) (block_index_places def) (record_places def) p at owners (forests_in_order forests) st.trees) [ inl here ↦ inl here | inr rest ↦ inr (inr rest) ]
 
-  pub place_of_indexes : (ext : Extents) (s : S) (p : ℕ) → IsTreesOrMapPage g ext s (block_index_places def) p → IsPlaceAround g ext s def block p
-  place_of_indexes ext s p at owners forests st own =
-      elim (part_trees_or_map ext s (map_place def ∷ []) (block_index_places def) (record_places def) p at owners (forests_in_order forests) st.trees) [ inl here ↦ inl here | inr map ↦ inr (inr map) ]
+  pub place_of_indexes : (shape : Shape) (s : S) (p : ℕ) → IsTreesOrMapPage g shape s (block_index_places def) p → IsPlaceAround g shape s def block p
+  place_of_indexes shape s p at owners forests st own =
+      elim (part_trees_or_map shape s (map_place def ∷ []) (block_index_places def) (record_places def) p at owners (forests_in_order forests) st.trees) [ inl here ↦ inl here | inr map ↦ inr (inr map) ]
 
 module _ {S : Type 0} {g : Ghosts S} (def : TableDef) (cell : Cell) (values : List Value) (block : ℕ) (small : block < 2 ^ 32) (has : HasBlockIndexes def) (is : IsCellOf def cell values) (keys : HaveKeys def.columns (cell_places def) values) where
   -- ---- a change of them
 
-  module _ (before ext : Extents) (old new : S) (owners owners_now : List Kind) (forests : TableForests) (u : Forest) (us : List Forest) (st : StandsAround g before old def owners forests block)
-      (changes : ChangesTrees g before ext new (block_index_places def) owners (forests.composite ∷ forests.dims) owners_now (u ∷ us)) (touched : Touches g (IsSpaceOfTrees g before old (block_index_places def)) old new)
+  module _ (shape : Shape) (before noted : SpaceNotes) (old new : S) (owners owners_now : List Kind) (forests : TableForests) (u : Forest) (us : List Forest) (st : StandsAround g shape old def owners forests block)
+      (changes : ChangesTrees g shape before noted new (block_index_places def) owners (forests.composite ∷ forests.dims) owners_now (u ∷ us)) (touched : Touches g (IsSpaceOfTrees g shape old (block_index_places def)) old new)
       (told : (g.state new).is_told ≡ (g.state old).is_told) where
     -- the trees of the table afterwards
     abbrev after : TableForests
     after = record { map = forests.map; composite = u; dims = us; indexes = forests.indexes }
 
-    blocks_kept : (e : ℕ) → owner_of owners e ≡ Block def.number → KeepsBlockPages before ext (pages_of g old) (pages_of g new) e
+    blocks_kept : (e : ℕ) → owner_of owners e ≡ Block def.number → KeepsBlockPages shape (pages_of g old) (pages_of g new) e
     blocks_kept e is =
-        block_kept (IsSpaceOfTrees g before old (block_index_places def)) before ext old new owners def.number e st.trees.map changes.shape st.told touched
-        (λ p of mine. block_page_apart before old owners (block_index_places def) (forests.composite ∷ forests.dims) p def.number (indexes_around def block has before old owners forests st) of.page of.block mine)
+        block_kept (IsSpaceOfTrees g shape old (block_index_places def)) shape old new owners def.number e st.trees.map st.told touched
+        (λ p of mine. block_page_apart shape old owners (block_index_places def) (forests.composite ∷ forests.dims) p def.number (indexes_around def block has shape old owners forests st) of.page of.block mine)
         (omega (arith, block_below owners e def.number is, st.trees.map.count)) is
 
-    other_now : (placed : PlacedRow) → IsOtherRow before (pages_of g old) def forests.map block placed → IsOtherRow ext (pages_of g new) def forests.map block placed
-    other_now = other_row_now before ext (pages_of g old) (pages_of g new) def owners owners_now forests.map block changes.shape (λ e low is. blocks_kept e is) changes.kept.blocks st.map
+    other_now : (placed : PlacedRow) → IsOtherRow shape (pages_of g old) def forests.map block placed → IsOtherRow shape (pages_of g new) def forests.map block placed
+    other_now = other_row_now shape (pages_of g old) (pages_of g new) def owners owners_now forests.map block (λ e low is. blocks_kept e is) changes.kept.blocks st.map
 
-    other_was : (placed : PlacedRow) → IsOtherRow ext (pages_of g new) def forests.map block placed → IsOtherRow before (pages_of g old) def forests.map block placed
-    other_was = other_row_was before ext (pages_of g old) (pages_of g new) def owners owners_now forests.map block changes.shape (λ e low is. blocks_kept e is) changes.kept.blocks st.map
+    other_was : (placed : PlacedRow) → IsOtherRow shape (pages_of g new) def forests.map block placed → IsOtherRow shape (pages_of g old) def forests.map block placed
+    other_was = other_row_was shape (pages_of g old) (pages_of g new) def owners owners_now forests.map block (λ e low is. blocks_kept e is) changes.kept.blocks st.map
 
     abbrev AroundOld : List ℕ → Forest → Type 0
-    AroundOld dim index = IsIndexAround before (pages_of g old) def forests.map (rising_parts dim) block index
+    AroundOld dim index = IsIndexAround shape (pages_of g old) def forests.map (rising_parts dim) block index
 
     abbrev AroundNew : List ℕ → Forest → Type 0
-    AroundNew dim index = IsIndexAround ext (pages_of g new) def forests.map (rising_parts dim) block index
+    AroundNew dim index = IsIndexAround shape (pages_of g new) def forests.map (rising_parts dim) block index
 
-    whole_changes : ChangesTrees g before ext new (tree_places def) owners (forests_in_order forests) owners_now (forests_in_order after)
+    whole_changes : ChangesTrees g shape before noted new (tree_places def) owners (forests_in_order forests) owners_now (forests_in_order after)
     whole_changes =
-        part_changes before ext old new (map_place def ∷ []) (block_index_places def) (record_places def) (forests.map ∷ []) (forests.composite ∷ forests.dims) (u ∷ us) forests.indexes owners owners_now refl
-        (as_many def block has before old owners forests st) st.trees touched told changes
+        part_changes shape old new (map_place def ∷ []) (block_index_places def) (record_places def) (forests.map ∷ []) (forests.composite ∷ forests.dims) (u ∷ us) forests.indexes owners owners_now refl
+        (as_many def block has shape old owners forests st) st.trees touched told changes
 
     -- how often a page stands in all of them
     times_before : (p : ℕ) → sum_by (times p) (forests_in_order forests) ≡ sum_by (times p) (forests.map ∷ []) + (sum_by (times p) (forests.composite ∷ forests.dims) + sum_by (times p) forests.indexes)
@@ -252,9 +251,9 @@ module _ {S : Type 0} {g : Ghosts S} (def : TableDef) (cell : Cell) (values : Li
     times_after p = omega (arith, times-parts p (forests.map ∷ []) (u ∷ us) forests.indexes)
 
     module _ {After : Spot → Spot → Type 0} (change : IsSpotChange After) (longer : length (g.state old).work ≤ length (g.state new).work) where
-      moves_entries : IsOwnBlock before owners def block → IsIndexAround ext (pages_of g new) def forests.map (cell_parts def) block u → AllZip AroundNew def.dims us → GrowsPages g before old new
+      moves_entries : IsOwnBlock shape owners def block → IsIndexAround shape (pages_of g new) def forests.map (cell_parts def) block u → AllZip AroundNew def.dims us → GrowsPages g shape old new
           → ((e used : ℕ) → owner_of owners e ≡ Free → owner_of owners_now e ≡ Index used → After FreeExtent IndexExtent) → ((e used : ℕ) → owner_of owners e ≡ Index used → owner_of owners_now e ≡ Free → After IndexExtent FreeExtent)
-          → MovesEntries g After before ext old new def block owners forests
+          → MovesEntries g After shape before noted old new def block owners forests
       moves_entries own composite dims grows took gave = record {
         owners_now = owners_now;
         forests_now = after;
@@ -262,43 +261,43 @@ module _ {S : Type 0} {g : Ghosts S} (def : TableDef) (cell : Cell) (values : Li
           stands = record {
             told = told ∙ st.told;
             trees = whole_changes.stand;
-            map = map_still before ext (pages_of g old) (pages_of g new) def owners owners_now forests.map block changes.shape (λ e low is. blocks_kept e is) changes.kept.blocks st.map;
+            map = map_still shape (pages_of g old) (pages_of g new) def owners owners_now forests.map block (λ e low is. blocks_kept e is) changes.kept.blocks st.map;
             composite = composite;
             dims = dims;
           };
           trees = whole_changes;
           records = refl;
-          spots = λ e other. spot_after change g before ext old new def owners owners_now forests.map changes.shape e (blocks_kept e) (changes.kept.blocks e) (took e) (gave e);
+          spots = λ e other. spot_after change g shape old new def owners owners_now forests.map e (blocks_kept e) (changes.kept.blocks e) (took e) (gave e);
           longer = longer;
           grows = grows;
         };
         same_map = refl;
-        rows = λ slots held. rows_held_still g before ext old new def block slots changes.shape (blocks_kept block own.owned) told longer held;
+        rows = λ slots held. rows_held_still g shape old new def block slots (blocks_kept block own.owned) told longer held;
       }
 
-  pub lists_entries : (before ext : Extents) (old new : S) (owners : List Kind) (forests : TableForests) → StandsAround g before old def owners forests block → IsOwnBlock before owners def block
-      → ListsBlock g before ext new def cell.values block owners (forests.composite ∷ forests.dims) → GrowsPages g before old new → IsSameShape before ext
-      → Touches g (IsSpaceOfTrees g before old (block_index_places def)) old new → (g.state new).is_told ≡ (g.state old).is_told → length (g.state old).work ≤ length (g.state new).work
-      → (moves : MovesEntries g AfterClaims before ext old new def block owners forests) × (IsUnlisted def forests block → IsListedInEach def moves.forests_now values block)
+  pub lists_entries : (shape : Shape) (before noted : SpaceNotes) (old new : S) (owners : List Kind) (forests : TableForests) → StandsAround g shape old def owners forests block → IsOwnBlock shape owners def block
+      → ListsBlock g shape before noted new def cell.values block owners (forests.composite ∷ forests.dims) → GrowsPages g shape old new
+      → Touches g (IsSpaceOfTrees g shape old (block_index_places def)) old new → (g.state new).is_told ≡ (g.state old).is_told → length (g.state old).work ≤ length (g.state new).work
+      → (moves : MovesEntries g AfterClaims shape before noted old new def block owners forests) × (IsUnlisted def forests block → IsListedInEach def moves.forests_now values block)
   unfolding moves_entries
-  lists_entries before ext old new owners forests st own lists grows shape touched told longer =
+  lists_entries shape before noted old new owners forests st own lists grows touched told longer =
       let first : MoveFirst GainsEntry (length (all_entries def values block)) (all_entries def values block) (forests.composite ∷ forests.dims) lists.first.trees_now =
       subst (λ es. MoveFirst GainsEntry (length es) es (forests.composite ∷ forests.dims) lists.first.trees_now) (cell_entries-row def cell values block is) lists.first.moves in
       let both = moves_both GainsEntry (length (map (dimension_entry def values block small has keys) def.dims)) (block_entry def.columns (cell_parts def) values block) (map (dimension_entry def values block small has keys) def.dims) forests.composite forests.dims lists.first.trees_now first in
-      let changes : ChangesTrees g before ext new (block_index_places def) owners (forests.composite ∷ forests.dims) lists.first.owners_now (both.first ∷ both.rest) =
-      subst (λ ts. ChangesTrees g before ext new (block_index_places def) owners (forests.composite ∷ forests.dims) lists.first.owners_now ts) both.after_is lists.first.changes in
+      let changes : ChangesTrees g shape before noted new (block_index_places def) owners (forests.composite ∷ forests.dims) lists.first.owners_now (both.first ∷ both.rest) =
+      subst (λ ts. ChangesTrees g shape before noted new (block_index_places def) owners (forests.composite ∷ forests.dims) lists.first.owners_now ts) both.after_is lists.first.changes in
       let more : (p : ℕ) → sum_by (times p) (forests.composite ∷ forests.dims) ≤ sum_by (times p) (both.first ∷ both.rest) = λ p. omega (arith, lists.pages p, ap (sum_by (times p)) both.after_is) in (
-        moves_entries before ext old new owners lists.first.owners_now forests both.first both.rest st changes touched told claims_change longer own
-            (around_gained def (cell_parts def) values block (names_cell def values block small has keys) forests.composite both.first before ext (pages_of g old) (pages_of g new) forests.map
-            (other_now before ext old new owners lists.first.owners_now forests both.first both.rest st changes touched told)
-            (other_was before ext old new owners lists.first.owners_now forests both.first both.rest st changes touched told) both.moves st.composite)
-            (move_each GainsEntry (IsKeyedDimension def.columns values) (λ dim index. IsIndexAround before (pages_of g old) def forests.map (rising_parts dim) block index)
-            (λ dim index. IsIndexAround ext (pages_of g new) def forests.map (rising_parts dim) block index) (dimension_entry def values block small has keys)
-            (λ dim t v known moves was. around_gained def (rising_parts dim) values block ((names_dimension def values block small has keys) dim known) t v before ext (pages_of g old) (pages_of g new) forests.map
-            (other_now before ext old new owners lists.first.owners_now forests both.first both.rest st changes touched told)
-            (other_was before ext old new owners lists.first.owners_now forests both.first both.rest st changes touched told) moves was)
+        moves_entries shape before noted old new owners lists.first.owners_now forests both.first both.rest st changes touched told claims_change longer own
+            (around_gained def (cell_parts def) values block (names_cell def values block small has keys) forests.composite both.first shape (pages_of g old) (pages_of g new) forests.map
+            (other_now shape before noted old new owners lists.first.owners_now forests both.first both.rest st changes touched told)
+            (other_was shape before noted old new owners lists.first.owners_now forests both.first both.rest st changes touched told) both.moves st.composite)
+            (move_each GainsEntry (IsKeyedDimension def.columns values) (λ dim index. IsIndexAround shape (pages_of g old) def forests.map (rising_parts dim) block index)
+            (λ dim index. IsIndexAround shape (pages_of g new) def forests.map (rising_parts dim) block index) (dimension_entry def values block small has keys)
+            (λ dim t v known moves was. around_gained def (rising_parts dim) values block ((names_dimension def values block small has keys) dim known) t v shape (pages_of g old) (pages_of g new) forests.map
+            (other_now shape before noted old new owners lists.first.owners_now forests both.first both.rest st changes touched told)
+            (other_was shape before noted old new owners lists.first.owners_now forests both.first both.rest st changes touched told) moves was)
             def.dims forests.dims both.rest (keyed def values block small has keys) st.dims both.more)
-            grows (λ e used was now. tt) (λ e used was now. absurd (no_less before ext old new owners lists.first.owners_now (block_index_places def) (forests.composite ∷ forests.dims) (both.first ∷ both.rest) changes st.trees.map more e used was now)),
+            grows (λ e used was now. tt) (λ e used was now. absurd (no_less shape before noted old new owners lists.first.owners_now (block_index_places def) (forests.composite ∷ forests.dims) (both.first ∷ both.rest) changes st.trees.map more e used was now)),
         λ none. record {
           composite = listed_in def (cell_parts def) values block (names_cell def values block small has keys) forests.composite both.first both.moves none.composite;
           dims = move_each GainsEntry (IsKeyedDimension def.columns values) (λ dim index. IsUnlistedIn def (rising_parts dim) block index) (λ dim index. IsListedIn def (rising_parts dim) values block index) (dimension_entry def values block small has keys)
@@ -306,36 +305,36 @@ module _ {S : Type 0} {g : Ghosts S} (def : TableDef) (cell : Cell) (values : Li
         },
       )
 
-  pub unlists_entries : (before ext : Extents) (old new : S) (owners : List Kind) (forests : TableForests) → StandsAround g before old def owners forests block → IsOwnBlock before owners def block
-      → UnlistsBlock g before ext new def cell.values block owners (forests.composite ∷ forests.dims) → IsSameShape before ext
-      → Touches g (IsTreesOrMapPage g before old (block_index_places def)) old new → (g.state new).is_told ≡ (g.state old).is_told → length (g.state new).work ≡ length (g.state old).work
-      → (moves : MovesEntries g AfterReturns before ext old new def block owners forests) × (IsListedInEach def forests values block → IsUnlisted def moves.forests_now block)
+  pub unlists_entries : (shape : Shape) (before noted : SpaceNotes) (old new : S) (owners : List Kind) (forests : TableForests) → StandsAround g shape old def owners forests block → IsOwnBlock shape owners def block
+      → UnlistsBlock g shape before noted new def cell.values block owners (forests.composite ∷ forests.dims)
+      → Touches g (IsTreesOrMapPage g shape old (block_index_places def)) old new → (g.state new).is_told ≡ (g.state old).is_told → length (g.state new).work ≡ length (g.state old).work
+      → (moves : MovesEntries g AfterReturns shape before noted old new def block owners forests) × (IsListedInEach def forests values block → IsUnlisted def moves.forests_now block)
       × ((p : ℕ) → 0 < sum_by (times p) (forests_in_order moves.forests_now) → 0 < sum_by (times p) (forests_in_order forests))
   unfolding moves_entries
-  unlists_entries before ext old new owners forests st own unlists shape touched told count =
+  unlists_entries shape before noted old new owners forests st own unlists touched told count =
       let first : MoveFirst LosesEntry (length (all_entries def values block)) (all_entries def values block) (forests.composite ∷ forests.dims) unlists.first.trees_now =
       subst (λ es. MoveFirst LosesEntry (length es) es (forests.composite ∷ forests.dims) unlists.first.trees_now) (cell_entries-row def cell values block is) unlists.first.moves in
       let both = moves_both LosesEntry (length (map (dimension_entry def values block small has keys) def.dims)) (block_entry def.columns (cell_parts def) values block) (map (dimension_entry def values block small has keys) def.dims) forests.composite forests.dims unlists.first.trees_now first in
-      let changes : ChangesTrees g before ext new (block_index_places def) owners (forests.composite ∷ forests.dims) unlists.first.owners_now (both.first ∷ both.rest) =
-      subst (λ ts. ChangesTrees g before ext new (block_index_places def) owners (forests.composite ∷ forests.dims) unlists.first.owners_now ts) both.after_is unlists.first.changes in
+      let changes : ChangesTrees g shape before noted new (block_index_places def) owners (forests.composite ∷ forests.dims) unlists.first.owners_now (both.first ∷ both.rest) =
+      subst (λ ts. ChangesTrees g shape before noted new (block_index_places def) owners (forests.composite ∷ forests.dims) unlists.first.owners_now ts) both.after_is unlists.first.changes in
       let fewer : (p : ℕ) → sum_by (times p) (both.first ∷ both.rest) ≤ sum_by (times p) (forests.composite ∷ forests.dims) = λ p. omega (arith, unlists.pages p, ap (sum_by (times p)) both.after_is) in
-      let stand = indexes_around def block has before old owners forests st in
-      let wide : Touches g (IsSpaceOfTrees g before old (block_index_places def)) old new = touches_wider touched (λ p at. space_of_trees_or_map before old (block_index_places def) p at) in
+      let stand = indexes_around def block has shape old owners forests st in
+      let wide : Touches g (IsSpaceOfTrees g shape old (block_index_places def)) old new = touches_wider touched (λ p at. space_of_trees_or_map shape old (block_index_places def) p at) in
       let longer : length (g.state old).work ≤ length (g.state new).work = omega (arith, count) in (
-        moves_entries before ext old new owners unlists.first.owners_now forests both.first both.rest st changes wide told returns_change longer own
-            (around_lost def (cell_parts def) values block (names_cell def values block small has keys) forests.composite both.first before ext (pages_of g old) (pages_of g new) forests.map
-            (other_now before ext old new owners unlists.first.owners_now forests both.first both.rest st changes wide told)
-            (other_was before ext old new owners unlists.first.owners_now forests both.first both.rest st changes wide told)
-            small (other_row_small before (pages_of g old) owners def forests.map block st.map) both.moves st.composite)
-            (move_each LosesEntry (IsKeyedDimension def.columns values) (λ dim index. IsIndexAround before (pages_of g old) def forests.map (rising_parts dim) block index)
-            (λ dim index. IsIndexAround ext (pages_of g new) def forests.map (rising_parts dim) block index) (dimension_entry def values block small has keys)
-            (λ dim t v known moves was. around_lost def (rising_parts dim) values block ((names_dimension def values block small has keys) dim known) t v before ext (pages_of g old) (pages_of g new) forests.map
-            (other_now before ext old new owners unlists.first.owners_now forests both.first both.rest st changes wide told)
-            (other_was before ext old new owners unlists.first.owners_now forests both.first both.rest st changes wide told)
-            small (other_row_small before (pages_of g old) owners def forests.map block st.map) moves was)
+        moves_entries shape before noted old new owners unlists.first.owners_now forests both.first both.rest st changes wide told returns_change longer own
+            (around_lost def (cell_parts def) values block (names_cell def values block small has keys) forests.composite both.first shape (pages_of g old) (pages_of g new) forests.map
+            (other_now shape before noted old new owners unlists.first.owners_now forests both.first both.rest st changes wide told)
+            (other_was shape before noted old new owners unlists.first.owners_now forests both.first both.rest st changes wide told)
+            small (other_row_small shape (pages_of g old) owners def forests.map block st.map) both.moves st.composite)
+            (move_each LosesEntry (IsKeyedDimension def.columns values) (λ dim index. IsIndexAround shape (pages_of g old) def forests.map (rising_parts dim) block index)
+            (λ dim index. IsIndexAround shape (pages_of g new) def forests.map (rising_parts dim) block index) (dimension_entry def values block small has keys)
+            (λ dim t v known moves was. around_lost def (rising_parts dim) values block ((names_dimension def values block small has keys) dim known) t v shape (pages_of g old) (pages_of g new) forests.map
+            (other_now shape before noted old new owners unlists.first.owners_now forests both.first both.rest st changes wide told)
+            (other_was shape before noted old new owners unlists.first.owners_now forests both.first both.rest st changes wide told)
+            small (other_row_small shape (pages_of g old) owners def forests.map block st.map) moves was)
             def.dims forests.dims both.rest (keyed def values block small has keys) st.dims both.more)
-            (grows_untouched before old new owners (block_index_places def) (forests.composite ∷ forests.dims) stand touched count)
-            (λ e used was now. absurd (no_more before ext old new owners unlists.first.owners_now (block_index_places def) (forests.composite ∷ forests.dims) (both.first ∷ both.rest) changes stand fewer e used was now)) (λ e used was now. tt),
+            (grows_untouched shape old new owners (block_index_places def) (forests.composite ∷ forests.dims) stand touched count)
+            (λ e used was now. absurd (no_more shape before noted old new owners unlists.first.owners_now (block_index_places def) (forests.composite ∷ forests.dims) (both.first ∷ both.rest) changes stand fewer e used was now)) (λ e used was now. tt),
         λ listed. record {
           composite = unlisted_in def (cell_parts def) values block (names_cell def values block small has keys) forests.composite both.first both.moves listed.composite;
           dims = move_each LosesEntry (IsKeyedDimension def.columns values) (λ dim index. IsListedIn def (rising_parts dim) values block index) (λ dim index. IsUnlistedIn def (rising_parts dim) block index) (dimension_entry def values block small has keys)
@@ -345,26 +344,26 @@ module _ {S : Type 0} {g : Ghosts S} (def : TableDef) (cell : Cell) (values : Li
           arith,
           l,
           fewer p,
-          times_before before ext old new owners unlists.first.owners_now forests both.first both.rest st changes wide told p,
-          times_after before ext old new owners unlists.first.owners_now forests both.first both.rest st changes wide told p,
+          times_before shape before noted old new owners unlists.first.owners_now forests both.first both.rest st changes wide told p,
+          times_after shape before noted old new owners unlists.first.owners_now forests both.first both.rest st changes wide told p,
         ),
       )
 
   -- what the index that a call had come to is to the table as it was
-  module _ (Moves : Entry → Forest → Forest → Type 0) (before now : Extents) (old mid : S) (tree : Tree) (x : Entry) (comes : ComesTo g Moves before old def cell.values block now mid tree x) (owners : List Kind) (forests : TableForests)
-      (st : StandsAround g before old def owners forests block) where
+  module _ (Moves : Entry → Forest → Forest → Type 0) (shape : Shape) (before now : SpaceNotes) (old mid : S) (tree : Tree) (x : Entry) (comes : ComesTo g Moves shape before old def cell.values block now mid tree x) (owners : List Kind) (forests : TableForests)
+      (st : StandsAround g shape old def owners forests block) where
     record IsNext : Type 0 where
       pub owners_mid : List Kind
       pub t : Forest
-      pub stands : StandsTree g now mid tree owners_mid t
+      pub stands : StandsTree g shape mid tree owners_mid t
       pub there : slice_get (forests.composite ∷ forests.dims) comes.n ≡ Some t
       pub entry : slice_get (all_entries def values block) comes.n ≡ Some x
-      pub notes : AreRightNotes before owners → AreRightNotes now owners_mid
+      pub notes : AreRightNotes shape before owners → AreRightNotes shape now owners_mid
 
     next_index : IsNext
     next_index =
-        let d = comes.done owners (forests.composite ∷ forests.dims) (indexes_around def block has before old owners forests st) in
-        let one = tree_among now mid d.owners_now (block_index_places def) d.trees_now tree comes.n d.changes.stand comes.place in
+        let d = comes.done owners (forests.composite ∷ forests.dims) (indexes_around def block has shape old owners forests st) in
+        let one = tree_among shape mid d.owners_now (block_index_places def) d.trees_now tree comes.n d.changes.stand comes.place in
         record {
           owners_mid = d.owners_now;
           t = one.0;
@@ -374,17 +373,17 @@ module _ {S : Type 0} {g : Ghosts S} (def : TableDef) (cell : Cell) (values : Li
           notes = d.changes.notes;
         }
 
-  pub breaks_listing : (ext : Extents) (s : S) (damage : Damage) → BreaksListing g ext s def cell.values block damage → BreaksAround g ext s def block (λ owners forests. IsUnlisted def forests block) damage
-  breaks_listing ext s damage breaks = record {
+  pub breaks_listing : (shape : Shape) (noted : SpaceNotes) (s : S) (damage : Damage) → BreaksListing g shape noted s def cell.values block damage → BreaksAround g shape s def block (λ owners forests. IsUnlisted def forests block) damage
+  breaks_listing shape noted s damage breaks = record {
     names = elim breaks.breaks [
       | inl tree_or_map ↦ elim tree_or_map [
-        | inl standing ↦ tree_named def breaks.comes.n breaks.tree breaks.comes.place ext breaks.now breaks.comes.shape damage standing.page standing.rule
-        | inr space ↦ space_named def breaks.comes.n breaks.tree breaks.comes.place ext breaks.now breaks.comes.shape damage g breaks.mid space
+        | inl standing ↦ tree_named def breaks.comes.n breaks.tree breaks.comes.place shape damage standing.page standing.rule
+        | inr space ↦ space_named def breaks.comes.n breaks.tree breaks.comes.place shape damage g breaks.mid space
       ]
-      | inr index ↦ index_named def breaks.comes.n breaks.tree breaks.comes.place ext breaks.now breaks.comes.shape damage index.page index.rule
+      | inr index ↦ index_named def breaks.comes.n breaks.tree breaks.comes.place shape damage index.page index.rule
     ];
     broken = λ owners forests st own none.
-        let next = next_index GainsEntry ext breaks.now s breaks.mid breaks.tree breaks.x breaks.comes owners forests st in
+        let next = next_index GainsEntry shape noted breaks.now s breaks.mid breaks.tree breaks.x breaks.comes owners forests st in
         elim breaks.breaks [
           | inl tree_or_map ↦ elim tree_or_map [
             | inl standing ↦ standing.broken next.owners_mid next.t next.stands
@@ -394,11 +393,11 @@ module _ {S : Type 0} {g : Ghosts S} (def : TableDef) (cell : Cell) (values : Li
         ];
   }
 
-  pub breaks_unlisting : (ext : Extents) (s : S) (damage : Damage) → BreaksUnlisting g ext s def cell.values block damage → BreaksAround g ext s def block (λ owners forests. IsListedInEach def forests values block) damage
-  breaks_unlisting ext s damage breaks = record {
-    names = names_unlisting g def cell.values block ext s damage breaks;
+  pub breaks_unlisting : (shape : Shape) (noted : SpaceNotes) (s : S) (damage : Damage) → BreaksUnlisting g shape noted s def cell.values block damage → BreaksAround g shape s def block (λ owners forests. IsListedInEach def forests values block) damage
+  breaks_unlisting shape noted s damage breaks = record {
+    names = names_unlisting g def cell.values block shape noted s damage breaks;
     broken = λ owners forests st own listed.
-        let next = next_index LosesEntry ext breaks.now s breaks.mid breaks.tree breaks.x breaks.comes owners forests st in
+        let next = next_index LosesEntry shape noted breaks.now s breaks.mid breaks.tree breaks.x breaks.comes owners forests st in
         elim breaks.breaks [
           | inl tree_or_return ↦ elim tree_or_return [
             | inl broken ↦ broken.broken next.t next.stands.held
@@ -414,13 +413,13 @@ module _ {S : Type 0} {g : Ghosts S} (def : TableDef) (cell : Cell) (values : Li
   }
 
   -- a full map
-  pub full_listing : (before ext : Extents) (old new : S) (owners : List Kind) (forests : TableForests) → FillsListing g before ext old new def cell.values block → StandsAround g before old def owners forests block
-      → AreRightNotes before owners → IsSameShape before ext → MeetsNoFree g ext new
-  full_listing before ext old new owners forests fills st notes shape =
-      let next = next_index GainsEntry before fills.now old fills.mid fills.tree fills.x fills.comes owners forests st in
+  pub full_listing : (shape : Shape) (before noted : SpaceNotes) (old new : S) (owners : List Kind) (forests : TableForests) → FillsListing g shape before noted old new def cell.values block → StandsAround g shape old def owners forests block
+      → AreRightNotes shape before owners → MeetsNoFree g shape new
+  full_listing shape before noted old new owners forests fills st notes =
+      let next = next_index GainsEntry shape before fills.now old fills.mid fills.tree fills.x fills.comes owners forests st in
       let found = fills.full next.owners_mid next.t next.stands in
       record {
-        owners = with_pages fills.now next.owners_mid found.meets.claimed;
+        owners = with_pages shape next.owners_mid found.meets.claimed;
         map = found.stands.map;
         none_free = (found.meets.full (next.notes notes)).no_free;
       }

@@ -11,7 +11,7 @@ use Rattle.store_api.specs.Frame.{NoPage}
 use Rattle.store_api.specs.RunsOverPages.{RunsOverPages}
 use Rattle.store_api.specs.declared.fault.Damage.{Damage}
 use Rattle.store_api.specs.declared.pages.Pages.{Ghosts}
-use Rattle.extent_map.specs.declared.extents.Extents.{Extents}
+use Rattle.store_api.specs.declared.shape.Shape.{Shape}
 use Rattle.extent_map.specs.declared.kind.Kind.{Kind}
 use Rattle.row_page.specs.RowPage.{count_rows}
 use Rattle.mdc_ast.specs.TableLimits.{IsTableDef}
@@ -33,39 +33,40 @@ use Rattle.table_blocks.specs.AroundBlock.{StandsAround}
 use Rattle.table_blocks.specs.BlockChanges.{BreaksAround}
 use Rattle.table_blocks.specs.BlockNow.{IsOwnBlock}
 use Rattle.table_blocks.specs.BlockSteps.{HasFilledSlot, released_changes}
+use Rattle.table_blocks.proofs.AroundLemmas.{some_notes}
 use Rattle.table_blocks.proofs.BlockSpaceLemmas.{rows_same}
 use Rattle.table_blocks.proofs.ClearedSlotsLemmas.{count_cleared}
 use Rattle.table_blocks.proofs.LastRowLemmas.{cleared_change, opens, line_counted, so_far}
 use Rattle.table_blocks.proofs.ListedSpaceLemmas.{listings_are}
 use Rattle.table_trees.proofs.SpaceChainsLemmas.{changes_from}
 
-module _ {S : Type 0} {g : Ghosts S} {Any : Damage → Type 0} (ext : Extents) (s : S) (def : TableDef) (defined : IsTableDef def.number def) (rid : Rid) (low : rid.block < ext.cap) (rows : ℕ) (few : rows < 2 ^ 16)
-    (there : (owners : List Kind) (forests : TableForests) → StandsTable g ext s def owners forests → HasRow (used_row rid.block rows) forests.map) (tree : Tree) (root : tree.root ≡ def.roots.map) (width : tree.width ≡ 7)
+module _ {S : Type 0} {g : Ghosts S} {Any : Damage → Type 0} (shape : Shape) (s : S) (def : TableDef) (defined : IsTableDef def.number def) (rid : Rid) (low : rid.block < shape.extents) (rows : ℕ) (few : rows < 2 ^ 16)
+    (there : (owners : List Kind) (forests : TableForests) → StandsTable g shape s def owners forests → HasRow (used_row rid.block rows) forests.map) (tree : Tree) (root : tree.root ≡ def.roots.map) (width : tree.width ≡ 7)
     (row : Row) (cell : Cell) (is_cell : IsCellOf def cell row.values) (looked cleared : S) (first : RunsOverPages g NoPage (IsTreePage g s tree) Any s looked None) (as_was : (g.state looked).work ≡ (g.state s).work)
-    (second : RunsOverPages g (IsPageOfBlock ext rid.block) (IsPageOfBlock ext rid.block) (BreaksAround g ext looked def rid.block (HasFilledSlot rid.slot g ext looked def rid.block)) looked cleared None)
+    (second : RunsOverPages g (IsPageOfBlock shape rid.block) (IsPageOfBlock shape rid.block) (BreaksAround g shape looked def rid.block (HasFilledSlot rid.slot g shape looked def rid.block)) looked cleared None)
     (count : length (g.state cleared).work ≡ length (g.state looked).work) where
   pub last_space : (line : BlockRow) → line ≡ used_row rid.block rows → (new : S)
-      → ((owners : List Kind) (forests : TableForests) → StandsAround g ext cleared def owners forests line.block → IsOwnBlock ext owners def line.block
-      → MakesChanges ext (pages_of g cleared) (released_changes def cell state.Free line) (pages_of g new))
-      → (owners : List Kind) (forests : TableForests) → StandsTable g ext s def owners forests → rows ≤ 1 → (slots : List (Option Row)) → IsRowAt (spots_of g ext s def owners forests) rid row slots
-      → MakesChanges ext (pages_of g s) (left_changes def row rid.block (count_rows slots)) (pages_of g new)
+      → ((owners : List Kind) (forests : TableForests) → StandsAround g shape cleared def owners forests line.block → IsOwnBlock shape owners def line.block
+      → MakesChanges shape (pages_of g cleared) (released_changes def cell state.Free line) (pages_of g new))
+      → (owners : List Kind) (forests : TableForests) → StandsTable g shape s def owners forests → rows ≤ 1 → (slots : List (Option Row)) → IsRowAt (spots_of g shape s def owners forests) rid row slots
+      → MakesChanges shape (pages_of g s) (left_changes def row rid.block (count_rows slots)) (pages_of g new)
   last_space line is new made owners forests st last slots lies =
-      let o = opens ext s def defined rid low rows few there owners forests st in
-      let run = so_far ext s def defined rid low rows few there tree root width row looked cleared first as_was second count {Breaks = NoDamage} in
-      let stays = rows_same ext s cleared def rid.block owners forests o.0 o.1 run.touches run.works.steady.is_told (count ∙ ap length as_was) in
-      let step = cleared_change ext s def defined rid low rows few there tree root width row looked cleared first as_was second count owners forests o.0 o.1 in
-      let counted = line_counted ext s def defined rid low rows few there row slots owners forests st lies in
+      let o = opens shape s def defined rid low rows few there owners forests st in
+      let run = so_far shape s def defined rid low rows few there tree root width row looked cleared first as_was second count {Breaks = NoDamage} in
+      let stays = rows_same shape s cleared def rid.block owners forests o.0 o.1 run.touches run.works.steady.is_told (count ∙ ap length as_was) in
+      let step = cleared_change shape s def defined rid low rows few there tree root width row looked cleared first as_was second count some_notes owners forests o.0 o.1 in
+      let counted = line_counted shape s def defined rid low rows few there row slots owners forests st lies in
       let one : count_rows slots ≡ 1 = omega (arith, counted, last, count_cleared slots rid.slot row lies.slot) in
       let row_is : rows ≡ 1 = counted ∙ one in
-      let released : MakesChanges ext (pages_of g cleared) (released_changes def cell state.Free (used_row rid.block rows)) (pages_of g new) =
+      let released : MakesChanges shape (pages_of g cleared) (released_changes def cell state.Free (used_row rid.block rows)) (pages_of g new) =
       subst
-      (λ (l : BlockRow). (owners : List Kind) (forests : TableForests) → StandsAround g ext cleared def owners forests l.block → IsOwnBlock ext owners def l.block
-      → MakesChanges ext (pages_of g cleared) (released_changes def cell state.Free l) (pages_of g new))
+      (λ (l : BlockRow). (owners : List Kind) (forests : TableForests) → StandsAround g shape cleared def owners forests l.block → IsOwnBlock shape owners def l.block
+      → MakesChanges shape (pages_of g cleared) (released_changes def cell state.Free l) (pages_of g new))
       is made owners forests step.stands o.1 in
-      let single : MakesChanges ext (pages_of g cleared) (left_changes def row rid.block 1) (pages_of g new) =
+      let single : MakesChanges shape (pages_of g cleared) (left_changes def row rid.block 1) (pages_of g new) =
       subst
-      (λ (listings : List (TreePlace × Entry)). MakesChanges ext (pages_of g cleared) (AmendEntry (map_place def) (map_entry rid.block 1 1) (map_entry rid.block 0 0) ∷ removed_entries listings) (pages_of g new))
+      (λ (listings : List (TreePlace × Entry)). MakesChanges shape (pages_of g cleared) (AmendEntry (map_place def) (map_entry rid.block 1 1) (map_entry rid.block 0 0) ∷ removed_entries listings) (pages_of g new))
       (listings_are def cell row rid.block is_cell)
-      (subst (λ (n : ℕ). MakesChanges ext (pages_of g cleared) (released_changes def cell state.Free (used_row rid.block n)) (pages_of g new)) row_is released) in
-      changes_from ext (pages_of g s) (pages_of g cleared) (pages_of g new) (left_changes def row rid.block (count_rows slots)) stays
-      (subst (λ (n : ℕ). MakesChanges ext (pages_of g cleared) (left_changes def row rid.block n) (pages_of g new)) (sym one) single)
+      (subst (λ (n : ℕ). MakesChanges shape (pages_of g cleared) (released_changes def cell state.Free (used_row rid.block n)) (pages_of g new)) row_is released) in
+      changes_from shape (pages_of g s) (pages_of g cleared) (pages_of g new) (left_changes def row rid.block (count_rows slots)) stays
+      (subst (λ (n : ℕ). MakesChanges shape (pages_of g cleared) (left_changes def row rid.block n) (pages_of g new)) (sym one) single)

@@ -6,11 +6,11 @@ use Rattle.mdc_ast.specs.declared.definition.TableDef.{TableDef}
 use Rattle.store_api.specs.Frame.{Touches}
 use Rattle.store_api.specs.declared.fault.Damage.{Damage}
 use Rattle.store_api.specs.declared.pages.Pages.{Ghosts}
+use Rattle.store_api.specs.declared.shape.Shape.{Shape}
 use Rattle.store_api.proofs.FrameLemmas.{touches_wider}
 use Rattle.extent_map.specs.Damages.{BreaksSpace}
-use Rattle.extent_map.specs.Owners.{IsSameShape}
-use Rattle.extent_map.specs.declared.extents.Extents.{Extents}
 use Rattle.extent_map.specs.declared.kind.Kind.{Kind}
+use Rattle.extent_map.specs.declared.space_notes.SpaceNotes.{SpaceNotes}
 use Rattle.extent_map.proofs.DamagesLemmas.{breaks_space_never}
 use Rattle.extent_map.proofs.UsedPagesLemmas.{no_space_page}
 use Rattle.entry_tree.specs.EntryBounds.{IsEntryOf}
@@ -41,12 +41,12 @@ use Rattle.table_blocks.proofs.WithEntryLemmas.{there_with}
 use Rattle.table_blocks.proofs.KeptAroundLemmas.{claims_not_free, forests_now, moves_claimed, moves_same, rows_still}
 
 -- page 0 is in no tree
-root_apart : {S : Type 0} {g : Ghosts S} {s : S} {tree : Tree} (ext : Extents) (owners : List Kind) (t : Forest) → StandsTree g ext s tree owners t → 0 < times 0 t → ⊥
-root_apart ext owners t st there = let used = st.used 0 there in no_space_page ext 0 used.page (inl refl)
+root_apart : {S : Type 0} {g : Ghosts S} {s : S} {tree : Tree} (shape : Shape) (owners : List Kind) (t : Forest) → StandsTree g shape s tree owners t → 0 < times 0 t → ⊥
+root_apart shape owners t st there = let used = st.used 0 there in no_space_page shape 0 used.page (inl refl)
 
 -- no page came, and page 0 wasn't touched
-steady_count : {S : Type 0} {g : Ghosts S} (ext : Extents) (old new : S) (Mine : ℕ → Type 0) → Touches g Mine old new → length (g.state new).work ≡ length (g.state old).work → (Mine 0 → ⊥) → GrowsPages g ext old new
-steady_count ext old new Mine touched count apart = record {
+steady_count : {S : Type 0} {g : Ghosts S} (shape : Shape) (old new : S) (Mine : ℕ → Type 0) → Touches g Mine old new → length (g.state new).work ≡ length (g.state old).work → (Mine 0 → ⊥) → GrowsPages g shape old new
+steady_count shape old new Mine touched count apart = record {
   stated = record {
     same = λ still bytes holds. touched.others 0 bytes apart holds;
     grown = λ more bytes holds. absurd (omega (arith, more, count));
@@ -56,9 +56,9 @@ steady_count ext old new Mine touched count apart = record {
 }
 
 -- what damage of the extent map names
-names_space : {S : Type 0} {g : Ghosts S} {def : TableDef} (ext : Extents) (s : S) (damage : Damage) → BreaksSpace g ext s damage → NamesTablePart ext def damage
-names_space ext s damage (inl b) = NamesTablePart.count b.rule b.page
-names_space ext s damage (inr b) = let there = b.1 in NamesTablePart.map_page there.rule (omega (arith, there.page), omega (arith, there.page, there.on_map))
+names_space : {S : Type 0} {g : Ghosts S} {def : TableDef} (shape : Shape) (s : S) (damage : Damage) → BreaksSpace g shape s damage → NamesTablePart shape def damage
+names_space shape s damage (inl b) = NamesTablePart.count b.rule b.page
+names_space shape s damage (inr b) = let there = b.1 in NamesTablePart.map_page there.rule (omega (arith, there.page), omega (arith, there.page, there.on_map))
 
 module _ (tree : Tree) (def : TableDef) (root : tree.root ≡ def.roots.map) (width : tree.width ≡ 7) where
   at_map : place_of_tree tree ≡ map_place def
@@ -69,8 +69,8 @@ module _ (tree : Tree) (def : TableDef) (root : tree.root ≡ def.roots.map) (wi
 
 module _ {S : Type 0} {g : Ghosts S} (tree : Tree) (def : TableDef) (root : tree.root ≡ def.roots.map) (width : tree.width ≡ 7) where
   -- the block map is the tree of its handle
-  pub map_around : (ext : Extents) (s : S) (owners : List Kind) (forests : TableForests) (block : ℕ) → StandsAround g ext s def owners forests block → StandsTree g ext s tree owners forests.map
-  map_around ext s owners forests block st =
+  pub map_around : (shape : Shape) (s : S) (owners : List Kind) (forests : TableForests) (block : ℕ) → StandsAround g shape s def owners forests block → StandsTree g shape s tree owners forests.map
+  map_around shape s owners forests block st =
       let at : HoldsTreeAt g s (place_of_tree tree) forests.map = subst (λ place. HoldsTreeAt g s place forests.map) (sym (at_map tree def root width)) st.trees.held.0 in
       record {
         map = st.trees.map;
@@ -79,102 +79,102 @@ module _ {S : Type 0} {g : Ghosts S} (tree : Tree) (def : TableDef) (root : tree
       }
 
   -- the row of the block is another one now, on the same pages
-  pub replaces_line : {After : Spot → Spot → Type 0} → IsSpotChange After → (ext : Extents) (old new : S) (block : ℕ) (was is : BlockRow) (owners : List Kind) (forests : TableForests)
-      → StandsAround g ext old def owners forests block → IsOwnBlock ext owners def block → was.block ≡ block → is.block ≡ block
+  pub replaces_line : {After : Spot → Spot → Type 0} → IsSpotChange After → (shape : Shape) (noted : SpaceNotes) (old new : S) (block : ℕ) (was is : BlockRow) (owners : List Kind) (forests : TableForests)
+      → StandsAround g shape old def owners forests block → IsOwnBlock shape owners def block → was.block ≡ block → is.block ≡ block
       → HasRow was forests.map → ChangesRowTo g new tree was is forests.map → Touches g (IsTreePage g old tree) old new → (g.state new).is_told ≡ (g.state old).is_told
       → length (g.state new).work ≡ length (g.state old).work
-      → (moves : MovesLine g After ext ext old new def block is owners forests) × (moves.owners_now ≡ owners)
+      → (moves : MovesLine g After shape noted noted old new def block is owners forests) × (moves.owners_now ≡ owners)
       × ((p : ℕ) → sum_by (times p) (forests_in_order moves.forests_now) ≡ sum_by (times p) (forests_in_order forests))
-  replaces_line {After} change ext old new block was is owners forests st own was_is is_is there changes touched told count =
+  replaces_line {After} change shape noted old new block was is owners forests st own was_is is_is there changes touched told count =
       let rest = forests.composite ∷ forests.dims ++ forests.indexes in
       let longer : length (g.state old).work ≤ length (g.state new).work = omega (arith, count) in
-      let small : is.block < 2 ^ 32 = subst (λ b. b < 2 ^ 32) (sym is_is) (small_block ext block own.within) in
-      let one = map_around ext old owners forests block st in
-      let trees : ChangesTrees g ext ext new (tree_places def) owners (forests_in_order forests) owners (changes.after ∷ rest) =
-      amends_beside ext old new (tree_places def) (forests_in_order forests) tree 0 (row_entry was) (row_entry is) owners forests.map (in_places tree def root width) refl st.trees touched told longer one changes in
-      let wide : Touches g (IsSpaceOfTrees g ext old (tree_places def)) old new =
-      touches_wider touched (λ p on. place_space ext old (tree_places def) 0 (place_of_tree tree) p (in_places tree def root width) (space_of_amending ext old tree p on)) in
+      let small : is.block < 2 ^ 32 = subst (λ b. b < 2 ^ 32) (sym is_is) (small_block shape block own.within) in
+      let one = map_around shape old owners forests block st in
+      let trees : ChangesTrees g shape noted noted new (tree_places def) owners (forests_in_order forests) owners (changes.after ∷ rest) =
+      amends_beside shape noted old new (tree_places def) (forests_in_order forests) tree 0 (row_entry was) (row_entry is) owners forests.map (in_places tree def root width) refl st.trees touched told longer one changes in
+      let wide : Touches g (IsSpaceOfTrees g shape old (tree_places def)) old new =
+      touches_wider touched (λ p on. place_space shape old (tree_places def) 0 (place_of_tree tree) p (in_places tree def root width) (space_of_amending shape old tree p on)) in
       let lines : ChangesLine block forests.map changes.after =
       subst (λ b. ChangesLine b forests.map changes.after) is_is (replaces_entry forests.map changes.after is small st.map.entries st.map.form was changes.rest (was_is ∙ sym is_is) changes.was changes.is) in
-      let grows : GrowsPages g ext old new = steady_count ext old new (IsTreePage g old tree) touched count (λ on. root_apart ext owners forests.map one (on forests.map one.held)) in (
+      let grows : GrowsPages g shape old new = steady_count shape old new (IsTreePage g old tree) touched count (λ on. root_apart shape owners forests.map one (on forests.map one.held)) in (
         record {
           owners_now = owners;
-          forests_now = forests_now ext ext old new def block owners owners forests changes.after st trees wide told lines;
-          changes = moves_same ext ext old new def block owners owners forests changes.after st trees wide told lines change refl longer grows;
+          forests_now = forests_now shape noted noted old new def block owners owners forests changes.after st trees wide told lines;
+          changes = moves_same shape noted noted old new def block owners owners forests changes.after st trees wide told lines change refl longer grows;
           line_there = subst (IsEntryOf (row_entry is)) (sym changes.is) (there_with (row_entry is) changes.rest);
           composite = refl;
           dims = refl;
-          rows = rows_still ext ext old new def block owners owners forests changes.after st trees wide told lines own longer;
+          rows = rows_still shape noted noted old new def block owners owners forests changes.after st trees wide told lines own longer;
         },
         refl,
         λ p. omega (arith, changes.pages p, sum_by-cons (times p) changes.after rest, sum_by-cons (times p) forests.map rest),
       )
 
   -- a row of the block came into the map, which didn't name it
-  pub enters_line : (before ext : Extents) (old new : S) (block : ℕ) (line : BlockRow) (owners : List Kind) (forests : TableForests) → StandsAround g before old def owners forests block
-      → IsOwnBlock before owners def block → line.block ≡ block → IsUnnamed forests.map block → AddsEntry g before ext old new tree (row_entry line) owners forests.map → IsSameShape before ext
-      → Touches g (IsTreeSpace g before old tree) old new → (g.state new).is_told ≡ (g.state old).is_told → length (g.state old).work ≤ length (g.state new).work
-      → MovesLine g AfterClaims before ext old new def block line owners forests
-  enters_line before ext old new block line owners forests st own is unnamed adds shape touched told longer =
+  pub enters_line : (shape : Shape) (before noted : SpaceNotes) (old new : S) (block : ℕ) (line : BlockRow) (owners : List Kind) (forests : TableForests) → StandsAround g shape old def owners forests block
+      → IsOwnBlock shape owners def block → line.block ≡ block → IsUnnamed forests.map block → AddsEntry g shape before noted old new tree (row_entry line) owners forests.map
+      → Touches g (IsTreeSpace g shape old tree) old new → (g.state new).is_told ≡ (g.state old).is_told → length (g.state old).work ≤ length (g.state new).work
+      → MovesLine g AfterClaims shape before noted old new def block line owners forests
+  enters_line shape before noted old new block line owners forests st own is unnamed adds touched told longer =
       let rest = forests.composite ∷ forests.dims ++ forests.indexes in
-      let owners_now = with_pages before owners adds.claimed in
-      let small : line.block < 2 ^ 32 = subst (λ b. b < 2 ^ 32) (sym is) (small_block before block own.within) in
-      let trees : ChangesTrees g before ext new (tree_places def) owners (forests_in_order forests) owners_now (adds.after ∷ rest) =
-      adds_beside before ext old new (tree_places def) (forests_in_order forests) tree 0 (row_entry line) owners forests.map (in_places tree def root width) refl st.trees shape touched told (map_around before old owners forests block st) adds in
-      let wide : Touches g (IsSpaceOfTrees g before old (tree_places def)) old new =
-      touches_wider touched (λ p on. place_space before old (tree_places def) 0 (place_of_tree tree) p (in_places tree def root width) (space_of_tree before old tree p on)) in
+      let owners_now = with_pages shape owners adds.claimed in
+      let small : line.block < 2 ^ 32 = subst (λ b. b < 2 ^ 32) (sym is) (small_block shape block own.within) in
+      let trees : ChangesTrees g shape before noted new (tree_places def) owners (forests_in_order forests) owners_now (adds.after ∷ rest) =
+      adds_beside shape before noted old new (tree_places def) (forests_in_order forests) tree 0 (row_entry line) owners forests.map (in_places tree def root width) refl st.trees touched told (map_around shape old owners forests block st) adds in
+      let wide : Touches g (IsSpaceOfTrees g shape old (tree_places def)) old new =
+      touches_wider touched (λ p on. place_space shape old (tree_places def) 0 (place_of_tree tree) p (in_places tree def root width) (space_of_tree shape old tree p on)) in
       let lines : ChangesLine block forests.map adds.after =
       subst (λ b. ChangesLine b forests.map adds.after) is (enters_entry forests.map adds.after line small st.map.entries st.map.form (subst (IsUnnamed forests.map) (sym is) unnamed) adds.adds) in
       record {
         owners_now = owners_now;
-        forests_now = forests_now before ext old new def block owners owners_now forests adds.after st trees wide told lines;
-        changes = moves_claimed before ext old new def block owners owners_now forests adds.after st trees wide told lines (claims_not_free before owners adds.claimed) longer
-            (grows_pages_with before old new owners adds.claimed adds.claims adds.grows);
+        forests_now = forests_now shape before noted old new def block owners owners_now forests adds.after st trees wide told lines;
+        changes = moves_claimed shape before noted old new def block owners owners_now forests adds.after st trees wide told lines (claims_not_free shape owners adds.claimed) longer
+            (grows_pages_with shape old new owners adds.claimed adds.claims adds.grows);
         line_there = subst (IsEntryOf (row_entry line)) (sym adds.adds) (there_with (row_entry line) (leaf_entries forests.map));
         composite = refl;
         dims = refl;
-        rows = rows_still before ext old new def block owners owners_now forests adds.after st trees wide told lines own longer;
+        rows = rows_still shape before noted old new def block owners owners_now forests adds.after st trees wide told lines own longer;
       }
 
   -- the pages, and the damage
-  pub page_of_map : (ext : Extents) (s : S) (block p : ℕ) → IsTreePage g s tree p → (owners : List Kind) (forests : TableForests) → StandsAround g ext s def owners forests block → 0 < sum_by (times p) (forests_in_order forests)
-  page_of_map ext s block p is owners forests st =
-      let one = map_around ext s owners forests block st in
+  pub page_of_map : (shape : Shape) (s : S) (block p : ℕ) → IsTreePage g s tree p → (owners : List Kind) (forests : TableForests) → StandsAround g shape s def owners forests block → 0 < sum_by (times p) (forests_in_order forests)
+  page_of_map shape s block p is owners forests st =
+      let one = map_around shape s owners forests block st in
       omega (arith, is forests.map one.held, sum_by-cons (times p) forests.map (forests.composite ∷ forests.dims ++ forests.indexes))
 
-  pub place_of_map : (ext : Extents) (s : S) (block p : ℕ) → IsTreePage g s tree p → IsPlaceAround g ext s def block p
-  place_of_map ext s block p is owners forests st own = inl (page_of_map ext s block p is owners forests st)
+  pub place_of_map : (shape : Shape) (s : S) (block p : ℕ) → IsTreePage g s tree p → IsPlaceAround g shape s def block p
+  place_of_map shape s block p is owners forests st own = inl (page_of_map shape s block p is owners forests st)
 
-  pub space_of_map : (ext : Extents) (s : S) (block p : ℕ) → IsTreeSpace g ext s tree p → IsSpaceAround g ext s def block p
-  space_of_map ext s block p is owners forests st own = elim (is owners forests.map (map_around ext s owners forests block st)) [
+  pub space_of_map : (shape : Shape) (s : S) (block p : ℕ) → IsTreeSpace g shape s tree p → IsSpaceAround g shape s def block p
+  space_of_map shape s block p is owners forests st own = elim (is owners forests.map (map_around shape s owners forests block st)) [
     | inl here ↦ inl (omega (arith, here, sum_by-cons (times p) forests.map (forests.composite ∷ forests.dims ++ forests.indexes)))
     | inr rest ↦ inr (inr rest)
   ]
 
-  pub breaks_replacing : (ext : Extents) (s : S) (block : ℕ) (was : BlockRow) (damage : Damage) → BreaksMapTree g s tree (HasRow was) damage
-      → BreaksAround g ext s def block (λ owners forests. HasRow was forests.map) damage
-  breaks_replacing ext s block was damage (inl b) = record {
+  pub breaks_replacing : (shape : Shape) (s : S) (block : ℕ) (was : BlockRow) (damage : Damage) → BreaksMapTree g s tree (HasRow was) damage
+      → BreaksAround g shape s def block (λ owners forests. HasRow was forests.map) damage
+  breaks_replacing shape s block was damage (inl b) = record {
     names = NamesTablePart.tree b.rule (0, omega arith, sym (b.page ∙ root));
-    broken = λ owners forests st own there. let one = map_around ext s owners forests block st in b.broken forests.map one.held;
+    broken = λ owners forests st own there. let one = map_around shape s owners forests block st in b.broken forests.map one.held;
   }
-  breaks_replacing ext s block was damage (inr b) = record {
+  breaks_replacing shape s block was damage (inr b) = record {
     names = NamesTablePart.block_map b.rule (b.page ∙ root);
-    broken = λ owners forests st own there. let one = map_around ext s owners forests block st in b.broken forests.map one.held st.map.form there;
+    broken = λ owners forests st own there. let one = map_around shape s owners forests block st in b.broken forests.map one.held st.map.form there;
   }
 
-  pub breaks_entering : (ext : Extents) (s : S) (block : ℕ) (line : BlockRow) (damage : Damage) → line.block ≡ block → BreaksEntering g ext s tree line damage
-      → BreaksAround g ext s def block (λ owners forests. IsUnnamed forests.map block) damage
-  breaks_entering ext s block line damage is (inl (inl b)) = record {
+  pub breaks_entering : (shape : Shape) (s : S) (block : ℕ) (line : BlockRow) (damage : Damage) → line.block ≡ block → BreaksEntering g shape s tree line damage
+      → BreaksAround g shape s def block (λ owners forests. IsUnnamed forests.map block) damage
+  breaks_entering shape s block line damage is (inl (inl b)) = record {
     names = NamesTablePart.tree b.rule (0, omega arith, sym (b.page ∙ root));
-    broken = λ owners forests st own unnamed. b.broken owners forests.map (map_around ext s owners forests block st);
+    broken = λ owners forests st own unnamed. b.broken owners forests.map (map_around shape s owners forests block st);
   }
-  breaks_entering ext s block line damage is (inl (inr b)) = record {
-    names = names_space ext s damage b;
+  breaks_entering shape s block line damage is (inl (inr b)) = record {
+    names = names_space shape s damage b;
     broken = λ owners forests st own unnamed. breaks_space_never damage st.trees.map b;
   }
-  breaks_entering ext s block line damage is (inr b) = record {
+  breaks_entering shape s block line damage is (inr b) = record {
     names = NamesTablePart.block_map b.rule (b.page ∙ root);
     broken = λ owners forests st own unnamed.
-        b.broken owners forests.map (map_around ext s owners forests block st) st.map.form
-        (λ there. unnamed (row_entry line) there (row_block line (subst (λ n. n < 2 ^ 32) (sym is) (small_block ext block own.within)) ∙ is));
+        b.broken owners forests.map (map_around shape s owners forests block st) st.map.form
+        (λ there. unnamed (row_entry line) there (row_block line (subst (λ n. n < 2 ^ 32) (sym is) (small_block shape block own.within)) ∙ is));
   }

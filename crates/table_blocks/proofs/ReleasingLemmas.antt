@@ -11,10 +11,10 @@ use Rattle.store_api.specs.RunsOverPages.{RunsOverPages}
 use Rattle.store_api.specs.declared.fault.Damage.{Damage}
 use Rattle.store_api.specs.declared.fault.StoreFault.{StoreFault}
 use Rattle.store_api.specs.declared.pages.Pages.{Ghosts}
+use Rattle.store_api.specs.declared.shape.Shape.{Shape}
 use Rattle.store_api.proofs.RunsOverPagesLemmas.{runs_wider}
-use Rattle.extent_map.specs.Owners.{IsSameShape}
-use Rattle.extent_map.specs.declared.extents.Extents.{Extents}
 use Rattle.extent_map.specs.declared.kind.Kind.{Kind}
+use Rattle.extent_map.specs.declared.space_notes.SpaceNotes.{SpaceNotes}
 use Rattle.entry_tree.specs.Forest.{Forest, times}
 use Rattle.entry_tree.specs.HeldTrees.{HoldsTree, IsTreePage}
 use Rattle.entry_tree.specs.declared.tree.Tree.{Tree}
@@ -42,94 +42,94 @@ use Rattle.table_blocks.proofs.SpotChangesLemmas.{returns_change}
 
 module _ {S : Type 0} {g : Ghosts S} where
   -- a call that expects less
-  breaks_more : (ext : Extents) (s : S) (def : TableDef) (block : ℕ) (Expected More : List Kind → TableForests → Type 0) (damage : Damage) → ((owners : List Kind) (forests : TableForests) → More owners forests → Expected owners forests)
-      → BreaksAround g ext s def block Expected damage → BreaksAround g ext s def block More damage
-  breaks_more ext s def block Expected More damage less breaks = record {
+  breaks_more : (shape : Shape) (s : S) (def : TableDef) (block : ℕ) (Expected More : List Kind → TableForests → Type 0) (damage : Damage) → ((owners : List Kind) (forests : TableForests) → More owners forests → Expected owners forests)
+      → BreaksAround g shape s def block Expected damage → BreaksAround g shape s def block More damage
+  breaks_more shape s def block Expected More damage less breaks = record {
     names = breaks.names;
     broken = λ owners forests st own more. breaks.broken owners forests st own (less owners forests more);
   }
 
   -- what taking a block out of the indexes may name, where it is listed under this cell
-  breaks_under : (def : TableDef) (cell : Cell) (block : ℕ) → block < 2 ^ 32 → HasBlockIndexes def → (ext : Extents) (s : S) (damage : Damage) → BreaksUnlisting g ext s def cell.values block damage
-      → BreaksAround g ext s def block (λ owners forests. IsListedUnder def forests cell block) damage
-  breaks_under def cell block small has ext s damage breaks = record {
-    names = names_unlisting g def cell.values block ext s damage breaks;
+  breaks_under : (def : TableDef) (cell : Cell) (block : ℕ) → block < 2 ^ 32 → HasBlockIndexes def → (shape : Shape) (noted : SpaceNotes) (s : S) (damage : Damage) → BreaksUnlisting g shape noted s def cell.values block damage
+      → BreaksAround g shape s def block (λ owners forests. IsListedUnder def forests cell block) damage
+  breaks_under def cell block small has shape noted s damage breaks = record {
+    names = names_unlisting g def cell.values block shape noted s damage breaks;
     broken = λ owners forests st own under.
-        let of_row = breaks_unlisting def cell under.values block small has under.of_cell.cell_is under.of_cell.keys ext s damage breaks in
+        let of_row = breaks_unlisting def cell under.values block small has under.of_cell.cell_is under.of_cell.keys shape noted s damage breaks in
         of_row.broken owners forests st own under.listed;
   }
 
-  module _ (def : TableDef) (defined : IsTableDef def.number def) (tree : Tree) (root : tree.root ≡ def.roots.map) (width : tree.width ≡ 7) (ext : Extents) (old : S) (line : BlockRow) (given : BlockState) (cell : Cell) where
+  module _ (def : TableDef) (defined : IsTableDef def.number def) (tree : Tree) (root : tree.root ≡ def.roots.map) (width : tree.width ≡ 7) (shape : Shape) (noted : SpaceNotes) (old : S) (line : BlockRow) (given : BlockState) (cell : Cell) where
     pub runs_replacing : (mid : S) (fault : Option StoreFault) → RunsOverPages g (IsTreePage g old tree) (IsTreePage g old tree) (BreaksMapTree g old tree (HasRow line)) old mid fault
-        → RunsOverPages g (IsPlaceAround g ext old def line.block) (IsPlaceAround g ext old def line.block) (BreaksAround g ext old def line.block (ExpectsReleasing def line cell)) old mid fault
+        → RunsOverPages g (IsPlaceAround g shape old def line.block) (IsPlaceAround g shape old def line.block) (BreaksAround g shape old def line.block (ExpectsReleasing def line cell)) old mid fault
     runs_replacing mid fault run =
-        runs_wider run (λ p there at. place_of_map tree def root width ext old line.block p at) (λ p at. place_of_map tree def root width ext old line.block p at)
-        (λ damage breaks. breaks_more ext old def line.block (λ owners forests. HasRow line forests.map) (ExpectsReleasing def line cell) damage (λ owners forests expects. expects.line_there)
-        (breaks_replacing tree def root width ext old line.block line damage breaks))
+        runs_wider run (λ p there at. place_of_map tree def root width shape old line.block p at) (λ p at. place_of_map tree def root width shape old line.block p at)
+        (λ damage breaks. breaks_more shape old def line.block (λ owners forests. HasRow line forests.map) (ExpectsReleasing def line cell) damage (λ owners forests expects. expects.line_there)
+        (breaks_replacing tree def root width shape old line.block line damage breaks))
 
     module _ (mid : S) (there : (t : Forest) → HoldsTree g old tree t → HasRow line t) (changes : (t : Forest) → HoldsTree g old tree t → IsMapForm t → ChangesRowTo g mid tree line (released_line given line.block) t)
         (count : length (g.state mid).work ≡ length (g.state old).work) (first : RunsOverPages g (IsTreePage g old tree) (IsTreePage g old tree) (BreaksMapTree g old tree (HasRow line)) old mid None) where
-      pub moves_line : (owners : List Kind) (forests : TableForests) → StandsAround g ext old def owners forests line.block → IsOwnBlock ext owners def line.block
-          → (moves : MovesLine g AfterReturns ext ext old mid def line.block (released_line given line.block) owners forests) × (moves.owners_now ≡ owners)
+      pub moves_line : (owners : List Kind) (forests : TableForests) → StandsAround g shape old def owners forests line.block → IsOwnBlock shape owners def line.block
+          → (moves : MovesLine g AfterReturns shape noted noted old mid def line.block (released_line given line.block) owners forests) × (moves.owners_now ≡ owners)
           × ((p : ℕ) → sum_by (times p) (forests_in_order moves.forests_now) ≡ sum_by (times p) (forests_in_order forests))
       moves_line owners forests st own =
-          let held = (map_around tree def root width ext old owners forests line.block st).held in
-          replaces_line tree def root width returns_change ext old mid line.block line (released_line given line.block) owners forests st own refl refl (there forests.map held) (changes forests.map held st.map.form) first.touches
+          let held = (map_around tree def root width shape old owners forests line.block st).held in
+          replaces_line tree def root width returns_change shape noted old mid line.block line (released_line given line.block) owners forests st own refl refl (there forests.map held) (changes forests.map held st.map.form) first.touches
           first.works.steady.is_told count
 
-      listed_still : (owners : List Kind) (forests : TableForests) (moves : MovesLine g AfterReturns ext ext old mid def line.block (released_line given line.block) owners forests) (values : List Value)
+      listed_still : (owners : List Kind) (forests : TableForests) (moves : MovesLine g AfterReturns shape noted noted old mid def line.block (released_line given line.block) owners forests) (values : List Value)
           → IsListedInEach def forests values line.block → IsListedInEach def moves.forests_now values line.block
       listed_still owners forests moves values listed = record {
         composite = subst (IsListedIn def (cell_parts def) values line.block) (sym moves.composite) listed.composite;
         dims = subst (AllZip (λ dim index. IsListedIn def (rising_parts dim) values line.block index) def.dims) (sym moves.dims) listed.dims;
       }
 
-      module _ (small : line.block < 2 ^ 32) (idle : given ≢ Used) (now : Extents) (new : S)
-          (unlists : (owners : List Kind) (trees : List Forest) → StandTrees g ext mid owners (block_index_places def) trees → UnlistsBlock g ext now new def cell.values line.block owners trees)
-          (count_now : length (g.state new).work ≡ length (g.state mid).work) (shape : IsSameShape ext now) (touched : Touches g (IsTreesOrMapPage g ext mid (block_index_places def)) mid new)
+      module _ (small : line.block < 2 ^ 32) (idle : given ≢ Used) (now : SpaceNotes) (new : S)
+          (unlists : (owners : List Kind) (trees : List Forest) → StandTrees g shape mid owners (block_index_places def) trees → UnlistsBlock g shape noted now new def cell.values line.block owners trees)
+          (count_now : length (g.state new).work ≡ length (g.state mid).work) (touched : Touches g (IsTreesOrMapPage g shape mid (block_index_places def)) mid new)
           (told : (g.state new).is_told ≡ (g.state mid).is_told) where
-        pub releases_block : (owners : List Kind) (forests : TableForests) (values : List Value) → StandsAround g ext old def owners forests line.block → IsOwnBlock ext owners def line.block → IsKeyedCell def cell values
-            → ReleasesBlock g ext now old new def line.block given values owners forests
+        pub releases_block : (owners : List Kind) (forests : TableForests) (values : List Value) → StandsAround g shape old def owners forests line.block → IsOwnBlock shape owners def line.block → IsKeyedCell def cell values
+            → ReleasesBlock g shape noted now old new def line.block given values owners forests
         releases_block owners forests values st own is =
             let has = has_block_indexes def.number def defined in
             let m = (moves_line owners forests st own).0 in
-            let own_mid = own_still ext ext old mid def line.block owners m.owners_now forests m.forests_now m.changes own in
-            let stand = indexes_around def line.block has ext mid m.owners_now m.forests_now m.changes.stands in
-            let u = unlists_entries def cell values line.block small has is.cell_is is.keys ext now mid new m.owners_now m.forests_now m.changes.stands own_mid
-            (unlists m.owners_now (m.forests_now.composite ∷ m.forests_now.dims) stand) shape touched told count_now in
-            let both = around_then returns_change ext ext now old mid new def line.block owners m.owners_now u.0.owners_now forests m.forests_now u.0.forests_now m.changes u.0.changes in
+            let own_mid = own_still shape noted noted old mid def line.block owners m.owners_now forests m.forests_now m.changes own in
+            let stand = indexes_around def line.block has shape mid m.owners_now m.forests_now m.changes.stands in
+            let u = unlists_entries def cell values line.block small has is.cell_is is.keys shape noted now mid new m.owners_now m.forests_now m.changes.stands own_mid
+            (unlists m.owners_now (m.forests_now.composite ∷ m.forests_now.dims) stand) touched told count_now in
+            let both = around_then returns_change shape noted noted now old mid new def line.block owners m.owners_now u.0.owners_now forests m.forests_now u.0.forests_now m.changes u.0.changes in
             let line_now = subst (HasRow (released_line given line.block)) (sym u.0.same_map) m.line_there in
             record {
               owners_now = u.0.owners_now;
               forests_now = u.0.forests_now;
               changes = both;
               line = line_now;
-              spot = spot_of_released now new def u.0.owners_now u.0.forests_now defined given idle line.block both.stands
-                  (own_still ext now old new def line.block owners u.0.owners_now forests u.0.forests_now both own) line_now;
+              spot = spot_of_released shape new def u.0.owners_now u.0.forests_now defined given idle line.block both.stands
+                  (own_still shape noted now old new def line.block owners u.0.owners_now forests u.0.forests_now both own) line_now;
               unlisted = λ listed. u.1 (listed_still owners forests m values listed);
             }
 
-        pub turns_block : (owners : List Kind) (forests : TableForests) → StandsTable g ext old def owners forests → ExpectsReleasing def line cell owners forests
-            → TurnsReleased g ext now old new def line.block given owners forests
+        pub turns_block : (owners : List Kind) (forests : TableForests) → StandsTable g shape old def owners forests → ExpectsReleasing def line cell owners forests
+            → TurnsReleased g shape noted now old new def line.block given owners forests
         turns_block owners forests st expects =
-            let own = own_of_small ext old def owners forests defined st line expects.line_there small in
-            let released = releases_block owners forests expects.listed.values (around_block ext old def owners forests defined st line.block) own expects.listed.of_cell in
+            let own = own_of_small shape old def owners forests defined st line expects.line_there small in
+            let released = releases_block owners forests expects.listed.values (around_block shape old def owners forests defined st line.block) own expects.listed.of_cell in
             record {
               owners_now = released.owners_now;
               forests_now = released.forests_now;
-              turns = turns_released returns_change ext now old new def line.block owners released.owners_now forests released.forests_now defined released.changes given idle (record {
-                own = own_still ext now old new def line.block owners released.owners_now forests released.forests_now released.changes own;
+              turns = turns_released returns_change shape noted now old new def line.block owners released.owners_now forests released.forests_now defined released.changes given idle (record {
+                own = own_still shape noted now old new def line.block owners released.owners_now forests released.forests_now released.changes own;
                 line = released.line;
                 unlisted = released.unlisted expects.listed.listed;
               });
             }
 
       pub runs_released : line.block < 2 ^ 32 → (new : S) (fault : Option StoreFault)
-          → RunsOverPages g (IsTreesOrMapPage g ext mid (block_index_places def)) (IsTreesOrMapPage g ext mid (block_index_places def)) (BreaksUnlisting g ext mid def cell.values line.block) mid new fault
-          → RunsOverPages g (IsPlaceAround g ext old def line.block) (IsPlaceAround g ext old def line.block) (BreaksAround g ext old def line.block (ExpectsReleasing def line cell)) old new fault
+          → RunsOverPages g (IsTreesOrMapPage g shape mid (block_index_places def)) (IsTreesOrMapPage g shape mid (block_index_places def)) (BreaksUnlisting g shape noted mid def cell.values line.block) mid new fault
+          → RunsOverPages g (IsPlaceAround g shape old def line.block) (IsPlaceAround g shape old def line.block) (BreaksAround g shape old def line.block (ExpectsReleasing def line cell)) old new fault
       runs_released small new fault second =
           let has = has_block_indexes def.number def defined in
-          runs_place_then {After = AfterReturns} ext ext old mid new def line.block (ExpectsReleasing def line cell) (λ owners forests. IsListedUnder def forests cell line.block) fault (record { cap = refl; extent_pages = refl })
+          runs_place_then {After = AfterReturns} shape noted noted old mid new def line.block (ExpectsReleasing def line cell) (λ owners forests. IsListedUnder def forests cell line.block) fault
           (λ owners forests st own.
           let m = moves_line owners forests st own in (
             record {
@@ -145,4 +145,4 @@ module _ {S : Type 0} {g : Ghosts S} where
             λ p l. omega (arith, l, m.2 p),
           ))
           (runs_replacing mid None first)
-          (runs_wider second (λ p there at. place_of_indexes def line.block has ext mid p at) (λ p at. place_of_indexes def line.block has ext mid p at) (breaks_under def cell line.block small has ext mid))
+          (runs_wider second (λ p there at. place_of_indexes def line.block has shape mid p at) (λ p at. place_of_indexes def line.block has shape mid p at) (breaks_under def cell line.block small has shape noted mid))

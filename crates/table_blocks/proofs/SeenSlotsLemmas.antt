@@ -10,7 +10,7 @@ use Rattle.store_api.specs.Extents.{first_page_of}
 use Rattle.store_api.specs.Frame.{Touches}
 use Rattle.store_api.specs.StoreState.{page_at}
 use Rattle.store_api.specs.declared.pages.Pages.{Ghosts}
-use Rattle.extent_map.specs.declared.extents.Extents.{Extents}
+use Rattle.store_api.specs.declared.shape.Shape.{Shape}
 use Rattle.row_page.specs.RowPage.{StartsAsRowPage, slot_count}
 use Rattle.entry_tree.specs.Forest.{Forest, leaf_entries}
 use Rattle.entry_tree.specs.HeldTrees.{HoldsTree, IsTreePage}
@@ -45,7 +45,7 @@ row_seen Sees filled is sees = go sees.row sees.sees (sym sees.filled_is ∙ is)
     go (Some row) seen some = (row, seen)
 
 -- what was seen is so of the slots that the block holds
-pub filled_seen : {S : Type 0} {g : Ghosts S} {ext : Extents} {s : S} {def : TableDef} {rid : Rid} {slots : List (Option Row)} {filled : Bool} → SeesIfRow (SeesSlot ext (pages_of g s) def rid) filled → HoldsRows g ext s def rid.block slots
+pub filled_seen : {S : Type 0} {g : Ghosts S} {shape : Shape} {s : S} {def : TableDef} {rid : Rid} {slots : List (Option Row)} {filled : Bool} → SeesIfRow (SeesSlot shape (pages_of g s) def rid) filled → HoldsRows g shape s def rid.block slots
     → IsFilledSlot slots rid.slot filled
 filled_seen {rid = rid} sees held = sees.filled_is ∙ ap is_some (sees.sees.row_is ∙ ap (λ l. get_or l rid.slot None) held.slots_are)
 
@@ -69,8 +69,8 @@ module _ {S : Type 0} {g : Ghosts S} (s : S) (def : TableDef) (tree : Tree) (roo
   used_by_line block line small named used there t held = used_of_line t block line small (named, there t (holds_map s def tree t root width held)) used
 
   -- it lies apart from the block
-  pub tree_apart : (ext : Extents) (block : ℕ) → IsMapApart g ext s def block → (p : ℕ) → IsPageOfBlock ext block p → IsTreePage g s tree p → ⊥
-  tree_apart ext block apart p of is = apart p of (λ t held. is t (holds_map s def tree t root width held))
+  pub tree_apart : (shape : Shape) (block : ℕ) → IsMapApart g shape s def block → (p : ℕ) → IsPageOfBlock shape block p → IsTreePage g s tree p → ⊥
+  tree_apart shape block apart p of is = apart p of (λ t held. is t (holds_map s def tree t root width held))
 
 -- ---- the slot
 
@@ -79,27 +79,27 @@ positive : (pages each slot : ℕ) → slot < pages * each → 0 < each
 positive pages zero slot within = absurd (omega (arith, within))
 positive pages (suc each) slot within = omega arith
 
-module _ {S : Type 0} (g : Ghosts S) (ext : Extents) (old mid : S) (def : TableDef) (rid : Rid) where
+module _ {S : Type 0} (g : Ghosts S) (shape : Shape) (old mid : S) (def : TableDef) (rid : Rid) where
   -- the same pages
-  pub seen_same : (row : Option Row) → (g.state mid).work ≡ (g.state old).work → SeesSlot ext (pages_of g mid) def rid row → SeesSlot ext (pages_of g old) def rid row
-  seen_same row same sees = subst (λ pages. SeesSlot ext pages def rid row) same sees
+  pub seen_same : (row : Option Row) → (g.state mid).work ≡ (g.state old).work → SeesSlot shape (pages_of g mid) def rid row → SeesSlot shape (pages_of g old) def rid row
+  seen_same row same sees = subst (λ pages. SeesSlot shape pages def rid row) same sees
 
   -- behind a call that changed no page of the block
-  pub seen_before : {Mine : ℕ → Type 0} (row : Option Row) → rid.block < ext.cap → rid.slot < block_slot_count ext def → IsTrue (g.state old).is_told → length (g.state mid).work ≡ length (g.state old).work
-      → Touches g Mine old mid → ((p : ℕ) → IsPageOfBlock ext rid.block p → Mine p → ⊥) → SeesSlot ext (pages_of g mid) def rid row → SeesSlot ext (pages_of g old) def rid row
+  pub seen_before : {Mine : ℕ → Type 0} (row : Option Row) → rid.block < shape.extents → rid.slot < block_slot_count shape def → IsTrue (g.state old).is_told → length (g.state mid).work ≡ length (g.state old).work
+      → Touches g Mine old mid → ((p : ℕ) → IsPageOfBlock shape rid.block p → Mine p → ⊥) → SeesSlot shape (pages_of g mid) def rid row → SeesSlot shape (pages_of g old) def rid row
   seen_before {Mine} row low within told count touches apart sees = record {
     there = there;
     starts = subst (StartsAsRowPage def.columns) (kept (rid.slot / slot_count def.columns) its_page) sees.starts;
-    row_is = sees.row_is ∙ ap (λ slots. get_or slots rid.slot None) (block_slots-kept ext ext (pages_of g old) (pages_of g mid) def (record { cap = refl; extent_pages = refl }) rid.block (record { each = kept }));
+    row_is = sees.row_is ∙ ap (λ slots. get_or slots rid.slot None) (block_slots-kept shape (pages_of g old) (pages_of g mid) def rid.block (record { each = kept }));
   }
     where
-      there : first_page_of ext.cap ext.extent_pages (rid.block + 1) ≤ length (pages_of g old)
+      there : first_page_of shape.extents shape.extent_pages (rid.block + 1) ≤ length (pages_of g old)
       there = omega (arith, sees.there, count)
 
-      its_page : rid.slot / slot_count def.columns < ext.extent_pages
-      its_page = let some : 0 < slot_count def.columns = positive ext.extent_pages (slot_count def.columns) rid.slot within in (div-lt_iff_lt-mul some).1 within
+      its_page : rid.slot / slot_count def.columns < shape.extent_pages
+      its_page = let some : 0 < slot_count def.columns = positive shape.extent_pages (slot_count def.columns) rid.slot within in (div-lt_iff_lt-mul some).1 within
 
-      kept : (j : ℕ) → j < ext.extent_pages → block_page ext (pages_of g mid) rid.block j ≡ block_page ext (pages_of g old) rid.block j
+      kept : (j : ℕ) → j < shape.extent_pages → block_page shape (pages_of g mid) rid.block j ≡ block_page shape (pages_of g old) rid.block j
       kept j less =
-          let p = first_page_of ext.cap ext.extent_pages rid.block + j in
-          (touches.others p (page_at (pages_of g old) p) (apart p (only_page_of_block ext rid.block p j low less refl)) (record { is_told = told; within = omega (arith, there, less); bytes_are = refl })).bytes_are
+          let p = first_page_of shape.extents shape.extent_pages rid.block + j in
+          (touches.others p (page_at (pages_of g old) p) (apart p (only_page_of_block shape rid.block p j low less refl)) (record { is_told = told; within = omega (arith, there, less); bytes_are = refl })).bytes_are

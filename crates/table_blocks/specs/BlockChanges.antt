@@ -4,10 +4,11 @@ use Rattle.std.specs.List.{AllZip}
 use Rattle.mdc_ast.specs.declared.definition.TableDef.{TableDef}
 use Rattle.store_api.specs.declared.fault.Damage.{Damage}
 use Rattle.store_api.specs.declared.pages.Pages.{Ghosts}
+use Rattle.store_api.specs.declared.shape.Shape.{Shape}
 use Rattle.extent_map.specs.Map.{IsMapPage, IsSpacePage}
 use Rattle.extent_map.specs.Owners.{owner_of}
-use Rattle.extent_map.specs.declared.extents.Extents.{Extents}
 use Rattle.extent_map.specs.declared.kind.Kind.{Kind}
+use Rattle.extent_map.specs.declared.space_notes.SpaceNotes.{SpaceNotes}
 use Rattle.entry_tree.specs.Forest.{times}
 use Rattle.entry_tree.specs.Standing.{IsIdlePage}
 use Rattle.table_trees.specs.TableTrees.{tree_places}
@@ -20,8 +21,8 @@ use Rattle.table_blocks.specs.BlockNow.{IsOwnBlock}
 -- ---- spots
 
 -- what an extent is to the table
-abbrev pub spot_in : {S : Type 0} → Ghosts S → Extents → S → TableDef → List Kind → TableForests → ℕ → Spot
-spot_in g ext s def owners forests e = spot_of_kind ext (pages_of g s) def forests.map e (owner_of owners e)
+abbrev pub spot_in : {S : Type 0} → Ghosts S → Shape → S → TableDef → List Kind → TableForests → ℕ → Spot
+spot_in g shape s def owners forests e = spot_of_kind shape (pages_of g s) def forests.map e (owner_of owners e)
 
 -- the same spot
 abbrev pub SameSpot : Spot → Spot → Type 0
@@ -36,39 +37,39 @@ pub record IsSpotChange (After : Spot → Spot → Type 0) : Type 0 where
 
 -- Calls changed one block, and the trees of its table but for its record indexes: all else stands, and other extents are as they
 -- were but for what trees took or gave back.
-pub record ChangesAround {S : Type 0} (g : Ghosts S) (After : Spot → Spot → Type 0) (before ext : Extents) (old new : S) (def : TableDef) (block : ℕ)
+pub record ChangesAround {S : Type 0} (g : Ghosts S) (After : Spot → Spot → Type 0) (shape : Shape) (before noted : SpaceNotes) (old new : S) (def : TableDef) (block : ℕ)
     (owners : List Kind) (forests : TableForests) (owners_now : List Kind) (forests_now : TableForests) : Type 0 where
-  pub stands : StandsAround g ext new def owners_now forests_now block
-  pub trees : ChangesTrees g before ext new (tree_places def) owners (forests_in_order forests) owners_now (forests_in_order forests_now)
+  pub stands : StandsAround g shape new def owners_now forests_now block
+  pub trees : ChangesTrees g shape before noted new (tree_places def) owners (forests_in_order forests) owners_now (forests_in_order forests_now)
   pub records : forests_now.indexes ≡ forests.indexes
-  pub spots : (e : ℕ) → e ≢ block → After (spot_in g before old def owners forests e) (spot_in g ext new def owners_now forests_now e)
+  pub spots : (e : ℕ) → e ≢ block → After (spot_in g shape old def owners forests e) (spot_in g shape new def owners_now forests_now e)
   pub longer : length (pages_of g old) ≤ length (pages_of g new)
-  pub grows : GrowsPages g before old new
+  pub grows : GrowsPages g shape old new
 
 -- The pages that they may change and bring to hand: those of the table's trees and of the block, those of the extent map with
 -- page 0, and idle ones; where the table stood but for the block.
-abbrev pub IsSpaceAround : {S : Type 0} → Ghosts S → Extents → S → TableDef → ℕ → ℕ → Type 0
-IsSpaceAround g ext s def block p =
-    (owners : List Kind) (forests : TableForests) → StandsAround g ext s def owners forests block → IsOwnBlock ext owners def block
-    → 0 < sum_by (times p) (forests_in_order forests) ⊎ (IsPageOfBlock ext block p ⊎ (IsSpacePage ext p ⊎ IsIdlePage ext owners p))
+abbrev pub IsSpaceAround : {S : Type 0} → Ghosts S → Shape → S → TableDef → ℕ → ℕ → Type 0
+IsSpaceAround g shape s def block p =
+    (owners : List Kind) (forests : TableForests) → StandsAround g shape s def owners forests block → IsOwnBlock shape owners def block
+    → 0 < sum_by (times p) (forests_in_order forests) ⊎ (IsPageOfBlock shape block p ⊎ (IsSpacePage shape p ⊎ IsIdlePage shape owners p))
 
 -- the same of calls that claim nothing
-abbrev pub IsPlaceAround : {S : Type 0} → Ghosts S → Extents → S → TableDef → ℕ → ℕ → Type 0
-IsPlaceAround g ext s def block p =
-    (owners : List Kind) (forests : TableForests) → StandsAround g ext s def owners forests block → IsOwnBlock ext owners def block
-    → 0 < sum_by (times p) (forests_in_order forests) ⊎ (IsPageOfBlock ext block p ⊎ IsMapPage ext p)
+abbrev pub IsPlaceAround : {S : Type 0} → Ghosts S → Shape → S → TableDef → ℕ → ℕ → Type 0
+IsPlaceAround g shape s def block p =
+    (owners : List Kind) (forests : TableForests) → StandsAround g shape s def owners forests block → IsOwnBlock shape owners def block
+    → 0 < sum_by (times p) (forests_in_order forests) ⊎ (IsPageOfBlock shape block p ⊎ IsMapPage shape p)
 
 -- What they may name: a part of the table, where it wasn't told to stand but for the block, which was as the call expects it.
-pub record BreaksAround {S : Type 0} (g : Ghosts S) (ext : Extents) (s : S) (def : TableDef) (block : ℕ) (Expected : List Kind → TableForests → Type 0) (damage : Damage) : Type 0 where
-  pub names : NamesTablePart ext def damage
-  pub broken : (owners : List Kind) (forests : TableForests) → StandsAround g ext s def owners forests block → IsOwnBlock ext owners def block → Expected owners forests → ⊥
+pub record BreaksAround {S : Type 0} (g : Ghosts S) (shape : Shape) (s : S) (def : TableDef) (block : ℕ) (Expected : List Kind → TableForests → Type 0) (damage : Damage) : Type 0 where
+  pub names : NamesTablePart shape def damage
+  pub broken : (owners : List Kind) (forests : TableForests) → StandsAround g shape s def owners forests block → IsOwnBlock shape owners def block → Expected owners forests → ⊥
 
 -- ---- afterwards
 
 -- A table that stood stands again, with one block another spot. Other extents are as they were but for what trees took or gave
 -- back, and the record indexes have the trees that they had.
-pub record TurnsSpot {S : Type 0} (g : Ghosts S) (After : Spot → Spot → Type 0) (before ext : Extents) (old new : S) (def : TableDef) (block : ℕ) (spot : Spot)
+pub record TurnsSpot {S : Type 0} (g : Ghosts S) (After : Spot → Spot → Type 0) (shape : Shape) (before noted : SpaceNotes) (old new : S) (def : TableDef) (block : ℕ) (spot : Spot)
     (owners : List Kind) (forests : TableForests) (owners_now : List Kind) (forests_now : TableForests) : Type 0 where
-  pub changes : ChangesTable g before ext old new def owners forests owners_now forests_now
+  pub changes : ChangesTable g shape before noted old new def owners forests owners_now forests_now
   pub records : forests_now.indexes ≡ forests.indexes
-  pub spots : AllZip After (slice_set (spots_of g before old def owners forests) block spot) (spots_of g ext new def owners_now forests_now)
+  pub spots : AllZip After (slice_set (spots_of g shape old def owners forests) block spot) (spots_of g shape new def owners_now forests_now)

@@ -8,8 +8,8 @@ use Rattle.mdc_ast.specs.declared.definition.TableDef.{TableDef}
 use Rattle.mdc_ast.specs.declared.row.Cell.{Cell}
 use Rattle.mdc_ast.specs.declared.row.Row.{Row}
 use Rattle.store_api.specs.declared.pages.Pages.{Ghosts}
+use Rattle.store_api.specs.declared.shape.Shape.{Shape}
 use Rattle.extent_map.specs.Owners.{owner_of}
-use Rattle.extent_map.specs.declared.extents.Extents.{Extents}
 use Rattle.extent_map.specs.declared.kind.Kind.{Kind}
 use Rattle.extent_map.specs.declared.kind.Kind.TheVariants.{Block}
 use Rattle.row_page.specs.RowPage.{count_rows}
@@ -32,8 +32,8 @@ use Rattle.mdc_sound.specs.BlockRules.{block_in_entry}
 use Rattle.block_rows.specs.HeldRows.{HoldsRows}
 
 -- the extent is a block of the table
-pub record IsOwnBlock (ext : Extents) (owners : List Kind) (def : TableDef) (block : ℕ) : Type 0 where
-  pub within : block < ext.cap
+pub record IsOwnBlock (shape : Shape) (owners : List Kind) (def : TableDef) (block : ℕ) : Type 0 where
+  pub within : block < shape.extents
   pub owned : owner_of owners block ≡ Block def.number
 
 -- ---- the block map
@@ -91,14 +91,14 @@ pub record IsUnlisted (def : TableDef) (forests : TableForests) (block : ℕ) : 
 -- ---- the block as a whole
 
 -- A block of the table in a state, without rows, and listed nowhere.
-pub record IsReleasedNow (ext : Extents) (def : TableDef) (given : BlockState) (owners : List Kind) (forests : TableForests) (block : ℕ) : Type 0 where
-  pub own : IsOwnBlock ext owners def block
+pub record IsReleasedNow (shape : Shape) (def : TableDef) (given : BlockState) (owners : List Kind) (forests : TableForests) (block : ℕ) : Type 0 where
+  pub own : IsOwnBlock shape owners def block
   pub line : HasRow (released_line given block) forests.map
   pub unlisted : IsUnlisted def forests block
 
 -- A Free block of the table.
-abbrev pub IsFreeNow : Extents → TableDef → List Kind → TableForests → ℕ → Type 0
-IsFreeNow ext def = IsReleasedNow ext def state.Free
+abbrev pub IsFreeNow : Shape → TableDef → List Kind → TableForests → ℕ → Type 0
+IsFreeNow shape def = IsReleasedNow shape def state.Free
 
 -- what a block in a state is to the table, without rows
 abbrev pub released_spot : BlockState → Spot
@@ -111,9 +111,9 @@ pub record AreOfCell (def : TableDef) (values : List Value) (slots : List (Optio
   pub one_cell : (row : Row) → Contains slots (Some row) → AreOfOneCell def row.values values
 
 -- A Used block of the table with these slots, listed under the cell of these values.
-pub record IsUsedNow {S : Type 0} (g : Ghosts S) (ext : Extents) (s : S) (def : TableDef) (owners : List Kind) (forests : TableForests) (block : ℕ) (values : List Value) (slots : List (Option Row)) : Type 0 where
-  pub own : IsOwnBlock ext owners def block
+pub record IsUsedNow {S : Type 0} (g : Ghosts S) (shape : Shape) (s : S) (def : TableDef) (owners : List Kind) (forests : TableForests) (block : ℕ) (values : List Value) (slots : List (Option Row)) : Type 0 where
+  pub own : IsOwnBlock shape owners def block
   pub line : HasRow (used_row block (count_rows slots)) forests.map
-  pub rows : HoldsRows g ext s def block slots
+  pub rows : HoldsRows g shape s def block slots
   pub cell : AreOfCell def values slots
   pub listed : IsListedInEach def forests values block

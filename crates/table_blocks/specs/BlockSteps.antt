@@ -6,10 +6,11 @@ use Rattle.mdc_ast.specs.declared.definition.TableDef.{TableDef}
 use Rattle.mdc_ast.specs.declared.row.Cell.{Cell}
 use Rattle.mdc_ast.specs.declared.row.Row.{Row}
 use Rattle.store_api.specs.declared.pages.Pages.{Ghosts}
-use Rattle.extent_map.specs.Owners.{AreRightNotes, HasNoFree, IsLowestFree, IsSameShape, owner_of, with_block}
-use Rattle.extent_map.specs.declared.extents.Extents.{Extents}
+use Rattle.store_api.specs.declared.shape.Shape.{Shape}
+use Rattle.extent_map.specs.Owners.{AreRightNotes, HasNoFree, IsLowestFree, owner_of, with_block}
 use Rattle.extent_map.specs.declared.kind.Kind.{Kind}
 use Rattle.extent_map.specs.declared.kind.Kind.TheVariants.{Free}
+use Rattle.extent_map.specs.declared.space_notes.SpaceNotes.{SpaceNotes}
 use Rattle.block_map.specs.BlockMaps.{HasRow}
 use Rattle.block_map.specs.MapLines.{free_blocks}
 use Rattle.block_map.specs.MapRows.{row_entry}
@@ -34,100 +35,100 @@ use Rattle.table_blocks.specs.BlockNow.{IsListedInEach, IsListedUnder, IsOwnBloc
 -- ---- a block that comes into use
 
 -- The block has one row, in its lowest slot, and was listed under its cell; its line in the block map is as it was.
-pub record FillsBegun {S : Type 0} (g : Ghosts S) (before ext : Extents) (old new : S) (def : TableDef) (block : ℕ) (row : Row) (owners : List Kind) (forests : TableForests) : Type 0 where
+pub record FillsBegun {S : Type 0} (g : Ghosts S) (shape : Shape) (before noted : SpaceNotes) (old new : S) (def : TableDef) (block : ℕ) (row : Row) (owners : List Kind) (forests : TableForests) : Type 0 where
   pub owners_now : List Kind
   pub forests_now : TableForests
-  pub changes : ChangesAround g AfterClaims before ext old new def block owners forests owners_now forests_now
+  pub changes : ChangesAround g AfterClaims shape before noted old new def block owners forests owners_now forests_now
   pub same_map : forests_now.map ≡ forests.map
-  pub rows : HoldsRows g ext new def block (slice_set (replicate (block_slot_count before def) None) 0 (Some row))
+  pub rows : HoldsRows g shape new def block (slice_set (replicate (block_slot_count shape def) None) 0 (Some row))
   pub listed : IsUnlisted def forests block → IsListedInEach def forests_now row.values block
 
 -- A block of a table that stood is Used now, with one row in its lowest slot; after that trees may have taken free extents.
-pub record BeginsBlock {S : Type 0} (g : Ghosts S) (before ext : Extents) (old new : S) (def : TableDef) (block : ℕ) (row : Row) (owners : List Kind) (forests : TableForests) : Type 0 where
+pub record BeginsBlock {S : Type 0} (g : Ghosts S) (shape : Shape) (before noted : SpaceNotes) (old new : S) (def : TableDef) (block : ℕ) (row : Row) (owners : List Kind) (forests : TableForests) : Type 0 where
   pub owners_now : List Kind
   pub forests_now : TableForests
-  pub turns : TurnsSpot g AfterClaims before ext old new def block (begun_with (block_slot_count before def) row) owners forests owners_now forests_now
+  pub turns : TurnsSpot g AfterClaims shape before noted old new def block (begun_with (block_slot_count shape def) row) owners forests owners_now forests_now
 
 -- A new block for the row runs full: no extent is free, or what the lowest free one needs as a block runs full.
-pub data NewBlockRunsFull (ext : Extents) (work : PageList) (def : TableDef) (row : Row) (owners : List Kind) : Type 0 where
-  no_extent : HasNoFree owners → RunsFull ext work (ClaimBlock def.number 0 ∷ []) → NewBlockRunsFull ext work def row owners
-  at_entry : (block : ℕ) → IsLowestFree owners block → RunsFull ext work (block_changes def row block FreeExtent) → NewBlockRunsFull ext work def row owners
+pub data NewBlockRunsFull (shape : Shape) (work : PageList) (def : TableDef) (row : Row) (owners : List Kind) : Type 0 where
+  no_extent : HasNoFree owners → RunsFull shape work (ClaimBlock def.number 0 ∷ []) → NewBlockRunsFull shape work def row owners
+  at_entry : (block : ℕ) → IsLowestFree owners block → RunsFull shape work (block_changes def row block FreeExtent) → NewBlockRunsFull shape work def row owners
 
 -- ---- a row more, another row, a row less
 
 -- a block has this line in the block map, and room for the row
-pub record HasRoomAt {S : Type 0} (g : Ghosts S) (ext : Extents) (s : S) (def : TableDef) (line : BlockRow) (row : Row) (owners : List Kind) (forests : TableForests) : Type 0 where
+pub record HasRoomAt {S : Type 0} (g : Ghosts S) (shape : Shape) (s : S) (def : TableDef) (line : BlockRow) (row : Row) (owners : List Kind) (forests : TableForests) : Type 0 where
   pub line_there : HasRow line forests.map
-  pub room : HasRoomFor def row (slice_index_or (spots_of g ext s def owners forests) line.block OtherBlock)
+  pub room : HasRoomFor def row (slice_index_or (spots_of g shape s def owners forests) line.block OtherBlock)
 
 -- a block is a Used one, with a row of this one's cell
-pub record IsBlockOfCell {S : Type 0} (g : Ghosts S) (ext : Extents) (s : S) (def : TableDef) (block : ℕ) (row : Row) (owners : List Kind) (forests : TableForests) : Type 0 where
+pub record IsBlockOfCell {S : Type 0} (g : Ghosts S) (shape : Shape) (s : S) (def : TableDef) (block : ℕ) (row : Row) (owners : List Kind) (forests : TableForests) : Type 0 where
   pub slots : List (Option Row)
-  pub spot : slice_index_or (spots_of g ext s def owners forests) block OtherBlock ≡ UsedBlock slots
+  pub spot : slice_index_or (spots_of g shape s def owners forests) block OtherBlock ≡ UsedBlock slots
   pub other : Row
   pub there : Contains slots (Some other)
   pub one_cell : AreOfOneCell def other.values row.values
 
 -- a block holds rows, in slots of which this is so
-pub record HoldsSuch (IsSuch : List (Option Row) → Type 0) {S : Type 0} (g : Ghosts S) (ext : Extents) (s : S) (def : TableDef) (block : ℕ) (owners : List Kind) (forests : TableForests) : Type 0 where
+pub record HoldsSuch (IsSuch : List (Option Row) → Type 0) {S : Type 0} (g : Ghosts S) (shape : Shape) (s : S) (def : TableDef) (block : ℕ) (owners : List Kind) (forests : TableForests) : Type 0 where
   pub slots : List (Option Row)
-  pub rows : HoldsRows g ext s def block slots
+  pub rows : HoldsRows g shape s def block slots
   pub such : IsSuch slots
 
 -- one of them is empty
-abbrev pub HasEmptySlot : {S : Type 0} → Ghosts S → Extents → S → TableDef → ℕ → List Kind → TableForests → Type 0
-HasEmptySlot g ext s def block = HoldsSuch (λ slots. Contains slots None) g ext s def block
+abbrev pub HasEmptySlot : {S : Type 0} → Ghosts S → Shape → S → TableDef → ℕ → List Kind → TableForests → Type 0
+HasEmptySlot g shape s def block = HoldsSuch (λ slots. Contains slots None) g shape s def block
 
 -- there is a row in this one
-abbrev pub HasFilledSlot : ℕ → {S : Type 0} → Ghosts S → Extents → S → TableDef → ℕ → List Kind → TableForests → Type 0
-HasFilledSlot slot g ext s def block = HoldsSuch (λ slots. (row : Row) × (slice_index_or slots slot None ≡ Some row)) g ext s def block
+abbrev pub HasFilledSlot : ℕ → {S : Type 0} → Ghosts S → Shape → S → TableDef → ℕ → List Kind → TableForests → Type 0
+HasFilledSlot slot g shape s def block = HoldsSuch (λ slots. (row : Row) × (slice_index_or slots slot None ≡ Some row)) g shape s def block
 
 -- this row lies in a place
-pub record HasThisRow {S : Type 0} (g : Ghosts S) (ext : Extents) (s : S) (def : TableDef) (rid : Rid) (row : Row) (owners : List Kind) (forests : TableForests) : Type 0 where
+pub record HasThisRow {S : Type 0} (g : Ghosts S) (shape : Shape) (s : S) (def : TableDef) (rid : Rid) (row : Row) (owners : List Kind) (forests : TableForests) : Type 0 where
   pub slots : List (Option Row)
-  pub lies : IsRowAt (spots_of g ext s def owners forests) rid row slots
+  pub lies : IsRowAt (spots_of g shape s def owners forests) rid row slots
 
 -- The row lies in the lowest slot of its block that was empty, and nothing else changed.
-pub record FillsSlot {S : Type 0} (g : Ghosts S) (ext : Extents) (old new : S) (def : TableDef) (rid : Rid) (row : Row) (owners : List Kind) (forests : TableForests) : Type 0 where
+pub record FillsSlot {S : Type 0} (g : Ghosts S) (shape : Shape) (noted : SpaceNotes) (old new : S) (def : TableDef) (rid : Rid) (row : Row) (owners : List Kind) (forests : TableForests) : Type 0 where
   pub forests_now : TableForests
   pub slots : List (Option Row)
-  pub was : slice_index_or (spots_of g ext old def owners forests) rid.block OtherBlock ≡ UsedBlock slots
+  pub was : slice_index_or (spots_of g shape old def owners forests) rid.block OtherBlock ≡ UsedBlock slots
   pub lowest : IsLowestAt IsEmptySlot slots rid.slot None
-  pub turns : TurnsSpot g SameSpot ext ext old new def rid.block (UsedBlock (slice_set slots rid.slot (Some row))) owners forests owners forests_now
+  pub turns : TurnsSpot g SameSpot shape noted noted old new def rid.block (UsedBlock (slice_set slots rid.slot (Some row))) owners forests owners forests_now
 
 -- The row lies in the lowest slot that was empty of a Used block, whatever the block's cell.
-pub record PutsInUsed {S : Type 0} (g : Ghosts S) (ext : Extents) (old new : S) (def : TableDef) (rid : Rid) (row : Row) (owners : List Kind) (forests : TableForests) : Type 0 where
+pub record PutsInUsed {S : Type 0} (g : Ghosts S) (shape : Shape) (old new : S) (def : TableDef) (rid : Rid) (row : Row) (owners : List Kind) (forests : TableForests) : Type 0 where
   pub slots : List (Option Row)
-  pub was : slice_index_or (spots_of g ext old def owners forests) rid.block OtherBlock ≡ UsedBlock slots
+  pub was : slice_index_or (spots_of g shape old def owners forests) rid.block OtherBlock ≡ UsedBlock slots
   pub lowest : IsLowestAt IsEmptySlot slots rid.slot None
-  pub held : HoldsRows g ext new def rid.block (slice_set slots rid.slot (Some row))
+  pub held : HoldsRows g shape new def rid.block (slice_set slots rid.slot (Some row))
 
 -- The row that lay in a place was taken out, and a block without rows is Free; after that trees may have given extents back.
-pub record EmptiesSlot {S : Type 0} (g : Ghosts S) (before ext : Extents) (old new : S) (def : TableDef) (rid : Rid) (row : Row) (owners : List Kind) (forests : TableForests) : Type 0 where
+pub record EmptiesSlot {S : Type 0} (g : Ghosts S) (shape : Shape) (before noted : SpaceNotes) (old new : S) (def : TableDef) (rid : Rid) (row : Row) (owners : List Kind) (forests : TableForests) : Type 0 where
   pub owners_now : List Kind
   pub forests_now : TableForests
   pub slots : List (Option Row)
-  pub lies : IsRowAt (spots_of g before old def owners forests) rid row slots
-  pub turns : TurnsSpot g AfterReturns before ext old new def rid.block (left_with (slice_set slots rid.slot None)) owners forests owners_now forests_now
+  pub lies : IsRowAt (spots_of g shape old def owners forests) rid row slots
+  pub turns : TurnsSpot g AfterReturns shape before noted old new def rid.block (left_with (slice_set slots rid.slot None)) owners forests owners_now forests_now
 
 -- ---- a block that is released
 
 -- The block has this state in the block map, without rows, and is what the state says to the table. None of its entries under the
 -- cell of these values is left in a block index.
-pub record ReleasesBlock {S : Type 0} (g : Ghosts S) (before ext : Extents) (old new : S) (def : TableDef) (block : ℕ) (given : BlockState) (values : List Value)
+pub record ReleasesBlock {S : Type 0} (g : Ghosts S) (shape : Shape) (before noted : SpaceNotes) (old new : S) (def : TableDef) (block : ℕ) (given : BlockState) (values : List Value)
     (owners : List Kind) (forests : TableForests) : Type 0 where
   pub owners_now : List Kind
   pub forests_now : TableForests
-  pub changes : ChangesAround g AfterReturns before ext old new def block owners forests owners_now forests_now
+  pub changes : ChangesAround g AfterReturns shape before noted old new def block owners forests owners_now forests_now
   pub line : HasRow (released_line given block) forests_now.map
-  pub spot : spot_in g ext new def owners_now forests_now block ≡ released_spot given
+  pub spot : spot_in g shape new def owners_now forests_now block ≡ released_spot given
   pub unlisted : IsListedInEach def forests values block → IsUnlisted def forests_now block
 
 -- A block of a table that stood was released, and the table stands; after that trees may have given extents back.
-pub record TurnsReleased {S : Type 0} (g : Ghosts S) (before ext : Extents) (old new : S) (def : TableDef) (block : ℕ) (given : BlockState) (owners : List Kind) (forests : TableForests) : Type 0 where
+pub record TurnsReleased {S : Type 0} (g : Ghosts S) (shape : Shape) (before noted : SpaceNotes) (old new : S) (def : TableDef) (block : ℕ) (given : BlockState) (owners : List Kind) (forests : TableForests) : Type 0 where
   pub owners_now : List Kind
   pub forests_now : TableForests
-  pub turns : TurnsSpot g AfterReturns before ext old new def block (released_spot given) owners forests owners_now forests_now
+  pub turns : TurnsSpot g AfterReturns shape before noted old new def block (released_spot given) owners forests owners_now forests_now
 
 -- what releasing a block expects: it has this line, and is listed under this cell
 pub record ExpectsReleasing (def : TableDef) (line : BlockRow) (cell : Cell) (owners : List Kind) (forests : TableForests) : Type 0 where
@@ -146,40 +147,39 @@ released_changes def cell given line =
 -- ---- steps midway
 
 -- The block's line in the block map became this one, and nothing else changed; trees may have taken or given back extents.
-pub record MovesLine {S : Type 0} (g : Ghosts S) (After : Spot → Spot → Type 0) (before ext : Extents) (old new : S) (def : TableDef) (block : ℕ) (line : BlockRow) (owners : List Kind) (forests : TableForests) : Type 0 where
+pub record MovesLine {S : Type 0} (g : Ghosts S) (After : Spot → Spot → Type 0) (shape : Shape) (before noted : SpaceNotes) (old new : S) (def : TableDef) (block : ℕ) (line : BlockRow) (owners : List Kind) (forests : TableForests) : Type 0 where
   pub owners_now : List Kind
   pub forests_now : TableForests
-  pub changes : ChangesAround g After before ext old new def block owners forests owners_now forests_now
+  pub changes : ChangesAround g After shape before noted old new def block owners forests owners_now forests_now
   pub line_there : HasRow line forests_now.map
   pub composite : forests_now.composite ≡ forests.composite
   pub dims : forests_now.dims ≡ forests.dims
-  pub rows : (slots : List (Option Row)) → HoldsRows g before old def block slots → HoldsRows g ext new def block slots
+  pub rows : (slots : List (Option Row)) → HoldsRows g shape old def block slots → HoldsRows g shape new def block slots
 
 -- The block's entries in the block indexes changed, and nothing else; trees may have taken or given back extents.
-pub record MovesEntries {S : Type 0} (g : Ghosts S) (After : Spot → Spot → Type 0) (before ext : Extents) (old new : S) (def : TableDef) (block : ℕ) (owners : List Kind) (forests : TableForests) : Type 0 where
+pub record MovesEntries {S : Type 0} (g : Ghosts S) (After : Spot → Spot → Type 0) (shape : Shape) (before noted : SpaceNotes) (old new : S) (def : TableDef) (block : ℕ) (owners : List Kind) (forests : TableForests) : Type 0 where
   pub owners_now : List Kind
   pub forests_now : TableForests
-  pub changes : ChangesAround g After before ext old new def block owners forests owners_now forests_now
+  pub changes : ChangesAround g After shape before noted old new def block owners forests owners_now forests_now
   pub same_map : forests_now.map ≡ forests.map
-  pub rows : (slots : List (Option Row)) → HoldsRows g before old def block slots → HoldsRows g ext new def block slots
+  pub rows : (slots : List (Option Row)) → HoldsRows g shape old def block slots → HoldsRows g shape new def block slots
 
 -- Wherever a table stood but for a block, it stands so after calls, and what was expected of it is now this.
-pub record StepsTo {S : Type 0} (g : Ghosts S) (After : Spot → Spot → Type 0) (before ext : Extents) (old new : S) (def : TableDef) (block : ℕ)
+pub record StepsTo {S : Type 0} (g : Ghosts S) (After : Spot → Spot → Type 0) (shape : Shape) (before noted : SpaceNotes) (old new : S) (def : TableDef) (block : ℕ)
     (Expected Then : List Kind → TableForests → Type 0) (owners : List Kind) (forests : TableForests) : Type 0 where
   pub owners_now : List Kind
   pub forests_now : TableForests
-  pub changes : ChangesAround g After before ext old new def block owners forests owners_now forests_now
+  pub changes : ChangesAround g After shape before noted old new def block owners forests owners_now forests_now
   pub expects : Expected owners forests → Then owners_now forests_now
 
 -- A free extent is a block of the table now, which no tree of it names.
-pub record ClaimsBlock {S : Type 0} (g : Ghosts S) (before ext : Extents) (old new : S) (def : TableDef) (block : ℕ) (owners : List Kind) (forests : TableForests) : Type 0 where
+pub record ClaimsBlock {S : Type 0} (g : Ghosts S) (shape : Shape) (before noted : SpaceNotes) (old new : S) (def : TableDef) (block : ℕ) (owners : List Kind) (forests : TableForests) : Type 0 where
   pub free : owner_of owners block ≡ Free
-  pub shape : IsSameShape before ext
-  pub stands : StandsAround g ext new def (with_block owners block def.number) forests block
-  pub own : IsOwnBlock ext (with_block owners block def.number) def block
+  pub stands : StandsAround g shape new def (with_block owners block def.number) forests block
+  pub own : IsOwnBlock shape (with_block owners block def.number) def block
   pub unnamed : IsUnnamed forests.map block
   pub unlisted : IsUnlisted def forests block
-  pub spots : (e : ℕ) → e ≢ block → spot_in g ext new def (with_block owners block def.number) forests e ≡ spot_in g before old def owners forests e
+  pub spots : (e : ℕ) → e ≢ block → spot_in g shape new def (with_block owners block def.number) forests e ≡ spot_in g shape old def owners forests e
   pub longer : length (pages_of g old) ≤ length (pages_of g new)
-  pub grows : GrowsPages g before old new
-  pub notes : AreRightNotes before owners → AreRightNotes ext (with_block owners block def.number)
+  pub grows : GrowsPages g shape old new
+  pub notes : AreRightNotes shape before owners → AreRightNotes shape noted (with_block owners block def.number)

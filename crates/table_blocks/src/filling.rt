@@ -3,6 +3,7 @@ ghost use Rattle.std.specs.Prelude.{◌≡◌, ◌<◌, List, Option, Some, None
 ghost use Rattle.store_api.specs.Causes.{fault_of};
 ghost use Rattle.store_api.specs.RunsOverPages.{RunsOverPages};
 ghost use Rattle.extent_map.specs.declared.kind.Kind.{Kind};
+ghost use Rattle.extent_map.specs.declared.space_notes.SpaceNotes.{SpaceNotes};
 ghost use Rattle.mdc_ast.specs.declared.row.Row.{Row};
 ghost use Rattle.mdc_ast.specs.TableLimits.{IsTableDef};
 ghost use Rattle.table_trees.specs.SpaceChanges.{MakesChanges};
@@ -18,19 +19,18 @@ ghost use Rattle.table_blocks.specs.BlockSteps.{FillsSlot, HasEmptySlot, HasRoom
 use crate::faults::miscounted;
 use block_map::{BlockMap, BlockRow, BlockState};
 use block_rows::put_first;
-use extent_map::Extents;
 use mdc_ast::{Row, TableDef};
 use mdc_values::Rid;
 use row_page::capacity;
 use std::alloc::Global;
-use store_api::{Pages, StoreFault};
+use store_api::{Pages, Shape, StoreFault};
 
 /// Puts a row into the lowest empty slot of a Used block of its cell, which has this line in the block map and has room, and
 /// answers where it lies. Damaged where the block hasn't that line, or no slot is empty. It claims no page.
 pub fn put_in_block<P: Pages>(
     alloc: Global,
     def: &TableDef,
-    ext: &Extents,
+    shape: Shape,
     pages: &mut P,
     line: BlockRow,
     row: &Row,
@@ -38,20 +38,20 @@ pub fn put_in_block<P: Pages>(
     requires defined { IsTableDef def.now.number def.now }
     requires fits { RowFits def.now row.now }
     requires used { line.state ≡ BlockState.Used }
-    requires within { line.block < ext.now.cap }
+    requires within { line.block < shape.extents }
     requires going { (P.state pages.old).ended ≡ false }
     ensures block { IfOk result (λ rid. rid.block ≡ line.block) }
-    ensures fills { IfOk result (λ rid. (owners : List Kind) (forests : TableForests) → StandsTable P.Pages ext.now pages.old def.now owners forests
-        → HasRoomAt P.Pages ext.now pages.old def.now line row.now owners forests → FillsSlot P.Pages ext.now pages.old pages.new def.now rid row.now owners forests) }
-    ensures makes { IfOk result (λ rid. (owners : List Kind) (forests : TableForests) → StandsTable P.Pages ext.now pages.old def.now owners forests
-        → HasRoomAt P.Pages ext.now pages.old def.now line row.now owners forests
-        → MakesChanges ext.now (pages_of P.Pages pages.old) (block_changes def.now row.now line.block (slice_index_or (spots_of P.Pages ext.now pages.old def.now owners forests) line.block OtherBlock)) (pages_of P.Pages pages.new)) }
+    ensures fills { IfOk result (λ rid. (noted : SpaceNotes) (owners : List Kind) (forests : TableForests) → StandsTable P.Pages shape pages.old def.now owners forests
+        → HasRoomAt P.Pages shape pages.old def.now line row.now owners forests → FillsSlot P.Pages shape noted pages.old pages.new def.now rid row.now owners forests) }
+    ensures makes { IfOk result (λ rid. (owners : List Kind) (forests : TableForests) → StandsTable P.Pages shape pages.old def.now owners forests
+        → HasRoomAt P.Pages shape pages.old def.now line row.now owners forests
+        → MakesChanges shape (pages_of P.Pages pages.old) (block_changes def.now row.now line.block (slice_index_or (spots_of P.Pages shape pages.old def.now owners forests) line.block OtherBlock)) (pages_of P.Pages pages.new)) }
     ensures count { length (P.state pages.new).work ≡ length (P.state pages.old).work }
-    ensures runs { RunsOverPages P.Pages (IsBlockOrMapPage P.Pages ext.now pages.old def.now line.block) (IsBlockOrMapPage P.Pages ext.now pages.old def.now line.block)
-        (BreaksExpected P.Pages ext.now pages.old def.now (HasRoomAt P.Pages ext.now pages.old def.now line row.now)) pages.old pages.new (fault_of result) }
+    ensures runs { RunsOverPages P.Pages (IsBlockOrMapPage P.Pages shape pages.old def.now line.block) (IsBlockOrMapPage P.Pages shape pages.old def.now line.block)
+        (BreaksExpected P.Pages shape pages.old def.now (HasRoomAt P.Pages shape pages.old def.now line row.now)) pages.old pages.new (fault_of result) }
 {
     let Some(rows) = line.rows.checked_add(1) else {
-        return Err(miscounted(ext, line.block));
+        return Err(miscounted(shape, line.block));
     };
     let map = BlockMap::at(alloc, def.roots.map);
     let more = BlockRow {
@@ -60,7 +60,7 @@ pub fn put_in_block<P: Pages>(
         rows,
     };
     map.replace(pages, line, more)?;
-    let slot = put_counted(def, ext, pages, line.block, row)?;
+    let slot = put_counted(def, shape, pages, line.block, row)?;
     Ok(Rid {
         block: line.block,
         slot,
@@ -72,37 +72,37 @@ pub fn put_in_block<P: Pages>(
 pub fn put_if_room<P: Pages>(
     alloc: Global,
     def: &TableDef,
-    ext: &Extents,
+    shape: Shape,
     pages: &mut P,
     block: u32,
     row: &Row,
 ) -> Result<Option<Rid>, StoreFault>
     requires defined { IsTableDef def.now.number def.now }
     requires fits { RowFits def.now row.now }
-    requires within { block < ext.now.cap }
+    requires within { block < shape.extents }
     requires going { (P.state pages.old).ended ≡ false }
     ensures block { IfOk result (λ put. IfSome put (λ rid. rid.block ≡ block)) }
-    ensures puts { IfOk result (λ put. IfSome put (λ rid. (owners : List Kind) (forests : TableForests) → StandsTable P.Pages ext.now pages.old def.now owners forests
-        → PutsInUsed P.Pages ext.now pages.old pages.new def.now rid row.now owners forests)) }
-    ensures fills { IfOk result (λ put. IfSome put (λ rid. (owners : List Kind) (forests : TableForests) → StandsTable P.Pages ext.now pages.old def.now owners forests
-        → IsBlockOfCell P.Pages ext.now pages.old def.now block row.now owners forests
-        → HasRoomFor def.now row.now (slice_index_or (spots_of P.Pages ext.now pages.old def.now owners forests) block OtherBlock) × FillsSlot P.Pages ext.now pages.old pages.new def.now rid row.now owners forests)) }
-    ensures makes { IfOk result (λ put. IfSome put (λ rid. (owners : List Kind) (forests : TableForests) → StandsTable P.Pages ext.now pages.old def.now owners forests
-        → IsBlockOfCell P.Pages ext.now pages.old def.now block row.now owners forests
-        → MakesChanges ext.now (pages_of P.Pages pages.old) (block_changes def.now row.now block (slice_index_or (spots_of P.Pages ext.now pages.old def.now owners forests) block OtherBlock)) (pages_of P.Pages pages.new))) }
-    ensures no_room { IfOk result (λ put. put ≡ None → (owners : List Kind) (forests : TableForests) → StandsTable P.Pages ext.now pages.old def.now owners forests
-        → HasRoomFor def.now row.now (slice_index_or (spots_of P.Pages ext.now pages.old def.now owners forests) block OtherBlock) → ⊥) }
+    ensures puts { IfOk result (λ put. IfSome put (λ rid. (owners : List Kind) (forests : TableForests) → StandsTable P.Pages shape pages.old def.now owners forests
+        → PutsInUsed P.Pages shape pages.old pages.new def.now rid row.now owners forests)) }
+    ensures fills { IfOk result (λ put. IfSome put (λ rid. (noted : SpaceNotes) (owners : List Kind) (forests : TableForests) → StandsTable P.Pages shape pages.old def.now owners forests
+        → IsBlockOfCell P.Pages shape pages.old def.now block row.now owners forests
+        → HasRoomFor def.now row.now (slice_index_or (spots_of P.Pages shape pages.old def.now owners forests) block OtherBlock) × FillsSlot P.Pages shape noted pages.old pages.new def.now rid row.now owners forests)) }
+    ensures makes { IfOk result (λ put. IfSome put (λ rid. (owners : List Kind) (forests : TableForests) → StandsTable P.Pages shape pages.old def.now owners forests
+        → IsBlockOfCell P.Pages shape pages.old def.now block row.now owners forests
+        → MakesChanges shape (pages_of P.Pages pages.old) (block_changes def.now row.now block (slice_index_or (spots_of P.Pages shape pages.old def.now owners forests) block OtherBlock)) (pages_of P.Pages pages.new))) }
+    ensures no_room { IfOk result (λ put. put ≡ None → (owners : List Kind) (forests : TableForests) → StandsTable P.Pages shape pages.old def.now owners forests
+        → HasRoomFor def.now row.now (slice_index_or (spots_of P.Pages shape pages.old def.now owners forests) block OtherBlock) → ⊥) }
     ensures kept { IfOk result (λ put. put ≡ None → (P.state pages.new).work ≡ (P.state pages.old).work) }
     ensures count { length (P.state pages.new).work ≡ length (P.state pages.old).work }
-    ensures runs { RunsOverPages P.Pages (IsBlockOrMapPage P.Pages ext.now pages.old def.now block) (IsBlockOrMapPage P.Pages ext.now pages.old def.now block)
-        (BreaksTable P.Pages ext.now pages.old def.now) pages.old pages.new (fault_of result) }
+    ensures runs { RunsOverPages P.Pages (IsBlockOrMapPage P.Pages shape pages.old def.now block) (IsBlockOrMapPage P.Pages shape pages.old def.now block)
+        (BreaksTable P.Pages shape pages.old def.now) pages.old pages.new (fault_of result) }
 {
-    let slots = ext.extent_pages * u32::from(capacity(&def.columns));
+    let slots = shape.extent_pages * u32::from(capacity(&def.columns));
     let map = BlockMap::at(alloc, def.roots.map);
     let Some(_had) = map.count_row(pages, block, slots)? else {
         return Ok(None);
     };
-    let slot = put_counted(def, ext, pages, block, row)?;
+    let slot = put_counted(def, shape, pages, block, row)?;
     Ok(Some(Rid { block, slot }))
 }
 
@@ -110,23 +110,23 @@ pub fn put_if_room<P: Pages>(
 /// empty.
 fn put_counted<P: Pages>(
     def: &TableDef,
-    ext: &Extents,
+    shape: Shape,
     pages: &mut P,
     block: u32,
     row: &Row,
 ) -> Result<u16, StoreFault>
     requires defined { IsTableDef def.now.number def.now }
     requires fits { RowFits def.now row.now }
-    requires within { block < ext.now.cap }
+    requires within { block < shape.extents }
     requires going { (P.state pages.old).ended ≡ false }
-    ensures puts { IfOk result (λ slot. (slots : List (Option Row)) → HoldsRows P.Pages ext.now pages.old def.now block slots
-        → PutsFirst P.Pages ext.now pages.old pages.new def.now block row.now slots (Some slot)) }
+    ensures puts { IfOk result (λ slot. (slots : List (Option Row)) → HoldsRows P.Pages shape pages.old def.now block slots
+        → PutsFirst P.Pages shape pages.old pages.new def.now block row.now slots (Some slot)) }
     ensures count { length (P.state pages.new).work ≡ length (P.state pages.old).work }
-    ensures runs { RunsOverPages P.Pages (IsPageOfBlock ext.now block) (IsPageOfBlock ext.now block)
-        (BreaksAround P.Pages ext.now pages.old def.now block (HasEmptySlot P.Pages ext.now pages.old def.now block)) pages.old pages.new (fault_of result) }
+    ensures runs { RunsOverPages P.Pages (IsPageOfBlock shape block) (IsPageOfBlock shape block)
+        (BreaksAround P.Pages shape pages.old def.now block (HasEmptySlot P.Pages shape pages.old def.now block)) pages.old pages.new (fault_of result) }
 {
-    let Some(slot) = put_first(def, ext, pages, block, row)? else {
-        return Err(miscounted(ext, block));
+    let Some(slot) = put_first(def, shape, pages, block, row)? else {
+        return Err(miscounted(shape, block));
     };
     Ok(slot)
 }

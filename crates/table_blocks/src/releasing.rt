@@ -3,7 +3,6 @@ ghost use Rattle.std.specs.Prelude.{◌≡◌, ◌≢◌, ◌<◌, List, false, 
 ghost use Rattle.mdc_values.specs.declared.value.Value.{Value};
 ghost use Rattle.store_api.specs.Causes.{fault_of};
 ghost use Rattle.store_api.specs.RunsOverPages.{RunsOverPages};
-ghost use Rattle.extent_map.specs.Owners.{IsSameShape};
 ghost use Rattle.extent_map.specs.declared.kind.Kind.{Kind};
 ghost use Rattle.mdc_ast.specs.TableLimits.{IsTableDef};
 ghost use Rattle.block_index.specs.Cells.{FitsCell};
@@ -16,10 +15,10 @@ ghost use Rattle.table_blocks.specs.BlockSteps.{ExpectsReleasing, ReleasesBlock,
 
 use block_index::unlist_block;
 use block_map::{BlockMap, BlockRow, BlockState};
-use extent_map::Extents;
+use extent_map::SpaceNotes;
 use mdc_ast::{Cell, TableDef};
 use std::alloc::Global;
-use store_api::{Pages, StoreFault};
+use store_api::{Pages, Shape, StoreFault};
 
 /// Makes the block of this line Free or Pending, whichever state is given, and takes it out of the block indexes, in which it is
 /// listed under this cell. Its row pages aren't looked at, and stay. It claims no page. Damaged where the block map hasn't that line,
@@ -27,7 +26,8 @@ use store_api::{Pages, StoreFault};
 pub fn release_block<P: Pages>(
     alloc: Global,
     def: &TableDef,
-    ext: &mut Extents,
+    shape: Shape,
+    notes: &mut SpaceNotes,
     pages: &mut P,
     line: BlockRow,
     state: BlockState,
@@ -37,17 +37,16 @@ pub fn release_block<P: Pages>(
     requires idle { state ≢ BlockState.Used }
     requires cell { FitsCell def.now cell.now.values }
     requires going { (P.state pages.old).ended ≡ false }
-    ensures turns { OnOk result ((owners : List Kind) (forests : TableForests) → StandsTable P.Pages ext.old pages.old def.now owners forests → ExpectsReleasing def.now line cell.now owners forests
-        → TurnsReleased P.Pages ext.old ext.new pages.old pages.new def.now line.block state owners forests) }
-    ensures releases { OnOk result ((owners : List Kind) (forests : TableForests) (values : List Value) → StandsAround P.Pages ext.old pages.old def.now owners forests line.block
-        → IsOwnBlock ext.old owners def.now line.block → IsKeyedCell def.now cell.now values
-        → ReleasesBlock P.Pages ext.old ext.new pages.old pages.new def.now line.block state values owners forests) }
-    ensures makes { OnOk result ((owners : List Kind) (forests : TableForests) → StandsAround P.Pages ext.old pages.old def.now owners forests line.block → IsOwnBlock ext.old owners def.now line.block
-        → MakesChanges ext.old (pages_of P.Pages pages.old) (released_changes def.now cell.now state line) (pages_of P.Pages pages.new)) }
+    ensures turns { OnOk result ((owners : List Kind) (forests : TableForests) → StandsTable P.Pages shape pages.old def.now owners forests → ExpectsReleasing def.now line cell.now owners forests
+        → TurnsReleased P.Pages shape notes.old notes.new pages.old pages.new def.now line.block state owners forests) }
+    ensures releases { OnOk result ((owners : List Kind) (forests : TableForests) (values : List Value) → StandsAround P.Pages shape pages.old def.now owners forests line.block
+        → IsOwnBlock shape owners def.now line.block → IsKeyedCell def.now cell.now values
+        → ReleasesBlock P.Pages shape notes.old notes.new pages.old pages.new def.now line.block state values owners forests) }
+    ensures makes { OnOk result ((owners : List Kind) (forests : TableForests) → StandsAround P.Pages shape pages.old def.now owners forests line.block → IsOwnBlock shape owners def.now line.block
+        → MakesChanges shape (pages_of P.Pages pages.old) (released_changes def.now cell.now state line) (pages_of P.Pages pages.new)) }
     ensures count { length (P.state pages.new).work ≡ length (P.state pages.old).work }
-    ensures shape { IsSameShape ext.old ext.new }
-    ensures runs { RunsOverPages P.Pages (IsPlaceAround P.Pages ext.old pages.old def.now line.block) (IsPlaceAround P.Pages ext.old pages.old def.now line.block)
-        (BreaksAround P.Pages ext.old pages.old def.now line.block (ExpectsReleasing def.now line cell.now)) pages.old pages.new (fault_of result) }
+    ensures runs { RunsOverPages P.Pages (IsPlaceAround P.Pages shape pages.old def.now line.block) (IsPlaceAround P.Pages shape pages.old def.now line.block)
+        (BreaksAround P.Pages shape pages.old def.now line.block (ExpectsReleasing def.now line cell.now)) pages.old pages.new (fault_of result) }
 {
     let map = BlockMap::at(alloc, def.roots.map);
     let released = BlockRow {
@@ -56,5 +55,5 @@ pub fn release_block<P: Pages>(
         rows: 0,
     };
     map.replace(pages, line, released)?;
-    unlist_block(alloc, def, ext, pages, cell, line.block)
+    unlist_block(alloc, def, shape, notes, pages, cell, line.block)
 }

@@ -7,7 +7,7 @@ use Rattle.mdc_ast.specs.declared.definition.ColumnDef.{ColumnDef}
 use Rattle.mdc_ast.specs.declared.definition.TableDef.{TableDef}
 use Rattle.mdc_ast.specs.declared.row.Row.{Row}
 use Rattle.store_api.specs.declared.pages.Pages.{Ghosts}
-use Rattle.extent_map.specs.declared.extents.Extents.{Extents}
+use Rattle.store_api.specs.declared.shape.Shape.{Shape}
 use Rattle.block_rows.specs.HeldRows.{qualifying}
 use Rattle.mdc_sound.specs.StandingTable.{TableForests, pages_of}
 use Rattle.mdc_sound.specs.TableRows.{PlacedRow, rows_in_table}
@@ -28,11 +28,11 @@ pub record StandForRows (columns : List ColumnDef) (select : BoundSelect) (rows 
   pub make : made_lines (shape_of select) (values_of others) ≡ made_lines (shape_of select) (values_of rows)
 
 -- so it is where the rows that qualify were given, in some order
-pub stand_for_rows : {S : Type 0} (g : Ghosts S) (ext : Extents) (s : S) (def : TableDef) (select : BoundSelect) (forests : TableForests) (placed : List PlacedRow) (rows : List Row) (lines : QueryLines)
-    → IsTrue (shares_lines (shape_of select)) → IsPermutation (qualifying select.pred (rows_in_table ext (pages_of g s) def forests.map)) placed → HasLinesOf def.columns select (map (λ one. one.row) placed) lines
-    → AreQueryRows g ext s def select.pred forests rows → StandForRows def.columns select rows lines
-stand_for_rows g ext s def select forests placed rows lines shares found has are =
-    let all : List PlacedRow = qualifying select.pred (rows_in_table ext (pages_of g s) def forests.map) in
+pub stand_for_rows : {S : Type 0} (g : Ghosts S) (shape : Shape) (s : S) (def : TableDef) (select : BoundSelect) (forests : TableForests) (placed : List PlacedRow) (rows : List Row) (lines : QueryLines)
+    → IsTrue (shares_lines (shape_of select)) → IsPermutation (qualifying select.pred (rows_in_table shape (pages_of g s) def forests.map)) placed → HasLinesOf def.columns select (map (λ one. one.row) placed) lines
+    → AreQueryRows g shape s def select.pred forests rows → StandForRows def.columns select rows lines
+stand_for_rows g shape s def select forests placed rows lines shares found has are =
+    let all : List PlacedRow = qualifying select.pred (rows_in_table shape (pages_of g s) def forests.map) in
     let given : List Row = map (λ (one : PlacedRow). one.row) placed in
     let same : IsPermutation given rows =
     IsPermutation-trans given (map (λ (one : PlacedRow). one.row) all) rows

@@ -13,7 +13,7 @@ use Rattle.mdc_ast.specs.declared.predicate.Pred.{Pred}
 use Rattle.mdc_ast.specs.declared.row.Row.{Row}
 use Rattle.mdc_ast.proofs.TestsLemmas.{and_true, both}
 use Rattle.store_api.specs.declared.pages.Pages.{Ghosts}
-use Rattle.extent_map.specs.declared.extents.Extents.{Extents}
+use Rattle.store_api.specs.declared.shape.Shape.{Shape}
 use Rattle.block_rows.specs.HeldRows.{HasReadValues, HaveReadValues, placed_row, qualifying}
 use Rattle.block_rows.specs.declared.hit.Hit.{Hit}
 use Rattle.mdc_sound.specs.StandingTable.{TableForests, pages_of}
@@ -69,10 +69,10 @@ in_order_rows hits up i j d below within =
     )
 
 -- they are the rows of the query
-pub hits_are : {S : Type 0} (g : Ghosts S) (ext : Extents) (s : S) (def : TableDef) (pred : Option Pred) (hits : List Hit) (forests : TableForests) (rows : List Row) → FindsRows g ext s def pred hits forests
-    → AreQueryRows g ext s def pred forests rows → map (λ hit. hit.row) hits ≡ rows
-hits_are g ext s def pred hits forests rows finds are =
-    let all : List PlacedRow = qualifying pred (rows_in_table ext (pages_of g s) def forests.map) in
+pub hits_are : {S : Type 0} (g : Ghosts S) (shape : Shape) (s : S) (def : TableDef) (pred : Option Pred) (hits : List Hit) (forests : TableForests) (rows : List Row) → FindsRows g shape s def pred hits forests
+    → AreQueryRows g shape s def pred forests rows → map (λ hit. hit.row) hits ≡ rows
+hits_are g shape s def pred hits forests rows finds are =
+    let all : List PlacedRow = qualifying pred (rows_in_table shape (pages_of g s) def forests.map) in
     let found : IsPermutation (map (λ (placed : PlacedRow). placed.row) all) (map (λ (hit : Hit). hit.row) hits) =
     subst (IsPermutation (map (λ (placed : PlacedRow). placed.row) all)) (rows_of_hits hits) (IsPermutation-map (λ (placed : PlacedRow). placed.row) all (map placed_row hits) finds.found) in
     sym (in_order-by_number (map (λ (hit : Hit). hit.row) hits) (in_order_rows hits finds.in_order))

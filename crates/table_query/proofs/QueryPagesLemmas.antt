@@ -7,8 +7,8 @@ use Rattle.store_api.specs.Frame.{NoPage}
 use Rattle.store_api.specs.RunsOverPages.{RunsOverPages}
 use Rattle.store_api.specs.declared.fault.StoreFault.{StoreFault}
 use Rattle.store_api.specs.declared.pages.Pages.{Ghosts}
+use Rattle.store_api.specs.declared.shape.Shape.{Shape}
 use Rattle.store_api.proofs.RunsOverPagesLemmas.{runs_wider}
-use Rattle.extent_map.specs.declared.extents.Extents.{Extents}
 use Rattle.mdc_sound.specs.StandingTable.{BreaksTable}
 use Rattle.row_groups.specs.Lines.{shares_lines}
 use Rattle.row_groups.specs.Shape.{shape_of}
@@ -23,13 +23,13 @@ needs_unshared def select none shares counts = absurd (false≢true (sym none �
 pub needs_uncounted : (def : TableDef) (select : BoundSelect) → counts_rows_alone (shape_of select) ≡ false → NeedsRows def select
 needs_uncounted def select none shares counts = absurd (false≢true (sym none ∙ counts))
 
-module _ {S : Type 0} {g : Ghosts S} (ext : Extents) (def : TableDef) (select : BoundSelect) where
+module _ {S : Type 0} {g : Ghosts S} (shape : Shape) (def : TableDef) (select : BoundSelect) where
   -- a scan, where it needs rows
-  pub runs_scan : {old new : S} {fault : Option StoreFault} → NeedsRows def select → RunsOverPages g NoPage (IsScannedPage g ext old def select.pred) (BreaksTable g ext old def) old new fault
-      → RunsOverPages g NoPage (IsQueryPage g ext old def select) (BreaksTable g ext old def) old new fault
+  pub runs_scan : {old new : S} {fault : Option StoreFault} → NeedsRows def select → RunsOverPages g NoPage (IsScannedPage g shape old def select.pred) (BreaksTable g shape old def) old new fault
+      → RunsOverPages g NoPage (IsQueryPage g shape old def select) (BreaksTable g shape old def) old new fault
   runs_scan needs run = runs_wider run (λ p there none. none) (λ p of. elim of [ inl choice ↦ inl choice | inr row ↦ inr (needs, row) ]) (λ damage breaks. breaks)
 
   -- the choice of blocks, whether it needs rows or not
-  pub runs_choice : {old new : S} {fault : Option StoreFault} → RunsOverPages g NoPage (IsChoicePage g ext old def) (BreaksTable g ext old def) old new fault
-      → RunsOverPages g NoPage (IsQueryPage g ext old def select) (BreaksTable g ext old def) old new fault
+  pub runs_choice : {old new : S} {fault : Option StoreFault} → RunsOverPages g NoPage (IsChoicePage g shape old def) (BreaksTable g shape old def) old new fault
+      → RunsOverPages g NoPage (IsQueryPage g shape old def select) (BreaksTable g shape old def) old new fault
   runs_choice run = runs_wider run (λ p there none. none) (λ p of. inl of) (λ damage breaks. breaks)

@@ -11,8 +11,8 @@ use Rattle.store_api.specs.RunsOverPages.{RunsOverPages}
 use Rattle.store_api.specs.declared.fault.Damage.{Damage}
 use Rattle.store_api.specs.declared.fault.StoreFault.{StoreFault}
 use Rattle.store_api.specs.declared.pages.Pages.{Ghosts}
+use Rattle.store_api.specs.declared.shape.Shape.{Shape}
 use Rattle.store_api.proofs.RunsOverPagesLemmas.{runs_as}
-use Rattle.extent_map.specs.declared.extents.Extents.{Extents}
 use Rattle.block_rows.specs.HeldRows.{qualifying}
 use Rattle.mdc_sound.specs.StandingTable.{BreaksTable, TableForests, pages_of}
 use Rattle.mdc_sound.specs.TableRows.{PlacedRow, rows_in_table}
@@ -20,37 +20,37 @@ use Rattle.mdc_sound.proofs.StandingTableLemmas.{stands_same}
 use Rattle.table_scan.specs.FoundRows.{IsChoicePage, IsChosenRowPage, IsScannedPage, MayHaveRow}
 use Rattle.table_query.specs.QueryAnswers.{AreQueryRows}
 
-module _ {S : Type 0} {g : Ghosts S} (ext : Extents) (def : TableDef) (pred : Option Pred) where
+module _ {S : Type 0} {g : Ghosts S} (shape : Shape) (def : TableDef) (pred : Option Pred) where
   module _ (old now : S) (told : (g.state now).is_told ≡ (g.state old).is_told) (same : (g.state now).work ≡ (g.state old).work) where
     -- the rows of the query are the same
-    pub rows_still : (forests : TableForests) (rows : List Row) → AreQueryRows g ext old def pred forests rows → AreQueryRows g ext now def pred forests rows
+    pub rows_still : (forests : TableForests) (rows : List Row) → AreQueryRows g shape old def pred forests rows → AreQueryRows g shape now def pred forests rows
     rows_still forests rows are = record {
-      found = subst (λ (pages : List (List ℕ)). IsPermutation (map (λ (placed : PlacedRow). placed.row) (qualifying pred (rows_in_table ext pages def forests.map))) rows) (sym same) are.found;
+      found = subst (λ (pages : List (List ℕ)). IsPermutation (map (λ (placed : PlacedRow). placed.row) (qualifying pred (rows_in_table shape pages def forests.map))) rows) (sym same) are.found;
       rise = are.rise;
     }
 
-    row_page_before : (p : ℕ) → IsChosenRowPage g ext now def pred p → IsChosenRowPage g ext old def pred p
+    row_page_before : (p : ℕ) → IsChosenRowPage g shape now def pred p → IsChosenRowPage g shape old def pred p
     row_page_before p is owners forests st =
-        let of = is owners forests (stands_same ext old now def owners forests told same st) in
-        (of.0, record { used = of.1.used; may = subst (λ (pages : List (List ℕ)). MayHaveRow ext pages def pred of.0) same of.1.may }, of.2)
+        let of = is owners forests (stands_same shape old now def owners forests told same st) in
+        (of.0, record { used = of.1.used; may = subst (λ (pages : List (List ℕ)). MayHaveRow shape pages def pred of.0) same of.1.may }, of.2)
 
-    page_before : (p : ℕ) → IsScannedPage g ext now def pred p → IsScannedPage g ext old def pred p
+    page_before : (p : ℕ) → IsScannedPage g shape now def pred p → IsScannedPage g shape old def pred p
     page_before p is = elim is [
-      | inl choice ↦ inl (λ owners forests st. choice owners forests (stands_same ext old now def owners forests told same st))
+      | inl choice ↦ inl (λ owners forests st. choice owners forests (stands_same shape old now def owners forests told same st))
       | inr row ↦ inr (row_page_before p row)
     ]
 
-    breaks_before : (damage : Damage) → BreaksTable g ext now def damage → BreaksTable g ext old def damage
-    breaks_before damage breaks = record { names = breaks.names; broken = λ owners forests st. breaks.broken owners forests (stands_same ext old now def owners forests told same st) }
+    breaks_before : (damage : Damage) → BreaksTable g shape now def damage → BreaksTable g shape old def damage
+    breaks_before damage breaks = record { names = breaks.names; broken = λ owners forests st. breaks.broken owners forests (stands_same shape old now def owners forests told same st) }
 
     -- both are one run
-    pub runs_behind : {new : S} {fault : Option StoreFault} → RunsOverPages g NoPage (IsChoicePage g ext old def) (BreaksTable g ext old def) old now None
-        → RunsOverPages g NoPage (IsScannedPage g ext now def pred) (BreaksTable g ext now def) now new fault → RunsOverPages g NoPage (IsScannedPage g ext old def pred) (BreaksTable g ext old def) old new fault
+    pub runs_behind : {new : S} {fault : Option StoreFault} → RunsOverPages g NoPage (IsChoicePage g shape old def) (BreaksTable g shape old def) old now None
+        → RunsOverPages g NoPage (IsScannedPage g shape now def pred) (BreaksTable g shape now def) now new fault → RunsOverPages g NoPage (IsScannedPage g shape old def pred) (BreaksTable g shape old def) old new fault
     runs_behind first second = runs_as first second (λ p there none. none) (λ p there none. none) (λ p of. inl of) page_before breaks_before
 
 -- as many rows as qualify
-pub rows_counted_are : {S : Type 0} (g : Ghosts S) (ext : Extents) (s : S) (def : TableDef) (pred : Option Pred) (forests : TableForests) (rows : List Row) (count : ℕ)
-    → AreQueryRows g ext s def pred forests rows → count ≡ length (qualifying pred (rows_in_table ext (pages_of g s) def forests.map)) → length rows ≡ count
-rows_counted_are g ext s def pred forests rows count are counted =
-    let all : List PlacedRow = qualifying pred (rows_in_table ext (pages_of g s) def forests.map) in
+pub rows_counted_are : {S : Type 0} (g : Ghosts S) (shape : Shape) (s : S) (def : TableDef) (pred : Option Pred) (forests : TableForests) (rows : List Row) (count : ℕ)
+    → AreQueryRows g shape s def pred forests rows → count ≡ length (qualifying pred (rows_in_table shape (pages_of g s) def forests.map)) → length rows ≡ count
+rows_counted_are g shape s def pred forests rows count are counted =
+    let all : List PlacedRow = qualifying pred (rows_in_table shape (pages_of g s) def forests.map) in
     length_permutation (map (λ (placed : PlacedRow). placed.row) all) rows are.found ∙ length-map all (λ (placed : PlacedRow). placed.row) ∙ sym counted

@@ -7,7 +7,7 @@ use Rattle.mdc_ast.specs.declared.predicate.Pred.{Pred}
 use Rattle.mdc_ast.specs.declared.row.Row.{Row}
 use Rattle.store_api.specs.declared.fault.StoreFault.{StoreFault}
 use Rattle.store_api.specs.declared.pages.Pages.{Ghosts}
-use Rattle.extent_map.specs.declared.extents.Extents.{Extents}
+use Rattle.store_api.specs.declared.shape.Shape.{Shape}
 use Rattle.block_rows.specs.HeldRows.{qualifying}
 use Rattle.mdc_sound.specs.StandingTable.{TableForests, pages_of}
 use Rattle.mdc_sound.specs.TableRows.{rows_in_table}
@@ -19,8 +19,8 @@ use Rattle.table_query.specs.declared.fault.QueryFault.{QueryFault}
 use Rattle.table_query.specs.declared.fault.QueryFault.TheVariants as fault
 
 -- These are the rows of the table that qualify, by rising number, no two with the same.
-pub record AreQueryRows {S : Type 0} (g : Ghosts S) (ext : Extents) (s : S) (def : TableDef) (pred : Option Pred) (forests : TableForests) (rows : List Row) : Type 0 where
-  pub found : IsPermutation (map (λ placed. placed.row) (qualifying pred (rows_in_table ext (pages_of g s) def forests.map))) rows
+pub record AreQueryRows {S : Type 0} (g : Ghosts S) (shape : Shape) (s : S) (def : TableDef) (pred : Option Pred) (forests : TableForests) (rows : List Row) : Type 0 where
+  pub found : IsPermutation (map (λ placed. placed.row) (qualifying pred (rows_in_table shape (pages_of g s) def forests.map))) rows
   pub rise : Rise rows
 
 -- the fault of the store, where that is why there are no lines

@@ -17,12 +17,11 @@ use crate::copied::answer_from_copies;
 use crate::counted::{answer_from_count, counts_rows_alone};
 use crate::fault::QueryFault;
 use crate::grouped::answer_from_groups;
-use extent_map::Extents;
 use mdc_ast::{BoundSelect, TableDef};
 use mdc_values::Chars;
 use row_groups::shares_lines;
 use std::alloc::Global;
-use store_api::Pages;
+use store_api::{Pages, Shape};
 use table_scan::count_rows;
 
 /// The text of the lines of a query of a table: names, lines and their number; or the first sum outside BIGINT. Only pages come to
@@ -31,7 +30,7 @@ use table_scan::count_rows;
 pub fn answer<P: Pages>(
     alloc: Global,
     def: &TableDef,
-    ext: &Extents,
+    shape: Shape,
     pages: &mut P,
     select: &BoundSelect,
 ) -> Result<Chars, QueryFault>
@@ -39,19 +38,19 @@ pub fn answer<P: Pages>(
     requires shown { IsTrue (are_outs_within (length def.now.columns) select.now.outs) }
     requires judged { (row : Row) → HasReadValues def.now.columns row → IsTrue (may_filter select.now.pred row.values) }
     requires going { (P.state pages.old).ended ≡ false }
-    ensures answers { (owners : List Kind) (forests : TableForests) (rows : List Row) → StandsTable P.Pages ext.now pages.old def.now owners forests
-        → AreQueryRows P.Pages ext.now pages.old def.now select.now.pred forests rows → AnswersQuery def.now.columns select.now rows result }
+    ensures answers { (owners : List Kind) (forests : TableForests) (rows : List Row) → StandsTable P.Pages shape pages.old def.now owners forests
+        → AreQueryRows P.Pages shape pages.old def.now select.now.pred forests rows → AnswersQuery def.now.columns select.now rows result }
     ensures same { (P.state pages.new).work ≡ (P.state pages.old).work }
-    ensures runs { RunsOverPages P.Pages NoPage (IsQueryPage P.Pages ext.now pages.old def.now select.now) (BreaksTable P.Pages ext.now pages.old def.now) pages.old pages.new (store_fault_in store_part_of result) }
+    ensures runs { RunsOverPages P.Pages NoPage (IsQueryPage P.Pages shape pages.old def.now select.now) (BreaksTable P.Pages shape pages.old def.now) pages.old pages.new (store_fault_in store_part_of result) }
 {
     if !shares_lines(select) {
-        return answer_from_copies(alloc, def, ext, pages, select);
+        return answer_from_copies(alloc, def, shape, pages, select);
     }
     if !counts_rows_alone(select) {
-        return answer_from_groups(alloc, def, ext, pages, select);
+        return answer_from_groups(alloc, def, shape, pages, select);
     }
-    let Some(count) = count_rows(alloc, def, ext, pages, &select.pred)? else {
-        return answer_from_groups(alloc, def, ext, pages, select);
+    let Some(count) = count_rows(alloc, def, shape, pages, &select.pred)? else {
+        return answer_from_groups(alloc, def, shape, pages, select);
     };
     answer_from_count(alloc, def, select, count)
 }

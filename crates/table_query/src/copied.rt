@@ -18,18 +18,17 @@ ghost use Rattle.table_query.specs.QueryAnswers.{AnswersQuery, AreQueryRows, sto
 use crate::fault::QueryFault;
 use answer_text::{AnswerFault, QueryLines};
 use block_rows::Hit;
-use extent_map::Extents;
 use mdc_ast::{BoundSelect, ColumnDef, TableDef};
 use mdc_values::{Chars, List};
 use std::alloc::Global;
-use store_api::Pages;
+use store_api::{Pages, Shape};
 use table_scan::find_rows;
 
 /// The answer to a query from copies of the rows, by rising number.
 pub(crate) fn answer_from_copies<P: Pages>(
     alloc: Global,
     def: &TableDef,
-    ext: &Extents,
+    shape: Shape,
     pages: &mut P,
     select: &BoundSelect,
 ) -> Result<Chars, QueryFault>
@@ -37,12 +36,12 @@ pub(crate) fn answer_from_copies<P: Pages>(
     requires shown { IsTrue (are_outs_within (length def.now.columns) select.now.outs) }
     requires judged { (row : Row) → HasReadValues def.now.columns row → IsTrue (may_filter select.now.pred row.values) }
     requires going { (P.state pages.old).ended ≡ false }
-    ensures answers { (owners : List Kind) (forests : TableForests) (rows : List Row) → StandsTable P.Pages ext.now pages.old def.now owners forests
-        → AreQueryRows P.Pages ext.now pages.old def.now select.now.pred forests rows → AnswersQuery def.now.columns select.now rows result }
+    ensures answers { (owners : List Kind) (forests : TableForests) (rows : List Row) → StandsTable P.Pages shape pages.old def.now owners forests
+        → AreQueryRows P.Pages shape pages.old def.now select.now.pred forests rows → AnswersQuery def.now.columns select.now rows result }
     ensures same { (P.state pages.new).work ≡ (P.state pages.old).work }
-    ensures runs { RunsOverPages P.Pages NoPage (IsScannedPage P.Pages ext.now pages.old def.now select.now.pred) (BreaksTable P.Pages ext.now pages.old def.now) pages.old pages.new (store_fault_in store_part_of result) }
+    ensures runs { RunsOverPages P.Pages NoPage (IsScannedPage P.Pages shape pages.old def.now select.now.pred) (BreaksTable P.Pages shape pages.old def.now) pages.old pages.new (store_fault_in store_part_of result) }
 {
-    let hits = find_rows(alloc, def, ext, pages, &select.pred)?;
+    let hits = find_rows(alloc, def, shape, pages, &select.pred)?;
     Ok(lines_of_hits(alloc, select, &def.columns, hits.as_slice())?)
 }
 

@@ -18,19 +18,18 @@ ghost use Rattle.table_query.specs.QueryAnswers.{AnswersQuery, AreQueryRows, sto
 use crate::asked::Asked;
 use crate::fault::QueryFault;
 use crate::gathered_rows::GatheredRows;
-use extent_map::Extents;
 use mdc_ast::{BoundSelect, TableDef};
 use mdc_values::Chars;
 use std::alloc::Global;
 use std::marker::Brand;
-use store_api::Pages;
+use store_api::{Pages, Shape};
 use table_scan::scan_rows;
 
 /// The answer to a query whose rows share lines, from the rows where they lie.
 pub(crate) fn answer_from_groups<P: Pages>(
     alloc: Global,
     def: &TableDef,
-    ext: &Extents,
+    shape: Shape,
     pages: &mut P,
     select: &BoundSelect,
 ) -> Result<Chars, QueryFault>
@@ -39,19 +38,19 @@ pub(crate) fn answer_from_groups<P: Pages>(
     requires shares { IsTrue (shares_lines (shape_of select.now)) }
     requires judged { (row : Row) → HasReadValues def.now.columns row → IsTrue (may_filter select.now.pred row.values) }
     requires going { (P.state pages.old).ended ≡ false }
-    ensures answers { (owners : List Kind) (forests : TableForests) (rows : List Row) → StandsTable P.Pages ext.now pages.old def.now owners forests
-        → AreQueryRows P.Pages ext.now pages.old def.now select.now.pred forests rows → AnswersQuery def.now.columns select.now rows result }
+    ensures answers { (owners : List Kind) (forests : TableForests) (rows : List Row) → StandsTable P.Pages shape pages.old def.now owners forests
+        → AreQueryRows P.Pages shape pages.old def.now select.now.pred forests rows → AnswersQuery def.now.columns select.now rows result }
     ensures same { (P.state pages.new).work ≡ (P.state pages.old).work }
-    ensures runs { RunsOverPages P.Pages NoPage (IsScannedPage P.Pages ext.now pages.old def.now select.now.pred) (BreaksTable P.Pages ext.now pages.old def.now) pages.old pages.new (store_fault_in store_part_of result) }
+    ensures runs { RunsOverPages P.Pages NoPage (IsScannedPage P.Pages shape pages.old def.now select.now.pred) (BreaksTable P.Pages shape pages.old def.now) pages.old pages.new (store_fault_in store_part_of result) }
 {
-    gather::<P, Brand>(alloc, def, ext, pages, select)
+    gather::<P, Brand>(alloc, def, shape, pages, select)
 }
 
 /// The same, of the query for which a type stands.
 fn gather<P: Pages, Q: Asked>(
     alloc: Global,
     def: &TableDef,
-    ext: &Extents,
+    shape: Shape,
     pages: &mut P,
     select: &BoundSelect,
 ) -> Result<Chars, QueryFault>
@@ -62,12 +61,12 @@ fn gather<P: Pages, Q: Asked>(
     requires shares { IsTrue (shares_lines (shape_of select.now)) }
     requires judged { (row : Row) → HasReadValues def.now.columns row → IsTrue (may_filter select.now.pred row.values) }
     requires going { (P.state pages.old).ended ≡ false }
-    ensures answers { (owners : List Kind) (forests : TableForests) (rows : List Row) → StandsTable P.Pages ext.now pages.old def.now owners forests
-        → AreQueryRows P.Pages ext.now pages.old def.now select.now.pred forests rows → AnswersQuery def.now.columns select.now rows result }
+    ensures answers { (owners : List Kind) (forests : TableForests) (rows : List Row) → StandsTable P.Pages shape pages.old def.now owners forests
+        → AreQueryRows P.Pages shape pages.old def.now select.now.pred forests rows → AnswersQuery def.now.columns select.now rows result }
     ensures same { (P.state pages.new).work ≡ (P.state pages.old).work }
-    ensures runs { RunsOverPages P.Pages NoPage (IsScannedPage P.Pages ext.now pages.old def.now select.now.pred) (BreaksTable P.Pages ext.now pages.old def.now) pages.old pages.new (store_fault_in store_part_of result) }
+    ensures runs { RunsOverPages P.Pages NoPage (IsScannedPage P.Pages shape pages.old def.now select.now.pred) (BreaksTable P.Pages shape pages.old def.now) pages.old pages.new (store_fault_in store_part_of result) }
 {
     let mut rows: GatheredRows<'_, Q> = GatheredRows::new(alloc, def, select)?;
-    scan_rows(alloc, def, ext, pages, &select.pred, &mut rows)?;
+    scan_rows(alloc, def, shape, pages, &select.pred, &mut rows)?;
     Ok(rows.into_lines().close(alloc)?)
 }

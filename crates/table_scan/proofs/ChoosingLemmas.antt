@@ -17,7 +17,7 @@ use Rattle.mdc_ast.specs.Database.{fits_all}
 use Rattle.cell_filter.specs.Cells.{may_hold}
 use Rattle.cell_filter.proofs.MayHoldLemmas.{may_hold_at-true}
 use Rattle.store_api.specs.declared.pages.Pages.{Ghosts}
-use Rattle.extent_map.specs.declared.extents.Extents.{Extents}
+use Rattle.store_api.specs.declared.shape.Shape.{Shape}
 use Rattle.extent_map.specs.declared.kind.Kind.{Kind}
 use Rattle.key_codec.proofs.KeyLemmas.{first_there, type_at_part}
 use Rattle.entry_tree.specs.Forest.{leaf_entries}
@@ -283,42 +283,42 @@ module _ (def : TableDef) (rows : List PlacedRow) (is_entry : (placed : PlacedRo
 
 -- ---- all together
 
-module _ {S : Type 0} (g : Ghosts S) (ext : Extents) (s : S) (def : TableDef) (owners : List Kind) (forests : TableForests) (st : StandsTable g ext s def owners forests)
-    (there : AreColumns def.columns (cell_parts def)) (small : ext.cap < 2 ^ 32) where
+module _ {S : Type 0} (g : Ghosts S) (shape : Shape) (s : S) (def : TableDef) (owners : List Kind) (forests : TableForests) (st : StandsTable g shape s def owners forests)
+    (there : AreColumns def.columns (cell_parts def)) (small : shape.extents < 2 ^ 32) where
   rows : List PlacedRow
-  rows = rows_in_table ext (pages_of g s) def forests.map
+  rows = rows_in_table shape (pages_of g s) def forests.map
 
   -- the block of a row of the table
   record IsOfUsed (placed : PlacedRow) : Type 0 where
     used : Contains (used_blocks forests.map) placed.rid.block
-    within : Contains (rows_in_block ext (pages_of g s) def placed.rid.block) placed
+    within : Contains (rows_in_block shape (pages_of g s) def placed.rid.block) placed
 
   of_used : (placed : PlacedRow) → Contains rows placed → IsOfUsed placed
   unfolding rows
   of_used placed is_in =
-      let (block, used, within) = flat_contains (rows_in_block ext (pages_of g s) def) (used_blocks forests.map) placed is_in in
-      let same : placed.rid.block ≡ block = (slot_of_placed block 0 (block_slots ext (pages_of g s) def block) placed within).1 in
+      let (block, used, within) = flat_contains (rows_in_block shape (pages_of g s) def) (used_blocks forests.map) placed is_in in
+      let same : placed.rid.block ≡ block = (slot_of_placed block 0 (block_slots shape (pages_of g s) def block) placed within).1 in
       record {
         used = subst (Contains (used_blocks forests.map)) (sym same) used;
-        within = subst (λ b. Contains (rows_in_block ext (pages_of g s) def b) placed) (sym same) within;
+        within = subst (λ b. Contains (rows_in_block shape (pages_of g s) def b) placed) (sym same) within;
       }
 
   row_entry_is : (placed : PlacedRow) → Contains rows placed → IsCellEntry def (entry_of_block def (cell_parts def) placed) (cell_of def placed)
   row_entry_is placed is_in =
       let mine = of_used placed is_in in
-      let fit = each_of (λ placed. RowFits def placed.row) (rows_in_block ext (pages_of g s) def placed.rid.block) placed
-      (each_of (AreBlockRowsSound ext (pages_of g s) def) (used_blocks forests.map) placed.rid.block st.rows mine.used).rows mine.within in
-      is_cell_entry def placed there fit.values (omega (arith, small, (named_owned ext owners def forests.map 1 placed.rid.block st.map mine.used).0))
+      let fit = each_of (λ placed. RowFits def placed.row) (rows_in_block shape (pages_of g s) def placed.rid.block) placed
+      (each_of (AreBlockRowsSound shape (pages_of g s) def) (used_blocks forests.map) placed.rid.block st.rows mine.used).rows mine.within in
+      is_cell_entry def placed there fit.values (omega (arith, small, (named_owned shape owners def forests.map 1 placed.rid.block st.map mine.used).0))
 
   -- an entry that was read has the cell of a row of its block
   pub listed_cell : (found : List CellBlock) → ((all : List CellBlock) → AreCellEntries def (leaf_entries forests.composite) all → found ≡ all) → (one : CellBlock) → Contains found one
-      → (placed : PlacedRow) × Contains (rows_in_block ext (pages_of g s) def one.block) placed × (one.cell.values ≡ cell_values def placed.row.values)
+      → (placed : PlacedRow) × Contains (rows_in_block shape (pages_of g s) def one.block) placed × (one.cell.values ≡ cell_values def placed.row.values)
   unfolding rows
   listed_cell found listed one in_found =
       let all = cells_of_rows def rows row_entry_is (leaf_entries forests.composite) st.indexes.composite.only in
       let (placed, in_rows, is) = all.each one (subst (λ l. Contains l one) (listed all.all all.are) in_found) in
       let mine = of_used placed in_rows in
-      (placed, subst (λ b. Contains (rows_in_block ext (pages_of g s) def b) placed) (ap (λ (c : CellBlock). c.block) is) mine.within, sym (ap (λ (c : CellBlock). c.cell.values) is))
+      (placed, subst (λ b. Contains (rows_in_block shape (pages_of g s) def b) placed) (ap (λ (c : CellBlock). c.block) is) mine.within, sym (ap (λ (c : CellBlock). c.cell.values) is))
 
   module _ (pred : Pred) (found : List CellBlock) (blocks : List ℕ)
       (listed : (all : List CellBlock) → AreCellEntries def (leaf_entries forests.composite) all → found ≡ all) (chooses : ChoosesBlocks def pred found blocks) where
@@ -326,7 +326,7 @@ module _ {S : Type 0} (g : Ghosts S) (ext : Extents) (s : S) (def : TableDef) (o
     may one = may_hold def one.cell pred
 
     -- a block that was chosen has a row in whose cell the predicate may hold
-    chosen_one : (block : ℕ) → Contains blocks block → IsChosenBlock g ext s def (Some pred) forests block
+    chosen_one : (block : ℕ) → Contains blocks block → IsChosenBlock g shape s def (Some pred) forests block
     unfolding rows may
     chosen_one block is_in =
         let (one, kept, block_is) = map-contains (λ (one : CellBlock). one.block) (filter may found) block ((chooses.same block).1 is_in) in
@@ -339,7 +339,7 @@ module _ {S : Type 0} (g : Ghosts S) (ext : Extents) (s : S) (def : TableDef) (o
           used = subst (Contains (used_blocks forests.map)) same mine.used;
           may = (
             placed,
-            subst (λ b. Contains (rows_in_block ext (pages_of g s) def b) placed) same mine.within,
+            subst (λ b. Contains (rows_in_block shape (pages_of g s) def b) placed) same mine.within,
             ap (λ (c : CellBlock). may_hold def c.cell pred) is ∙ holds,
           );
         }
@@ -357,19 +357,19 @@ module _ {S : Type 0} (g : Ghosts S) (ext : Extents) (s : S) (def : TableDef) (o
         (chooses.same placed.rid.block).0 (contains-map (λ (one : CellBlock). one.block) (filter may found) (cell_of def placed) (contains-filter may found (cell_of def placed) in_found holds))
 
     -- of a Used block that wasn't chosen no row qualifies
-    nothing_else : (block : ℕ) → Contains (used_blocks forests.map) block → (Contains blocks block → ⊥) → qualifying (Some pred) (rows_in_block ext (pages_of g s) def block) ≡ []
+    nothing_else : (block : ℕ) → Contains (used_blocks forests.map) block → (Contains blocks block → ⊥) → qualifying (Some pred) (rows_in_block shape (pages_of g s) def block) ≡ []
     unfolding rows
-    nothing_else block used out = filter-none (λ placed. qualifies (Some pred) placed.row.values) (rows_in_block ext (pages_of g s) def block) (λ placed within qualifies_so.
-        let same : placed.rid.block ≡ block = (slot_of_placed block 0 (block_slots ext (pages_of g s) def block) placed within).1 in
-        out (subst (Contains blocks) same (row_chosen placed (contains_flat (rows_in_block ext (pages_of g s) def) (used_blocks forests.map) block placed used within) qualifies_so)))
+    nothing_else block used out = filter-none (λ placed. qualifies (Some pred) placed.row.values) (rows_in_block shape (pages_of g s) def block) (λ placed within qualifies_so.
+        let same : placed.rid.block ≡ block = (slot_of_placed block 0 (block_slots shape (pages_of g s) def block) placed within).1 in
+        out (subst (Contains blocks) same (row_chosen placed (contains_flat (rows_in_block shape (pages_of g s) def) (used_blocks forests.map) block placed used within) qualifies_so)))
 
     -- all rows that qualify are in the blocks that were chosen
-    pub have_qualifying : HaveQualifying g ext s def (Some pred) blocks forests
+    pub have_qualifying : HaveQualifying g shape s def (Some pred) blocks forests
     have_qualifying =
         let p : PlacedRow → Bool = λ placed. qualifies (Some pred) placed.row.values in
-        let rows_at : ℕ → List PlacedRow = rows_in_block ext (pages_of g s) def in
+        let rows_at : ℕ → List PlacedRow = rows_in_block shape (pages_of g s) def in
         record {
-          chosen = each_in (IsChosenBlock g ext s def (Some pred) forests) blocks chosen_one;
+          chosen = each_in (IsChosenBlock g shape s def (Some pred) forests) blocks chosen_one;
           whole = subst (λ l. IsPermutation l (filter p (flat_map rows_at blocks))) (sym (filter-flat_map p rows_at (used_blocks forests.map)))
               (subst (IsPermutation (flat_map (λ b. filter p (rows_at b)) (used_blocks forests.map))) (sym (filter-flat_map p rows_at blocks))
               (made_of_some (λ b. filter p (rows_at b)) blocks (used_blocks forests.map) (none_twice-rising blocks chooses.rising) used_once

@@ -14,7 +14,7 @@ use Rattle.mdc_ast.specs.Truth.{qualifies}
 use Rattle.cell_filter.specs.Cells.{may_hold_at}
 use Rattle.row_filter.specs.Filtering.{may_filter}
 use Rattle.store_api.specs.declared.pages.Pages.{Ghosts}
-use Rattle.extent_map.specs.declared.extents.Extents.{Extents}
+use Rattle.store_api.specs.declared.shape.Shape.{Shape}
 use Rattle.extent_map.specs.declared.kind.Kind.{Kind}
 use Rattle.block_map.specs.MapLines.{map_lines, used_blocks}
 use Rattle.block_map.proofs.MapLinesLemmas.{contains_more}
@@ -43,11 +43,11 @@ settled_qualifies : (def : TableDef) (pred : Option Pred) (values : List Value) 
 settled_qualifies def None values settled judged may = refl
 settled_qualifies def (Some pred) values settled judged may = sym (settled values judged false) ∙ may
 
-module _ {S : Type 0} {g : Ghosts S} (ext : Extents) (s : S) (def : TableDef) (owners : List Kind) (forests : TableForests) (st : StandsTable g ext s def owners forests) where
+module _ {S : Type 0} {g : Ghosts S} (shape : Shape) (s : S) (def : TableDef) (owners : List Kind) (forests : TableForests) (st : StandsTable g shape s def owners forests) where
   rows_at : ℕ → List PlacedRow
-  rows_at = rows_in_block ext (pages_of g s) def
+  rows_at = rows_in_block shape (pages_of g s) def
 
-  module _ (one : ListedBlock) (so : IsListedSo g ext s def one owners forests) where
+  module _ (one : ListedBlock) (so : IsListedSo g shape s def one owners forests) where
     is_used : Contains (used_blocks forests.map) one.block
     is_used = used_of_listed forests.map (used_line_of one) refl so.line
 
@@ -58,7 +58,7 @@ module _ {S : Type 0} {g : Ghosts S} (ext : Extents) (s : S) (def : TableDef) (o
     may_of_listed (Some pred) may placed within =
         let (cell, is, holds) = may in
         let (first, there, its) = so.cell cell is in
-        let one_cell : IsOfOneCell ext (pages_of g s) def one.block = each_of (IsOfOneCell ext (pages_of g s) def) (used_blocks forests.map) one.block st.cells is_used in
+        let one_cell : IsOfOneCell shape (pages_of g s) def one.block = each_of (IsOfOneCell shape (pages_of g s) def) (used_blocks forests.map) one.block st.cells is_used in
         let same : cell_values def first.row.values ≡ cell_values def placed.row.values =
         same_of_any (λ (placed : PlacedRow). cell_values def placed.row.values) (rows_at one.block) one_cell first placed there within in
         ap (λ values. may_hold_at (cell_places def) values pred) (sym (its ∙ same)) ∙ holds
@@ -67,22 +67,22 @@ module _ {S : Type 0} {g : Ghosts S} (ext : Extents) (s : S) (def : TableDef) (o
     is_read : (placed : PlacedRow) → Contains (rows_at one.block) placed → HasReadValues def.columns placed.row
     unfolding rows_at
     is_read placed within =
-        let sound = each_of (AreBlockRowsSound ext (pages_of g s) def) (used_blocks forests.map) one.block st.rows is_used in
+        let sound = each_of (AreBlockRowsSound shape (pages_of g s) def) (used_blocks forests.map) one.block st.rows is_used in
         read_of_fitting def.columns placed.row (each_of (λ placed. RowFits def placed.row) (rows_at one.block) placed sound.rows within).values
 
     -- so many rows it has as its line says
     counted : one.rows ≡ length (rows_at one.block)
     unfolding rows_at
-    counted = (each_of (IsUsedCountSound ext (pages_of g s) def) (map_lines forests.map) (used_line_of one) st.used_counts so.line).counted refl
+    counted = (each_of (IsUsedCountSound shape (pages_of g s) def) (map_lines forests.map) (used_line_of one) st.used_counts so.line).counted refl
 
   module _ (pred : Option Pred) (settled : IsSettledIfAny def pred) (judged : (row : Row) → HasReadValues def.columns row → IsTrue (may_filter pred row.values)) where
     -- all of which qualify
-    all_qualify : (one : ListedBlock) → IsListedSo g ext s def one owners forests → HasCellThatMay def pred one → qualifying pred (rows_at one.block) ≡ rows_at one.block
+    all_qualify : (one : ListedBlock) → IsListedSo g shape s def one owners forests → HasCellThatMay def pred one → qualifying pred (rows_at one.block) ≡ rows_at one.block
     all_qualify one so may =
         filter_all (λ placed. qualifies pred placed.row.values) (rows_at one.block)
         (λ placed within. settled_qualifies def pred placed.row.values settled (judged placed.row (is_read one so placed within)) (may_of_listed one so pred may placed within))
 
-    of_lines : (items : List ListedBlock) → AreListedSo g ext s def owners forests items → AllByRecursion (HasCellThatMay def pred) items
+    of_lines : (items : List ListedBlock) → AreListedSo g shape s def owners forests items → AllByRecursion (HasCellThatMay def pred) items
         → sum_by (λ one. one.rows) items ≡ length (qualifying pred (flat_map rows_at (blocks_listed items)))
     of_lines [] so may = refl
     of_lines (one ∷ items) so may =
@@ -94,9 +94,9 @@ module _ {S : Type 0} {g : Ghosts S} (ext : Extents) (s : S) (def : TableDef) (o
         sum_by-cons (λ (one : ListedBlock). one.rows) one items ∙ omega (arith, own, of_lines items so.1 may.1, length-append here rest) ∙ sym (ap length parts)
 
     -- so the lines say how many rows of the table do
-    pub counts_qualifying : (items : List ListedBlock) → GoesOver g ext s def pred items
-        → sum_by (λ one. one.rows) items ≡ length (qualifying pred (rows_in_table ext (pages_of g s) def forests.map))
+    pub counts_qualifying : (items : List ListedBlock) → GoesOver g shape s def pred items
+        → sum_by (λ one. one.rows) items ≡ length (qualifying pred (rows_in_table shape (pages_of g s) def forests.map))
     unfolding rows_at
     counts_qualifying items over =
         of_lines items (over.so owners forests st) over.lists.cells
-        ∙ length_permutation (qualifying pred (rows_in_table ext (pages_of g s) def forests.map)) (qualifying pred (flat_map rows_at (blocks_listed items))) (over.chosen owners forests st).whole
+        ∙ length_permutation (qualifying pred (rows_in_table shape (pages_of g s) def forests.map)) (qualifying pred (flat_map rows_at (blocks_listed items))) (over.chosen owners forests st).whole

@@ -14,7 +14,7 @@ use Rattle.mdc_ast.specs.declared.predicate.Pred.{Pred}
 use Rattle.mdc_ast.specs.declared.row.Row.{Row}
 use Rattle.mdc_ast.specs.Truth.{qualifies}
 use Rattle.store_api.specs.declared.pages.Pages.{Ghosts}
-use Rattle.extent_map.specs.declared.extents.Extents.{Extents}
+use Rattle.store_api.specs.declared.shape.Shape.{Shape}
 use Rattle.extent_map.specs.declared.kind.Kind.{Kind}
 use Rattle.block_map.specs.MapLines.{used_blocks}
 use Rattle.block_map.proofs.MapLinesLemmas.{contains_cases, contains_more}
@@ -130,31 +130,31 @@ in_slot block at (Some row ∷ slots) placed there = elim (contains_cases placed
       record { place = suc later.place; slot_is = omega (arith, later.slot_is); block_is = later.block_is; row_is = later.row_is }
 ]
 
-module _ {S : Type 0} (g : Ghosts S) (ext : Extents) (s : S) (def : TableDef) (owners : List Kind) (forests : TableForests) (st : StandsTable g ext s def owners forests) where
+module _ {S : Type 0} (g : Ghosts S) (shape : Shape) (s : S) (def : TableDef) (owners : List Kind) (forests : TableForests) (st : StandsTable g shape s def owners forests) where
   -- each row of a table that stands lies where it says
-  pub row_lies : (placed : PlacedRow) → Contains (rows_in_table ext (pages_of g s) def forests.map) placed
-      → (slots : List (Option Row)) × IsRowAt (spots_of g ext s def owners forests) placed.rid placed.row slots
+  pub row_lies : (placed : PlacedRow) → Contains (rows_in_table shape (pages_of g s) def forests.map) placed
+      → (slots : List (Option Row)) × IsRowAt (spots_of g shape s def owners forests) placed.rid placed.row slots
   row_lies placed there =
-      let (block, used, within) = flat_contains (rows_in_block ext (pages_of g s) def) (used_blocks forests.map) placed there in
-      let slots = block_slots ext (pages_of g s) def block in
+      let (block, used, within) = flat_contains (rows_in_block shape (pages_of g s) def) (used_blocks forests.map) placed there in
+      let slots = block_slots shape (pages_of g s) def block in
       let in_place = in_slot block 0 slots placed within in
       let slot_is : placed.rid.slot ≡ in_place.place = omega (arith, in_place.slot_is) in
       let used_here : Contains (used_blocks forests.map) placed.rid.block = subst (Contains (used_blocks forests.map)) (sym in_place.block_is) used in (
         slots,
         record {
-          within = omega (arith, (named_owned ext owners def forests.map 1 placed.rid.block st.map used_here).0, length-spots ext (pages_of g s) def owners forests.map);
-          block = λ d. used_spot ext (pages_of g s) def owners forests.map placed.rid.block d st.map used_here ∙ ap (λ e. UsedBlock (block_slots ext (pages_of g s) def e)) in_place.block_is;
+          within = omega (arith, (named_owned shape owners def forests.map 1 placed.rid.block st.map used_here).0, length-spots shape (pages_of g s) def owners forests.map);
+          block = λ d. used_spot shape (pages_of g s) def owners forests.map placed.rid.block d st.map used_here ∙ ap (λ e. UsedBlock (block_slots shape (pages_of g s) def e)) in_place.block_is;
           slot = ap (λ k. get_or slots k None) slot_is ∙ in_place.row_is;
         },
       )
 
-  module _ (pred : Option Pred) (hits : List Hit) (finds : FindsRows g ext s def pred hits forests) where
+  module _ (pred : Option Pred) (hits : List Hit) (finds : FindsRows g shape s def pred hits forests) where
     -- so does each that a scan found
     pub found_rows_lie : (placed : PlacedRow) → Contains (map placed_row hits) placed
-        → (slots : List (Option Row)) × IsRowAt (spots_of g ext s def owners forests) placed.rid placed.row slots
+        → (slots : List (Option Row)) × IsRowAt (spots_of g shape s def owners forests) placed.rid placed.row slots
     found_rows_lie placed there =
         let p : PlacedRow → Bool = λ placed. qualifies pred placed.row.values in
-        let rows = rows_in_table ext (pages_of g s) def forests.map in
+        let rows = rows_in_table shape (pages_of g s) def forests.map in
         row_lies placed (of_kept p rows placed (Contains-permutation (map placed_row hits) (filter p rows) placed (IsPermutation-sym (filter p rows) (map placed_row hits) finds.found) there))
 
 -- ---- in which order they are
@@ -182,12 +182,12 @@ rows_rise hits rise = rises_mapped (λ (hit : Hit). hit.row) (λ (row : Row). ro
 pub placed_rise : (hits : List Hit) → AllPairs (λ a b. a.row.number < b.row.number) hits → AllPairs (λ a b. a.row.number < b.row.number) (map placed_row hits)
 placed_rise hits rise = rises_mapped placed_row (λ (placed : PlacedRow). placed.row.number) (λ (placed : PlacedRow). record { rid = placed.rid; row = placed.row }) hits rise
 
-module _ {S : Type 0} (g : Ghosts S) (ext : Extents) (s : S) (def : TableDef) (pred : Option Pred) (hits : List Hit) (forests : TableForests) (finds : FindsRows g ext s def pred hits forests) where
+module _ {S : Type 0} (g : Ghosts S) (shape : Shape) (s : S) (def : TableDef) (pred : Option Pred) (hits : List Hit) (forests : TableForests) (finds : FindsRows g shape s def pred hits forests) where
   -- row numbers that differ rise in what a scan found
-  pub found_rows_rise : AreRowNumbersSound def (rows_in_table ext (pages_of g s) def forests.map) → AllPairs (λ a b. a.row.number < b.row.number) hits
+  pub found_rows_rise : AreRowNumbersSound def (rows_in_table shape (pages_of g s) def forests.map) → AllPairs (λ a b. a.row.number < b.row.number) hits
   found_rows_rise numbers i j d below within =
       let p : PlacedRow → Bool = λ placed. qualifies pred placed.row.values in
-      let rows = rows_in_table ext (pages_of g s) def forests.map in
+      let rows = rows_in_table shape (pages_of g s) def forests.map in
       let kept : AreRowNumbersSound def (filter p rows) = record {
         below_next = each_kept (λ placed. placed.row.number < def.next) p rows numbers.below_next;
         differ = AllPairs-filter (λ a b. a.row.number ≢ b.row.number) p rows numbers.differ;
@@ -202,14 +202,14 @@ module _ {S : Type 0} (g : Ghosts S) (ext : Extents) (s : S) (def : TableDef) (p
       ]
 
   -- what a scan found is what qualifies of the plain table that the pages stand for
-  pub found_hits : (rows : List Row) → IsPermutation (map (λ placed. placed.row) (rows_in_table ext (pages_of g s) def forests.map)) rows
+  pub found_hits : (rows : List Row) → IsPermutation (map (λ placed. placed.row) (rows_in_table shape (pages_of g s) def forests.map)) rows
       → AllPairs (λ a b. a.number < b.number) rows → AllPairs (λ a b. a.row.number < b.row.number) hits
       → map (λ hit. hit.row) hits ≡ filter (λ row. qualifies pred row.values) rows
   found_hits rows same rise hits_rise =
       let p : PlacedRow → Bool = λ placed. qualifies pred placed.row.values in
       let q : Row → Bool = λ row. qualifies pred row.values in
       let row_of : PlacedRow → Row = λ placed. placed.row in
-      let all = rows_in_table ext (pages_of g s) def forests.map in
+      let all = rows_in_table shape (pages_of g s) def forests.map in
       let found : IsPermutation (filter q (map row_of all)) (map (λ (hit : Hit). hit.row) hits) =
       subst (λ l. IsPermutation l (map (λ (hit : Hit). hit.row) hits)) (map_kept row_of q all)
       (subst (IsPermutation (map row_of (filter p all))) (rows_of_hits hits) (IsPermutation-map row_of (filter p all) (map placed_row hits) finds.found)) in

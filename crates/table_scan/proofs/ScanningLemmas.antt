@@ -8,13 +8,13 @@ use Rattle.mdc_values.specs.Rising.{IsLower, IsRising}
 use Rattle.store_api.specs.Fetching.{BringsOnce, BringsOnly}
 use Rattle.store_api.specs.declared.pages.Pages.{Ghosts}
 use Rattle.store_api.proofs.FetchingLemmas.{once_none, once_then, once_wider}
-use Rattle.extent_map.specs.declared.extents.Extents.{Extents}
 use Rattle.extent_map.specs.declared.kind.Kind.{Kind}
 use Rattle.mdc_ast.specs.declared.definition.TableDef.{TableDef}
 use Rattle.mdc_ast.specs.declared.predicate.Pred.{Pred}
 use Rattle.store_api.specs.Frame.{NoPage}
 use Rattle.store_api.specs.RunsOverPages.{RunsOverPages}
 use Rattle.store_api.specs.declared.fault.StoreFault.{StoreFault}
+use Rattle.store_api.specs.declared.shape.Shape.{Shape}
 use Rattle.store_api.proofs.RunsOverPagesLemmas.{runs_wider}
 use Rattle.block_map.specs.MapLines.{used_blocks}
 use Rattle.block_rows.specs.HeldRows.{qualifying}
@@ -47,9 +47,9 @@ map_kept f q (x ∷ xs) = elim (cases_Bool (q (f x))) [
 -- ---- blocks that were chosen
 
 -- a block that was chosen, at its place
-pub is_chosen : {S : Type 0} {g : Ghosts S} (ext : Extents) (s : S) (def : TableDef) (pred : Option Pred) (items : List ℕ) (forests : TableForests) (i : ℕ)
-    → HaveQualifying g ext s def pred items forests → i < length items → IsChosenBlock g ext s def pred forests (get_or items i 0)
-is_chosen {S} {g} ext s def pred items forests i have low = each_of (IsChosenBlock g ext s def pred forests) items (get_or items i 0) have.chosen (Contains-get_or items i 0 low)
+pub is_chosen : {S : Type 0} {g : Ghosts S} (shape : Shape) (s : S) (def : TableDef) (pred : Option Pred) (items : List ℕ) (forests : TableForests) (i : ℕ)
+    → HaveQualifying g shape s def pred items forests → i < length items → IsChosenBlock g shape s def pred forests (get_or items i 0)
+is_chosen {S} {g} shape s def pred items forests i have low = each_of (IsChosenBlock g shape s def pred forests) items (get_or items i 0) have.chosen (Contains-get_or items i 0 low)
 
 -- ---- the pages that came to hand
 
@@ -76,12 +76,12 @@ above_place xs zero rising within = omega arith
 above_place xs (suc i) rising within = omega (arith, above_place xs i rising (omega (arith, within)), rises_to xs i (suc i) rising (omega arith) within)
 
 -- a page of one of the first blocks of a list
-abbrev pub IsPageBefore : Extents → List ℕ → ℕ → ℕ → Type 0
-IsPageBefore ext blocks n p = (i : ℕ) × (i < n) × IsPageOfBlock ext (get_or blocks i 0) p
+abbrev pub IsPageBefore : Shape → List ℕ → ℕ → ℕ → Type 0
+IsPageBefore shape blocks n p = (i : ℕ) × (i < n) × IsPageOfBlock shape (get_or blocks i 0) p
 
 -- it isn't one of the next block
-pub page_apart : (ext : Extents) (blocks : List ℕ) (n p : ℕ) → IsRising IsLower blocks → n < length blocks → IsPageBefore ext blocks n p → IsPageOfBlock ext (get_or blocks n 0) p → ⊥
-page_apart ext blocks n p rising within (i, below, early) late = omega (arith, rises_to blocks i n rising below within, early.1, late.1)
+pub page_apart : (shape : Shape) (blocks : List ℕ) (n p : ℕ) → IsRising IsLower blocks → n < length blocks → IsPageBefore shape blocks n p → IsPageOfBlock shape (get_or blocks n 0) p → ⊥
+page_apart shape blocks n p rising within (i, below, early) late = omega (arith, rises_to blocks i n rising below within, early.1, late.1)
 
 module _ {S : Type 0} {g : Ghosts S} where
   -- no page of the later kind came to hand yet
@@ -89,46 +89,46 @@ module _ {S : Type 0} {g : Ghosts S} where
   scans_none {Early} {Late} {old} {new} run = record { between = new; looks = run; reads = once_none }
 
   -- pages of the next block came to hand, each once
-  pub scans_more : {Early : ℕ → Type 0} {old mid new : S} (ext : Extents) (blocks : List ℕ) (n : ℕ) → IsRising IsLower blocks → n < length blocks
-      → ScansOnce g Early (IsPageBefore ext blocks n) old mid → BringsOnce g (IsPageOfBlock ext (get_or blocks n 0)) mid new → ScansOnce g Early (IsPageBefore ext blocks (n + 1)) old new
-  scans_more ext blocks n rising within run more = record {
+  pub scans_more : {Early : ℕ → Type 0} {old mid new : S} (shape : Shape) (blocks : List ℕ) (n : ℕ) → IsRising IsLower blocks → n < length blocks
+      → ScansOnce g Early (IsPageBefore shape blocks n) old mid → BringsOnce g (IsPageOfBlock shape (get_or blocks n 0)) mid new → ScansOnce g Early (IsPageBefore shape blocks (n + 1)) old new
+  scans_more shape blocks n rising within run more = record {
     between = run.between;
     looks = run.looks;
-    reads = once_then run.reads more (λ p early late. page_apart ext blocks n p rising within early late) (λ p early. (early.0, omega (arith, early.1), early.2)) (λ p late. (n, omega arith, late));
+    reads = once_then run.reads more (λ p early late. page_apart shape blocks n p rising within early late) (λ p early. (early.0, omega (arith, early.1), early.2)) (λ p late. (n, omega arith, late));
   }
 
   -- where they are those of blocks that were chosen
-  pub scans_chosen : {Early : ℕ → Type 0} {old new s : S} (ext : Extents) (def : TableDef) (pred : Option Pred) (blocks : List ℕ) (n : ℕ) → n ≤ length blocks
-      → ((owners : List Kind) (forests : TableForests) → StandsTable g ext s def owners forests → HaveQualifying g ext s def pred blocks forests)
-      → ScansOnce g Early (IsPageBefore ext blocks n) old new → ScansOnce g Early (IsChosenRowPage g ext s def pred) old new
-  scans_chosen {s = s} ext def pred blocks n within are run = record {
+  pub scans_chosen : {Early : ℕ → Type 0} {old new s : S} (shape : Shape) (def : TableDef) (pred : Option Pred) (blocks : List ℕ) (n : ℕ) → n ≤ length blocks
+      → ((owners : List Kind) (forests : TableForests) → StandsTable g shape s def owners forests → HaveQualifying g shape s def pred blocks forests)
+      → ScansOnce g Early (IsPageBefore shape blocks n) old new → ScansOnce g Early (IsChosenRowPage g shape s def pred) old new
+  scans_chosen {s = s} shape def pred blocks n within are run = record {
     between = run.between;
     looks = run.looks;
-    reads = once_wider run.reads (λ p (i, below, is) owners forests st. (get_or blocks i 0, is_chosen ext s def pred blocks forests i (are owners forests st) (omega (arith, below, within)), is));
+    reads = once_wider run.reads (λ p (i, below, is) owners forests st. (get_or blocks i 0, is_chosen shape s def pred blocks forests i (are owners forests st) (omega (arith, below, within)), is));
   }
 
 -- ---- the runs on pages
 
-module _ {S : Type 0} {g : Ghosts S} (ext : Extents) (def : TableDef) where
+module _ {S : Type 0} {g : Ghosts S} (shape : Shape) (def : TableDef) where
   -- the run that chooses the blocks
-  pub runs_choice : {pred : Option Pred} {old new : S} {fault : Option StoreFault} → RunsOverPages g NoPage (IsChoicePage g ext old def) (BreaksTable g ext old def) old new fault
-      → RunsOverPages g NoPage (IsScannedPage g ext old def pred) (BreaksTable g ext old def) old new fault
+  pub runs_choice : {pred : Option Pred} {old new : S} {fault : Option StoreFault} → RunsOverPages g NoPage (IsChoicePage g shape old def) (BreaksTable g shape old def) old new fault
+      → RunsOverPages g NoPage (IsScannedPage g shape old def pred) (BreaksTable g shape old def) old new fault
   runs_choice run = runs_wider run (λ p there none. absurd none) (λ p is. inl is) (λ damage b. b)
 
   -- the runs that list the Used blocks, and the cells
-  pub runs_used : {old new : S} {fault : Option StoreFault} → RunsOverPages g NoPage (IsTreePageAt g old (map_place def)) (BreaksTable g ext old def) old new fault
-      → RunsOverPages g NoPage (IsChoicePage g ext old def) (BreaksTable g ext old def) old new fault
+  pub runs_used : {old new : S} {fault : Option StoreFault} → RunsOverPages g NoPage (IsTreePageAt g old (map_place def)) (BreaksTable g shape old def) old new fault
+      → RunsOverPages g NoPage (IsChoicePage g shape old def) (BreaksTable g shape old def) old new fault
   runs_used run = runs_wider run (λ p there none. absurd none) (λ p is owners forests st. inl (is forests.map st.trees.held.0)) (λ damage b. b)
 
   pub runs_cells : {old new : S} {fault : Option StoreFault} → RunsOverPages g NoPage (IsTreePageAt g old (composite_place def)) (BreaksTreeAt g old (composite_place def)) old new fault
-      → RunsOverPages g NoPage (IsChoicePage g ext old def) (BreaksTable g ext old def) old new fault
+      → RunsOverPages g NoPage (IsChoicePage g shape old def) (BreaksTable g shape old def) old new fault
   runs_cells {old} run = runs_wider run (λ p there none. absurd none) (λ p is owners forests st. inr (is forests.composite st.trees.held.1.0))
       (λ damage b. record { names = tree b.rule (1, omega arith, sym b.page); broken = λ owners forests st. b.broken forests.composite st.trees.held.1.0 })
 
   -- without a predicate all Used blocks are chosen
-  pub all_chosen : (s : S) (blocks : List ℕ) (forests : TableForests) → blocks ≡ used_blocks forests.map → HaveQualifying g ext s def None blocks forests
+  pub all_chosen : (s : S) (blocks : List ℕ) (forests : TableForests) → blocks ≡ used_blocks forests.map → HaveQualifying g shape s def None blocks forests
   all_chosen s blocks forests are = record {
-    chosen = each_in (IsChosenBlock g ext s def None forests) blocks (λ block is_in. record { used = subst (λ l. Contains l block) are is_in; may = tt });
-    whole = subst (λ l. IsPermutation (qualifying None (rows_in_table ext (pages_of g s) def forests.map)) (qualifying None (flat_map (rows_in_block ext (pages_of g s) def) l))) (sym are)
-        (IsPermutation-refl (qualifying None (rows_in_table ext (pages_of g s) def forests.map)));
+    chosen = each_in (IsChosenBlock g shape s def None forests) blocks (λ block is_in. record { used = subst (λ l. Contains l block) are is_in; may = tt });
+    whole = subst (λ l. IsPermutation (qualifying None (rows_in_table shape (pages_of g s) def forests.map)) (qualifying None (flat_map (rows_in_block shape (pages_of g s) def) l))) (sym are)
+        (IsPermutation-refl (qualifying None (rows_in_table shape (pages_of g s) def forests.map)));
   }

@@ -6,10 +6,11 @@ use Rattle.mdc_ast.specs.declared.definition.TableDef.{TableDef}
 use Rattle.mdc_ast.specs.declared.predicate.Pred.{Pred}
 use Rattle.mdc_ast.specs.declared.row.Cell.{Cell}
 use Rattle.store_api.specs.declared.pages.Pages.{Ghosts}
-use Rattle.extent_map.specs.declared.extents.Extents.{Extents}
+use Rattle.store_api.specs.declared.shape.Shape.{Shape}
 use Rattle.extent_map.specs.declared.kind.Kind.{Kind}
 use Rattle.entry_tree.specs.Forest.{Forest, leaf_entries}
 use Rattle.block_map.specs.MapLines.{map_lines, used_blocks}
+use Rattle.block_map.specs.declared.row.BlockRow.{BlockRow}
 use Rattle.block_index.specs.ListedCells.{AreCellEntries}
 use Rattle.block_index.specs.declared.listed_cells.CellBlock.{CellBlock}
 use Rattle.block_rows.specs.Giving.{WasGiven}
@@ -31,9 +32,13 @@ use Rattle.table_scan.specs.Choices.{ChoosesBlocks}
 abbrev pub blocks_listed : List ListedBlock → List ℕ
 blocks_listed listed = map (λ one. one.block) listed
 
+-- a Used block with what its line in the block map says, without a cell
+abbrev pub listed_line : BlockRow → ListedBlock
+listed_line line = record { block = line.block; rows = line.rows; cell = None }
+
 -- each is as the trees of a table that stands list it
-abbrev pub AreListedSo : {S : Type 0} → Ghosts S → Extents → S → TableDef → List Kind → TableForests → List ListedBlock → Type 0
-AreListedSo g ext s def owners forests listed = AllByRecursion (λ one. IsListedSo g ext s def one owners forests) listed
+abbrev pub AreListedSo : {S : Type 0} → Ghosts S → Shape → S → TableDef → List Kind → TableForests → List ListedBlock → Type 0
+AreListedSo g shape s def owners forests listed = AllByRecursion (λ one. IsListedSo g shape s def one owners forests) listed
 
 -- the block is listed under a cell in which a predicate may hold; without one it may be any block, and no cell is given
 abbrev pub HasCellThatMay : TableDef → Option Pred → ListedBlock → Type 0
@@ -66,21 +71,21 @@ pub record ListsBlocks {S : Type 0} (g : Ghosts S) (s : S) (def : TableDef) (pre
 
 -- A scan went over all blocks that the trees list for its predicate, and has seen of each that it is as they list it. These are
 -- exactly the rows in these blocks that qualify.
-pub record HasSeenBlocks {S : Type 0} (g : Ghosts S) (ext : Extents) (s : S) (def : TableDef) (pred : Option Pred) (rows : List PlacedRow) : Type 0 where
+pub record HasSeenBlocks {S : Type 0} (g : Ghosts S) (shape : Shape) (s : S) (def : TableDef) (pred : Option Pred) (rows : List PlacedRow) : Type 0 where
   pub listed : List ListedBlock
   pub lists : ListsBlocks g s def pred listed
-  pub seen : AllByRecursion (HasSeenBlock ext (pages_of g s) def) listed
-  pub rows_are : rows ≡ qualifying pred (flat_map (rows_in_block ext (pages_of g s) def) (blocks_listed listed))
+  pub seen : AllByRecursion (HasSeenBlock shape (pages_of g s) def) listed
+  pub rows_are : rows ≡ qualifying pred (flat_map (rows_in_block shape (pages_of g s) def) (blocks_listed listed))
 
 -- a scan has seen blocks so, and its sink was given these rows
-pub record HasScanned {K : Type 0} (sinks : RowSink.Ghosts K) (sink_old sink_new : K) {S : Type 0} (g : Ghosts S) (ext : Extents) (s : S) (def : TableDef) (pred : Option Pred) : Type 0 where
+pub record HasScanned {K : Type 0} (sinks : RowSink.Ghosts K) (sink_old sink_new : K) {S : Type 0} (g : Ghosts S) (shape : Shape) (s : S) (def : TableDef) (pred : Option Pred) : Type 0 where
   pub rows : List PlacedRow
-  pub seen : HasSeenBlocks g ext s def pred rows
+  pub seen : HasSeenBlocks g shape s def pred rows
   pub given : WasGiven sinks sink_old sink_new rows
 
 -- a scan has seen blocks so, and found these rows, by row number
-pub record HasSeenTable {S : Type 0} (g : Ghosts S) (ext : Extents) (s : S) (def : TableDef) (pred : Option Pred) (hits : List Hit) : Type 0 where
+pub record HasSeenTable {S : Type 0} (g : Ghosts S) (shape : Shape) (s : S) (def : TableDef) (pred : Option Pred) (hits : List Hit) : Type 0 where
   pub rows : List PlacedRow
-  pub seen : HasSeenBlocks g ext s def pred rows
+  pub seen : HasSeenBlocks g shape s def pred rows
   pub found : IsPermutation rows (map placed_row hits)
   pub in_order : AllPairs (λ a b. a.row.number ≤ b.row.number) hits

@@ -1,5 +1,5 @@
 // The blocks in which a row may qualify.
-ghost use Rattle.std.specs.Prelude.{◌≡◌, ◌≤◌, [], ◌∷◌, ◌++◌, List, AllPairs, Contains, Some, None, false, IfOk, IfErr, OnOk};
+ghost use Rattle.std.specs.Prelude.{◌≡◌, ◌≤◌, [], ◌∷◌, ◌++◌, List, AllPairs, Contains, Some, None, false, map, IfOk, IfErr, OnOk};
 ghost use Rattle.std.specs.List.{AllByRecursion};
 ghost use Rattle.store_api.specs.Causes.{fault_of};
 ghost use Rattle.store_api.specs.Frame.{NoPage};
@@ -17,17 +17,17 @@ ghost use Rattle.mdc_table.specs.TableReading.{HasUsedBlock};
 ghost use Rattle.table_scan.specs.Choices.{ChoosesBlocks, HaveSameMembers, IsChoiceOf, IsOfEntry, blocks_chosen};
 ghost use Rattle.table_scan.specs.declared.choosing.ChosenEntry.{ChosenEntry};
 ghost use Rattle.table_scan.specs.FoundRows.{HaveQualifying, IsChoicePage};
-ghost use Rattle.table_scan.specs.SeenTable.{AreListedSo, ListsBlocks, blocks_listed};
+ghost use Rattle.table_scan.specs.SeenTable.{AreListedSo, ListsBlocks, blocks_listed, listed_line};
 
 use crate::copying::copy_of_cell;
 use block_index::{CellBlock, cells};
+use block_map::BlockRow;
 use cell_filter::may_hold;
-use extent_map::Extents;
 use mdc_ast::{Pred, TableDef};
-use mdc_table::{ListedBlock, rows_of_line, used_blocks};
+use mdc_table::{ListedBlock, rows_of_line, used_lines};
 use mdc_values::Memory;
 use std::alloc::Global;
-use store_api::{Pages, StoreFault};
+use store_api::{Pages, Shape, StoreFault};
 
 /// The Used blocks of a table in whose cells a row may qualify, by rising number, with what the trees say of each: all of the block
 /// map without a predicate, and else those that the composite index lists under such a cell. No row page is looked at. Damaged where
@@ -35,23 +35,23 @@ use store_api::{Pages, StoreFault};
 pub(crate) fn listed_blocks<P: Pages>(
     alloc: Global,
     def: &TableDef,
-    ext: &Extents,
+    shape: Shape,
     pages: &mut P,
     pred: &Option<Pred>,
 ) -> Result<Vec<ListedBlock>, StoreFault>
     requires defined { IsTableDef def.now.number def.now }
     requires going { (P.state pages.old).ended ≡ false }
     ensures lists { IfOk result (λ listed. ListsBlocks P.Pages pages.old def.now pred.now listed.items) }
-    ensures chosen { IfOk result (λ listed. (owners : List Kind) (forests : TableForests) → StandsTable P.Pages ext.now pages.old def.now owners forests
-        → HaveQualifying P.Pages ext.now pages.old def.now pred.now (blocks_listed listed.items) forests) }
-    ensures listed { IfOk result (λ listed. (owners : List Kind) (forests : TableForests) → StandsTable P.Pages ext.now pages.old def.now owners forests
-        → AreListedSo P.Pages ext.now pages.old def.now owners forests listed.items) }
+    ensures chosen { IfOk result (λ listed. (owners : List Kind) (forests : TableForests) → StandsTable P.Pages shape pages.old def.now owners forests
+        → HaveQualifying P.Pages shape pages.old def.now pred.now (blocks_listed listed.items) forests) }
+    ensures listed { IfOk result (λ listed. (owners : List Kind) (forests : TableForests) → StandsTable P.Pages shape pages.old def.now owners forests
+        → AreListedSo P.Pages shape pages.old def.now owners forests listed.items) }
     ensures same { (P.state pages.new).work ≡ (P.state pages.old).work }
-    ensures runs { RunsOverPages P.Pages NoPage (IsChoicePage P.Pages ext.now pages.old def.now) (BreaksTable P.Pages ext.now pages.old def.now) pages.old pages.new (fault_of result) }
+    ensures runs { RunsOverPages P.Pages NoPage (IsChoicePage P.Pages shape pages.old def.now) (BreaksTable P.Pages shape pages.old def.now) pages.old pages.new (fault_of result) }
 {
     match pred {
-        Some(pred) => listed_by_cell(alloc, def, ext, pages, pred),
-        None => listed_by_map(alloc, def, ext, pages),
+        Some(pred) => listed_by_cell(alloc, def, shape, pages, pred),
+        None => listed_by_map(alloc, def, shape, pages),
     }
 }
 
@@ -59,28 +59,33 @@ pub(crate) fn listed_blocks<P: Pages>(
 fn listed_by_map<P: Pages>(
     alloc: Global,
     def: &TableDef,
-    ext: &Extents,
+    shape: Shape,
     pages: &mut P,
 ) -> Result<Vec<ListedBlock>, StoreFault>
     requires going { (P.state pages.old).ended ≡ false }
     ensures lists { IfOk result (λ listed. ListsBlocks P.Pages pages.old def.now None listed.items) }
-    ensures chosen { IfOk result (λ listed. (owners : List Kind) (forests : TableForests) → StandsTable P.Pages ext.now pages.old def.now owners forests
-        → HaveQualifying P.Pages ext.now pages.old def.now None (blocks_listed listed.items) forests) }
-    ensures listed { IfOk result (λ listed. (owners : List Kind) (forests : TableForests) → StandsTable P.Pages ext.now pages.old def.now owners forests
-        → AreListedSo P.Pages ext.now pages.old def.now owners forests listed.items) }
+    ensures chosen { IfOk result (λ listed. (owners : List Kind) (forests : TableForests) → StandsTable P.Pages shape pages.old def.now owners forests
+        → HaveQualifying P.Pages shape pages.old def.now None (blocks_listed listed.items) forests) }
+    ensures listed { IfOk result (λ listed. (owners : List Kind) (forests : TableForests) → StandsTable P.Pages shape pages.old def.now owners forests
+        → AreListedSo P.Pages shape pages.old def.now owners forests listed.items) }
     ensures same { (P.state pages.new).work ≡ (P.state pages.old).work }
-    ensures runs { RunsOverPages P.Pages NoPage (IsChoicePage P.Pages ext.now pages.old def.now) (BreaksTable P.Pages ext.now pages.old def.now) pages.old pages.new (fault_of result) }
+    ensures runs { RunsOverPages P.Pages NoPage (IsChoicePage P.Pages shape pages.old def.now) (BreaksTable P.Pages shape pages.old def.now) pages.old pages.new (fault_of result) }
 {
-    let blocks = used_blocks(alloc, def, ext, pages)?;
-    let mut listed = Vec::new(alloc);
-    for block in blocks.as_slice() {
-        let rows = rows_of_line(alloc, def, ext, pages, *block)?;
-        let one = ListedBlock {
-            block: *block,
-            rows,
+    let lines = used_lines(alloc, def, shape, pages)?;
+    Ok(listed_by_lines(alloc, lines.as_slice())?)
+}
+
+/// Blocks with what their lines say, without a cell.
+fn listed_by_lines(alloc: Global, lines: &[BlockRow]) -> Result<Vec<ListedBlock>, Memory>
+    ensures { IfOk result (λ listed. listed.items ≡ map listed_line lines.now) }
+{
+    let mut listed = Vec::with_capacity(alloc, lines.len())?;
+    for line in lines {
+        listed.push(ListedBlock {
+            block: line.block,
+            rows: line.rows,
             cell: None,
-        };
-        push_listed(&mut listed, one)?;
+        })?;
     }
     Ok(listed)
 }
@@ -89,19 +94,19 @@ fn listed_by_map<P: Pages>(
 fn listed_by_cell<P: Pages>(
     alloc: Global,
     def: &TableDef,
-    ext: &Extents,
+    shape: Shape,
     pages: &mut P,
     pred: &Pred,
 ) -> Result<Vec<ListedBlock>, StoreFault>
     requires defined { IsTableDef def.now.number def.now }
     requires going { (P.state pages.old).ended ≡ false }
     ensures lists { IfOk result (λ listed. ListsBlocks P.Pages pages.old def.now (Some pred.now) listed.items) }
-    ensures chosen { IfOk result (λ listed. (owners : List Kind) (forests : TableForests) → StandsTable P.Pages ext.now pages.old def.now owners forests
-        → HaveQualifying P.Pages ext.now pages.old def.now (Some pred.now) (blocks_listed listed.items) forests) }
-    ensures listed { IfOk result (λ listed. (owners : List Kind) (forests : TableForests) → StandsTable P.Pages ext.now pages.old def.now owners forests
-        → AreListedSo P.Pages ext.now pages.old def.now owners forests listed.items) }
+    ensures chosen { IfOk result (λ listed. (owners : List Kind) (forests : TableForests) → StandsTable P.Pages shape pages.old def.now owners forests
+        → HaveQualifying P.Pages shape pages.old def.now (Some pred.now) (blocks_listed listed.items) forests) }
+    ensures listed { IfOk result (λ listed. (owners : List Kind) (forests : TableForests) → StandsTable P.Pages shape pages.old def.now owners forests
+        → AreListedSo P.Pages shape pages.old def.now owners forests listed.items) }
     ensures same { (P.state pages.new).work ≡ (P.state pages.old).work }
-    ensures runs { RunsOverPages P.Pages NoPage (IsChoicePage P.Pages ext.now pages.old def.now) (BreaksTable P.Pages ext.now pages.old def.now) pages.old pages.new (fault_of result) }
+    ensures runs { RunsOverPages P.Pages NoPage (IsChoicePage P.Pages shape pages.old def.now) (BreaksTable P.Pages shape pages.old def.now) pages.old pages.new (fault_of result) }
 {
     let found = cells(alloc, def, pages)?;
     let entries = found.as_slice();
@@ -110,7 +115,7 @@ fn listed_by_cell<P: Pages>(
     };
     let mut listed = Vec::new(alloc);
     for one in chosen.as_slice() {
-        let block = listed_block(alloc, def, ext, pages, pred, entries, one)?;
+        let block = listed_block(alloc, def, shape, pages, pred, entries, one)?;
         push_listed(&mut listed, block)?;
     }
     Ok(listed)
@@ -120,7 +125,7 @@ fn listed_by_cell<P: Pages>(
 fn listed_block<P: Pages>(
     alloc: Global,
     def: &TableDef,
-    ext: &Extents,
+    shape: Shape,
     pages: &mut P,
     pred: &Pred,
     entries: &[CellBlock],
@@ -132,13 +137,13 @@ fn listed_block<P: Pages>(
     ensures line { IfOk result (λ one. (t : Forest) → HoldsTreeAt P.Pages pages.old (map_place def.now) t → Contains (map_lines t) (used_line_of one)) }
     ensures entry { IfOk result (IsOfEntry def.now pred.now entries.now) }
     ensures same { (P.state pages.new).work ≡ (P.state pages.old).work }
-    ensures runs { RunsOverPages P.Pages NoPage (IsTreePageAt P.Pages pages.old (map_place def.now)) (BreaksExpected P.Pages ext.now pages.old def.now (HasUsedBlock chosen.now.block)) pages.old pages.new (fault_of result) }
+    ensures runs { RunsOverPages P.Pages NoPage (IsTreePageAt P.Pages pages.old (map_place def.now)) (BreaksExpected P.Pages shape pages.old def.now (HasUsedBlock chosen.now.block)) pages.old pages.new (fault_of result) }
 {
     let _pred = pred;
     let Ok(cell) = copy_of_cell(alloc, &entries[chosen.at].cell) else {
         return Err(StoreFault::Memory);
     };
-    let rows = rows_of_line(alloc, def, ext, pages, chosen.block)?;
+    let rows = rows_of_line(alloc, def, shape, pages, chosen.block)?;
     Ok(ListedBlock {
         block: chosen.block,
         rows,

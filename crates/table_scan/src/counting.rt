@@ -17,34 +17,33 @@ ghost use Rattle.table_scan.specs.Settled.{HasOpenTestIfAny, IsSettledIfAny};
 
 use crate::choosing::listed_blocks;
 use crate::settling::is_settled;
-use extent_map::Extents;
 use mdc_ast::{Pred, TableDef};
 use mdc_table::ListedBlock;
 use std::alloc::Global;
-use store_api::{Pages, StoreFault};
+use store_api::{Pages, Shape, StoreFault};
 
 /// How many rows of a table qualify, or nothing where a test of the predicate compares columns or is of one that is no dimension
 /// column. They are counted by the lines of the block map: no row page comes to hand.
 pub fn count_rows<P: Pages>(
     alloc: Global,
     def: &TableDef,
-    ext: &Extents,
+    shape: Shape,
     pages: &mut P,
     pred: &Option<Pred>,
 ) -> Result<Option<u64>, StoreFault>
     requires defined { IsTableDef def.now.number def.now }
     requires judged { (row : Row) → HasReadValues def.now.columns row → IsTrue (may_filter pred.now row.values) }
     requires going { (P.state pages.old).ended ≡ false }
-    ensures counts { IfOk result (λ counted. IfSome counted (λ count. (owners : List Kind) (forests : TableForests) → StandsTable P.Pages ext.now pages.old def.now owners forests
-        → count ≡ length (qualifying pred.now (rows_in_table ext.now (pages_of P.Pages pages.old) def.now forests.map)))) }
+    ensures counts { IfOk result (λ counted. IfSome counted (λ count. (owners : List Kind) (forests : TableForests) → StandsTable P.Pages shape pages.old def.now owners forests
+        → count ≡ length (qualifying pred.now (rows_in_table shape (pages_of P.Pages pages.old) def.now forests.map)))) }
     ensures none { IfOk result (λ counted. counted ≡ None → HasOpenTestIfAny def.now pred.now) }
     ensures same { (P.state pages.new).work ≡ (P.state pages.old).work }
-    ensures runs { RunsOverPages P.Pages NoPage (IsChoicePage P.Pages ext.now pages.old def.now) (BreaksTable P.Pages ext.now pages.old def.now) pages.old pages.new (fault_of result) }
+    ensures runs { RunsOverPages P.Pages NoPage (IsChoicePage P.Pages shape pages.old def.now) (BreaksTable P.Pages shape pages.old def.now) pages.old pages.new (fault_of result) }
 {
     if !is_settled_by_cells(pred, def) {
         return Ok(None);
     }
-    let listed = listed_blocks(alloc, def, ext, pages, pred)?;
+    let listed = listed_blocks(alloc, def, shape, pages, pred)?;
     Ok(Some(rows_of_lines(listed.as_slice())))
 }
 

@@ -14,12 +14,11 @@ ghost use Rattle.table_scan.specs.SeenTable.{HasScanned, HasSeenTable};
 
 use crate::choosing::listed_blocks;
 use crate::settling::unsettled;
-use extent_map::Extents;
 use mdc_ast::{Pred, TableDef};
 use mdc_table::{CellColumns, Hit, RowSink, scan_listed_block};
 use row_filter::RowFilter;
 use std::alloc::Global;
-use store_api::{Pages, StoreFault};
+use store_api::{Pages, Shape, StoreFault};
 
 /// Gives a sink the rows of a table that qualify, block by block and by rising slot. Of row pages only those of blocks come to hand in
 /// whose cells a row may qualify, each once. It needs a predicate that may be judged on each row that was read. What a cell settles
@@ -29,7 +28,7 @@ use store_api::{Pages, StoreFault};
 pub fn scan_rows<P: Pages, K: RowSink>(
     alloc: Global,
     def: &TableDef,
-    ext: &Extents,
+    shape: Shape,
     pages: &mut P,
     pred: &Option<Pred>,
     sink: &mut K,
@@ -38,13 +37,13 @@ pub fn scan_rows<P: Pages, K: RowSink>(
     requires judged { (row : Row) → HasReadValues def.now.columns row → IsTrue (may_filter pred.now row.values) }
     requires fits { K.RowSink.is_for def.now.columns sink.old }
     requires going { (P.state pages.old).ended ≡ false }
-    ensures gives { OnOk result ((owners : List Kind) (forests : TableForests) → StandsTable P.Pages ext.now pages.old def.now owners forests
-        → GivesRows K.RowSink sink.old sink.new P.Pages ext.now pages.old def.now pred.now forests) }
-    ensures seen { OnOk result (IsTrue (P.state pages.old).is_told → HasScanned K.RowSink sink.old sink.new P.Pages ext.now pages.old def.now pred.now) }
+    ensures gives { OnOk result ((owners : List Kind) (forests : TableForests) → StandsTable P.Pages shape pages.old def.now owners forests
+        → GivesRows K.RowSink sink.old sink.new P.Pages shape pages.old def.now pred.now forests) }
+    ensures seen { OnOk result (IsTrue (P.state pages.old).is_told → HasScanned K.RowSink sink.old sink.new P.Pages shape pages.old def.now pred.now) }
     ensures fits { OnOk result (K.RowSink.is_for def.now.columns sink.new) }
     ensures same { (P.state pages.new).work ≡ (P.state pages.old).work }
-    ensures once { ScansOnce P.Pages (IsChoicePage P.Pages ext.now pages.old def.now) (IsChosenRowPage P.Pages ext.now pages.old def.now pred.now) pages.old pages.new }
-    ensures runs { RunsOverPages P.Pages NoPage (IsScannedPage P.Pages ext.now pages.old def.now pred.now) (BreaksTable P.Pages ext.now pages.old def.now) pages.old pages.new (fault_of result) }
+    ensures once { ScansOnce P.Pages (IsChoicePage P.Pages shape pages.old def.now) (IsChosenRowPage P.Pages shape pages.old def.now pred.now) pages.old pages.new }
+    ensures runs { RunsOverPages P.Pages NoPage (IsScannedPage P.Pages shape pages.old def.now pred.now) (BreaksTable P.Pages shape pages.old def.now) pages.old pages.new (fault_of result) }
 {
     let Ok(left) = unsettled(alloc, def, pred) else {
         return Err(StoreFault::Memory);
@@ -55,9 +54,9 @@ pub fn scan_rows<P: Pages, K: RowSink>(
     let Ok(cells) = CellColumns::of(alloc, def) else {
         return Err(StoreFault::Memory);
     };
-    let listed = listed_blocks(alloc, def, ext, pages, pred)?;
+    let listed = listed_blocks(alloc, def, shape, pages, pred)?;
     for one in listed.as_slice() {
-        scan_listed_block(alloc, def, ext, pages, &cells, one, &mut filter, sink)?;
+        scan_listed_block(alloc, def, shape, pages, &cells, one, &mut filter, sink)?;
     }
     Ok(())
 }
@@ -67,23 +66,23 @@ pub fn scan_rows<P: Pages, K: RowSink>(
 pub fn find_rows<P: Pages>(
     alloc: Global,
     def: &TableDef,
-    ext: &Extents,
+    shape: Shape,
     pages: &mut P,
     pred: &Option<Pred>,
 ) -> Result<Vec<Hit>, StoreFault>
     requires defined { IsTableDef def.now.number def.now }
     requires judged { (row : Row) → HasReadValues def.now.columns row → IsTrue (may_filter pred.now row.values) }
     requires going { (P.state pages.old).ended ≡ false }
-    ensures finds { IfOk result (λ hits. (owners : List Kind) (forests : TableForests) → StandsTable P.Pages ext.now pages.old def.now owners forests
-        → FindsRows P.Pages ext.now pages.old def.now pred.now hits.items forests) }
-    ensures seen { IfOk result (λ hits. IsTrue (P.state pages.old).is_told → HasSeenTable P.Pages ext.now pages.old def.now pred.now hits.items) }
+    ensures finds { IfOk result (λ hits. (owners : List Kind) (forests : TableForests) → StandsTable P.Pages shape pages.old def.now owners forests
+        → FindsRows P.Pages shape pages.old def.now pred.now hits.items forests) }
+    ensures seen { IfOk result (λ hits. IsTrue (P.state pages.old).is_told → HasSeenTable P.Pages shape pages.old def.now pred.now hits.items) }
     ensures keyed { IfOk result (λ hits. HaveReadValues def.now.columns hits.items) }
     ensures same { (P.state pages.new).work ≡ (P.state pages.old).work }
-    ensures once { ScansOnce P.Pages (IsChoicePage P.Pages ext.now pages.old def.now) (IsChosenRowPage P.Pages ext.now pages.old def.now pred.now) pages.old pages.new }
-    ensures runs { RunsOverPages P.Pages NoPage (IsScannedPage P.Pages ext.now pages.old def.now pred.now) (BreaksTable P.Pages ext.now pages.old def.now) pages.old pages.new (fault_of result) }
+    ensures once { ScansOnce P.Pages (IsChoicePage P.Pages shape pages.old def.now) (IsChosenRowPage P.Pages shape pages.old def.now pred.now) pages.old pages.new }
+    ensures runs { RunsOverPages P.Pages NoPage (IsScannedPage P.Pages shape pages.old def.now pred.now) (BreaksTable P.Pages shape pages.old def.now) pages.old pages.new (fault_of result) }
 {
     let mut hits = Vec::new(alloc);
-    scan_rows(alloc, def, ext, pages, pred, &mut hits)?;
+    scan_rows(alloc, def, shape, pages, pred, &mut hits)?;
     hits.sort_unstable_by_key(|hit| hit.row.number);
     Ok(hits)
 }

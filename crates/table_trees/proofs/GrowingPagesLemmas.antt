@@ -3,9 +3,9 @@ use Rattle.std.proofs.Common.{◌≡◌, ◌≢◌, ◌⊎◌, ◌<◌, ℕ, ◌
 use Rattle.std.proofs.lemmas.Bool.{cases_lt}
 use Rattle.store_api.specs.Extents.{first_page_of}
 use Rattle.store_api.specs.declared.pages.Pages.{Ghosts}
+use Rattle.store_api.specs.declared.shape.Shape.{Shape}
 use Rattle.extent_map.specs.Map.{HoldsMap}
 use Rattle.extent_map.specs.Owners.{count_with, extent_of, owner_of, place_in_extent}
-use Rattle.extent_map.specs.declared.extents.Extents.{Extents}
 use Rattle.extent_map.specs.declared.kind.Kind.{Kind}
 use Rattle.extent_map.specs.declared.kind.Kind.TheVariants.{Free, Block, Index}
 use Rattle.extent_map.proofs.BitsLemmas.{used_place-owned}
@@ -17,10 +17,10 @@ use Rattle.table_trees.specs.SpaceChanges.{GrowsToExtent}
 use Rattle.table_trees.specs.ToldPages.{PageList}
 
 -- the end of the extent of one of these pages, past n
-record EndsAt (ext : Extents) (n : ℕ) (claimed : List ℕ) (count : ℕ) : Type 0 where
+record EndsAt (shape : Shape) (n : ℕ) (claimed : List ℕ) (count : ℕ) : Type 0 where
   page : ℕ
   claim : IsClaimed page claimed
-  is : count ≡ first_page_of ext.cap ext.extent_pages (extent_of ext page + 1)
+  is : count ≡ first_page_of shape.extents shape.extent_pages (extent_of shape page + 1)
   past : n < count
 
 -- the larger of two is the second one where it isn't the first
@@ -28,11 +28,11 @@ max_of : (n end : ℕ) → (max n end ≡ n) ⊎ ((max n end ≡ end) × (n < en
 max_of n end = elim (cases_lt n end) [ inl past ↦ inr (omega (arith, past), past) | inr not ↦ inl (omega (arith, not)) ]
 
 -- claims leave the count, or it ends where one of their extents does
-count_ends : (ext : Extents) (n : ℕ) (claimed : List ℕ) → (count_with ext n claimed ≡ n) ⊎ EndsAt ext n claimed (count_with ext n claimed)
-count_ends ext n [] = inl refl
-count_ends ext n (p ∷ claimed) =
-    let end : ℕ = first_page_of ext.cap ext.extent_pages (extent_of ext p + 1) in
-    elim (count_ends ext (max n end) claimed) [
+count_ends : (shape : Shape) (n : ℕ) (claimed : List ℕ) → (count_with shape n claimed ≡ n) ⊎ EndsAt shape n claimed (count_with shape n claimed)
+count_ends shape n [] = inl refl
+count_ends shape n (p ∷ claimed) =
+    let end : ℕ = first_page_of shape.extents shape.extent_pages (extent_of shape p + 1) in
+    elim (count_ends shape (max n end) claimed) [
       | inl same ↦ elim (max_of n end) [
         | inl none ↦ inl (same ∙ none)
         | inr more ↦ inr (record { page = p; claim = inl refl; is = same ∙ more.0; past = omega (arith, same, more.0, more.1) })
@@ -47,20 +47,20 @@ free_unless (Block table) not = absurd (not (λ is. cc))
 free_unless (Index used) not = absurd (not (λ is. cc))
 
 -- the extent at the end was free, since owned ones lie within the pages that there were
-pub claims_grow : {S : Type 0} (g : Ghosts S) (ext : Extents) (old : S) (owners : List Kind) (claimed : List ℕ) (new : PageList) → HoldsMap g ext old owners → AreClaims ext owners claimed
-    → length new ≡ count_with ext (length (g.state old).work) claimed
-    → (length new ≡ length (g.state old).work) ⊎ GrowsToExtent ext owners (with_pages ext owners claimed) (g.state old).work new
-claims_grow g ext old owners claimed new map claims count = elim (count_ends ext (length (g.state old).work) claimed) [
+pub claims_grow : {S : Type 0} (g : Ghosts S) (shape : Shape) (old : S) (owners : List Kind) (claimed : List ℕ) (new : PageList) → HoldsMap g shape old owners → AreClaims shape owners claimed
+    → length new ≡ count_with shape (length (g.state old).work) claimed
+    → (length new ≡ length (g.state old).work) ⊎ GrowsToExtent shape owners (with_pages shape owners claimed) (g.state old).work new
+claims_grow g shape old owners claimed new map claims count = elim (count_ends shape (length (g.state old).work) claimed) [
   | inl same ↦ inl (count ∙ same)
   | inr e ↦
-      let at : ℕ = extent_of ext e.page in
-      let below : at < ext.cap = extent_below ext e.page (claims_pages ext owners claimed e.page claims e.claim) in
-      let used = claims_used ext owners claimed e.page map.count claims e.claim in
+      let at : ℕ = extent_of shape e.page in
+      let below : at < shape.extents = extent_below shape e.page (claims_pages shape owners claimed e.page claims e.claim) in
+      let used = claims_used shape owners claimed e.page map.count claims e.claim in
       inr (record {
         longer = omega (arith, e.past, count);
         extent = at;
         was_free = free_unless (owner_of owners at) (λ owned. omega (arith, e.past, e.is, (map_page_at at below map).there at refl owned));
-        is_taken = used_place-owned (place_in_extent ext e.page) (owner_of (with_pages ext owners claimed) at) used.used;
+        is_taken = used_place-owned (place_in_extent shape e.page) (owner_of (with_pages shape owners claimed) at) used.used;
         count = count ∙ e.is;
       })
 ]

@@ -4,7 +4,6 @@ pub mod KeptOwnersLemmas
 pub mod PageCountLemmas
 pub mod PlaceCountsLemmas
 pub mod SameSpaceLemmas
-pub mod ShapedSpaceLemmas
 pub mod SideBySideLemmas
 pub mod SpaceChainsLemmas
 pub mod SpaceStepsLemmas

@@ -1,14 +1,13 @@
--- Pages that differ in rows alone, and extents of the same shape: trees on used index pages stay, and so does what a change of
--- space asks for and does.
+-- Pages that differ in rows alone: trees on used index pages stay, and so does what a change of space asks for and does.
 use Rattle.std.proofs.Common.{◌≡◌, ◌⊎◌, ◌<◌, ℕ, List, [], length, inl, inr, ap, arith, sym, subst, ◌∙◌}
 use Rattle.std.proofs.lemmas.Bool.{cases_eq}
 use Rattle.mdc_words.specs.ByteOrder.{Entry}
 use Rattle.node_page.specs.Node.{Node, is_full, node_of}
 use Rattle.node_page.specs.Node.Node.{LeafNode, InnerNode, NoNode}
 use Rattle.store_api.specs.StoreState.{page_at}
+use Rattle.store_api.specs.declared.shape.Shape.{Shape}
 use Rattle.extent_map.specs.Map.{HoldsMap}
 use Rattle.extent_map.specs.Owners.{IsUsedPage}
-use Rattle.extent_map.specs.declared.extents.Extents.{Extents}
 use Rattle.extent_map.specs.declared.kind.Kind.{Kind}
 use Rattle.extent_map.proofs.LawsOfTheMap.{one_map}
 use Rattle.extent_map.proofs.UsedPagesLemmas.{used-claimed}
@@ -28,20 +27,20 @@ use Rattle.table_trees.proofs.ExtentCountsLemmas.{lowest-claimable}
 -- ---- the same owners
 
 -- each used index page is as it was
-abbrev pub KeepsUsed : Extents → List Kind → PageList → PageList → Type 0
-KeepsUsed ext owners old new = (p : ℕ) → IsUsedPage ext owners p → page_at new p ≡ page_at old p
+abbrev pub KeepsUsed : Shape → List Kind → PageList → PageList → Type 0
+KeepsUsed shape owners old new = (p : ℕ) → IsUsedPage shape owners p → page_at new p ≡ page_at old p
 
 -- what the extents have as owners afterwards they had before
-pub owners_had : (ext : Extents) (old new : PageList) (owners : List Kind) → IsSameSpace ext old new → HoldsMap told_pages ext new owners → HoldsMap told_pages ext old owners
-owners_had ext old new owners same map = subst (HoldsMap told_pages ext old) (one_map same.has map) same.had
+pub owners_had : (shape : Shape) (old new : PageList) (owners : List Kind) → IsSameSpace shape old new → HoldsMap told_pages shape new owners → HoldsMap told_pages shape old owners
+owners_had shape old new owners same map = subst (HoldsMap told_pages shape old) (one_map same.has map) same.had
 
 -- and the other way
-pub owners_have : (ext : Extents) (old new : PageList) (owners : List Kind) → IsSameSpace ext old new → HoldsMap told_pages ext old owners → HoldsMap told_pages ext new owners
-owners_have ext old new owners same map = subst (HoldsMap told_pages ext new) (one_map same.had map) same.has
+pub owners_have : (shape : Shape) (old new : PageList) (owners : List Kind) → IsSameSpace shape old new → HoldsMap told_pages shape old owners → HoldsMap told_pages shape new owners
+owners_have shape old new owners same map = subst (HoldsMap told_pages shape new) (one_map same.had map) same.has
 
 -- by these owners each used index page is as it was
-pub used_stay : (ext : Extents) (old new : PageList) (owners : List Kind) → IsSameSpace ext old new → HoldsMap told_pages ext old owners → KeepsUsed ext owners old new
-used_stay ext old new owners same map = subst (λ (kinds : List Kind). KeepsUsed ext kinds old new) (one_map same.had map) same.bytes
+pub used_stay : (shape : Shape) (old new : PageList) (owners : List Kind) → IsSameSpace shape old new → HoldsMap told_pages shape old owners → KeepsUsed shape owners old new
+used_stay shape old new owners same map = subst (λ (kinds : List Kind). KeepsUsed shape kinds old new) (one_map same.had map) same.bytes
 
 -- ---- trees on pages that stay
 
@@ -95,11 +94,11 @@ leaves_along old new width before after keeps h =
 -- ---- a change beside rows
 
 -- what a change asks for stays
-pub asks_along : (ext : Extents) (owners : List Kind) (old new : PageList) (change : SpaceChange) (blocks n : ℕ) → KeepsUsed ext owners old new → AsksSpace ext owners old change blocks n
-    → AsksSpace ext owners new change blocks n
-asks_along ext owners old new (ClaimBlock t block) blocks n keeps a = a
-asks_along ext owners old new (GiveBlock t block) blocks n keeps a = a
-asks_along ext owners old new (AddEntry place entry) blocks n keeps a =
+pub asks_along : (shape : Shape) (owners : List Kind) (old new : PageList) (change : SpaceChange) (blocks n : ℕ) → KeepsUsed shape owners old new → AsksSpace shape owners old change blocks n
+    → AsksSpace shape owners new change blocks n
+asks_along shape owners old new (ClaimBlock t block) blocks n keeps a = a
+asks_along shape owners old new (GiveBlock t block) blocks n keeps a = a
+asks_along shape owners old new (AddEntry place entry) blocks n keeps a =
     let stay : KeepsPages a.1.tree old new = λ p l. keeps p (a.1.used p l) in (
       a.0,
       record {
@@ -110,21 +109,21 @@ asks_along ext owners old new (AddEntry place entry) blocks n keeps a =
         asks = asks_pages_along old new place.width a.1.tree entry n stay a.1.asks;
       },
     )
-asks_along ext owners old new (RemoveEntry place entry) blocks n keeps a = a
-asks_along ext owners old new (AmendEntry place was is) blocks n keeps a = a
-asks_along ext owners old new (MakeTree place) blocks n keeps a = a
+asks_along shape owners old new (RemoveEntry place entry) blocks n keeps a = a
+asks_along shape owners old new (AmendEntry place was is) blocks n keeps a = a
+asks_along shape owners old new (MakeTree place) blocks n keeps a = a
 
-module _ (ext : Extents) (olds news : List Kind) (old mid new : PageList) where
+module _ (shape : Shape) (olds news : List Kind) (old mid new : PageList) where
   -- pages stay through rows before a change
-  keeps_from : (t : Forest) → KeepsUsed ext olds old mid → KeepsIndexPages ext olds news mid new t → KeepsIndexPages ext olds news old new t
+  keeps_from : (t : Forest) → KeepsUsed shape olds old mid → KeepsIndexPages shape olds news mid new t → KeepsIndexPages shape olds news old new t
   keeps_from t keeps k = record { bytes = λ p used none. k.bytes p used none ∙ keeps p used; used = k.used }
 
   -- and through rows after one
-  keeps_to : (t : Forest) → KeepsUsed ext news mid new → KeepsIndexPages ext olds news old mid t → KeepsIndexPages ext olds news old new t
+  keeps_to : (t : Forest) → KeepsUsed shape news mid new → KeepsIndexPages shape olds news old mid t → KeepsIndexPages shape olds news old new t
   keeps_to t keeps k = record { bytes = λ p used none. keeps p (k.used p used none) ∙ k.bytes p used none; used = k.used }
 
   -- so does a tree that becomes another
-  turns_from : (place : TreePlace) (before after : Forest) → KeepsUsed ext olds old mid → TurnsTree ext olds news mid new place before after → TurnsTree ext olds news old new place before after
+  turns_from : (place : TreePlace) (before after : Forest) → KeepsUsed shape olds old mid → TurnsTree shape olds news mid new place before after → TurnsTree shape olds news old new place before after
   turns_from place before after keeps t = record {
     had = has_along mid old place before (λ p l. sym (keeps p (t.was_used p l))) t.had;
     was_used = t.was_used;
@@ -136,7 +135,7 @@ module _ (ext : Extents) (olds news : List Kind) (old mid new : PageList) where
   }
 
   -- and what it became stays through rows after it
-  turns_to : (place : TreePlace) (before after : Forest) → KeepsUsed ext news mid new → TurnsTree ext olds news old mid place before after → TurnsTree ext olds news old new place before after
+  turns_to : (place : TreePlace) (before after : Forest) → KeepsUsed shape news mid new → TurnsTree shape olds news old mid place before after → TurnsTree shape olds news old new place before after
   turns_to place before after keeps t = record {
     had = t.had;
     was_used = t.was_used;
@@ -148,7 +147,7 @@ module _ (ext : Extents) (olds news : List Kind) (old mid new : PageList) where
   }
 
   -- what a change does it does from the pages before the rows too
-  pub effect_from : length mid ≡ length old → (change : SpaceChange) → KeepsUsed ext olds old mid → ChangesSpace ext change olds news mid new → ChangesSpace ext change olds news old new
+  pub effect_from : length mid ≡ length old → (change : SpaceChange) → KeepsUsed shape olds old mid → ChangesSpace shape change olds news mid new → ChangesSpace shape change olds news old new
   effect_from same (ClaimBlock t block) keeps c = (c.0, c.1, keeps_from Forest.Nil keeps c.2)
   effect_from same (GiveBlock t block) keeps c = (c.0, c.1, keeps_from Forest.Nil keeps c.2, c.3 ∙ same)
   effect_from same (AddEntry place entry) keeps c =
@@ -158,7 +157,7 @@ module _ (ext : Extents) (olds news : List Kind) (old mid new : PageList) where
   effect_from same (MakeTree place) keeps c = (c.0, c.1, c.2, keeps_from Forest.Nil keeps c.3, c.4)
 
   -- and to the pages after them
-  pub effect_to : length olds ≡ ext.cap → length new ≡ length mid → (change : SpaceChange) → KeepsUsed ext news mid new → ChangesSpace ext change olds news old mid → ChangesSpace ext change olds news old new
+  pub effect_to : length olds ≡ shape.extents → length new ≡ length mid → (change : SpaceChange) → KeepsUsed shape news mid new → ChangesSpace shape change olds news old mid → ChangesSpace shape change olds news old new
   effect_to count same (ClaimBlock t block) keeps c = (c.0, c.1, keeps_to Forest.Nil keeps c.2)
   effect_to count same (GiveBlock t block) keeps c = (c.0, c.1, keeps_to Forest.Nil keeps c.2, same ∙ c.3)
   effect_to count same (AddEntry place entry) keeps c = (c.0, c.1, c.2, turns_to place c.0 c.1 keeps c.3, c.4, c.5, c.6)
@@ -167,22 +166,22 @@ module _ (ext : Extents) (olds news : List Kind) (old mid new : PageList) where
   effect_to count same (MakeTree place) keeps c =
       (has_along mid new place (Forest.Leaf place.root [] Forest.Nil) (λ p l. keeps p (root_used p l)) c.0, c.1, c.2, keeps_to Forest.Nil keeps c.3, c.4)
     where
-      root_used : (p : ℕ) → 0 < times p (Forest.Leaf place.root [] Forest.Nil) → IsUsedPage ext news p
+      root_used : (p : ℕ) → 0 < times p (Forest.Leaf place.root [] Forest.Nil) → IsUsedPage shape news p
       root_used p l = elim (cases_eq p place.root) [
         | inl is ↦
-            let used : IsUsedPage ext news place.root = subst (λ (owners : List Kind). IsUsedPage ext owners place.root) (sym c.2) (used-claimed ext olds place.root count (lowest-claimable ext olds place.root c.1)) in
-            subst (IsUsedPage ext news) (sym is) used
+            let used : IsUsedPage shape news place.root = subst (λ (owners : List Kind). IsUsedPage shape owners place.root) (sym c.2) (used-claimed shape olds place.root count (lowest-claimable shape olds place.root c.1)) in
+            subst (IsUsedPage shape news) (sym is) used
         | inr other ↦ absurd (omega (arith, l, once_other p place.root other))
       ]
 
   -- as many pages came, since rows bring none
-  pub grows_from : length mid ≡ length old → (length new ≡ length mid) ⊎ GrowsToExtent ext olds news mid new → (length new ≡ length old) ⊎ GrowsToExtent ext olds news old new
+  pub grows_from : length mid ≡ length old → (length new ≡ length mid) ⊎ GrowsToExtent shape olds news mid new → (length new ≡ length old) ⊎ GrowsToExtent shape olds news old new
   grows_from same (inl none) = inl (none ∙ same)
   grows_from same (inr more) =
       inr (record { longer = omega (arith, same, more.longer); extent = more.extent; was_free = more.was_free; is_taken = more.is_taken; count = more.count })
 
   -- and so it is with rows after it
-  pub grows_to : length new ≡ length mid → (length mid ≡ length old) ⊎ GrowsToExtent ext olds news old mid → (length new ≡ length old) ⊎ GrowsToExtent ext olds news old new
+  pub grows_to : length new ≡ length mid → (length mid ≡ length old) ⊎ GrowsToExtent shape olds news old mid → (length new ≡ length old) ⊎ GrowsToExtent shape olds news old new
   grows_to same (inl none) = inl (same ∙ none)
   grows_to same (inr more) =
       inr (record { longer = omega (arith, same, more.longer); extent = more.extent; was_free = more.was_free; is_taken = more.is_taken; count = same ∙ more.count })

@@ -3,8 +3,8 @@ use Rattle.std.proofs.Common.{◌≡◌, ℕ, List, true, refl, sym}
 use Rattle.store_api.specs.Frame.{HoldsPage}
 use Rattle.store_api.specs.StoreState.{StoreState}
 use Rattle.store_api.specs.declared.pages.Pages.{Ghosts}
+use Rattle.store_api.specs.declared.shape.Shape.{Shape}
 use Rattle.extent_map.specs.Map.{HoldsMap}
-use Rattle.extent_map.specs.declared.extents.Extents.{Extents}
 use Rattle.extent_map.specs.declared.kind.Kind.{Kind}
 use Rattle.entry_tree.specs.Forest.{Forest}
 use Rattle.entry_tree.specs.HeldTrees.{nodes_in}
@@ -51,14 +51,14 @@ module _ {S : Type 0} (g : Ghosts S) (s : S) (told : (g.state s).is_told ≡ tru
   told_of_page p bytes h = record { is_told = told; within = h.within; bytes_are = h.bytes_are }
 
   -- the extent map
-  pub map_of_told : (ext : Extents) (owners : List Kind) → HoldsMap g ext s owners → HoldsMap told_pages ext (g.state s).work owners
-  map_of_told ext owners h = record {
+  pub map_of_told : (shape : Shape) (owners : List Kind) → HoldsMap g shape s owners → HoldsMap told_pages shape (g.state s).work owners
+  map_of_told shape owners h = record {
     count = h.count;
     pages = λ i low. record { page = page_of_told _ _ (h.pages i low).page; kinds = (h.pages i low).kinds; there = (h.pages i low).there };
   }
 
-  pub told_of_map : (ext : Extents) (owners : List Kind) → HoldsMap told_pages ext (g.state s).work owners → HoldsMap g ext s owners
-  told_of_map ext owners h = record {
+  pub told_of_map : (shape : Shape) (owners : List Kind) → HoldsMap told_pages shape (g.state s).work owners → HoldsMap g shape s owners
+  told_of_map shape owners h = record {
     count = h.count;
     pages = λ i low. record { page = told_of_page _ _ (h.pages i low).page; kinds = (h.pages i low).kinds; there = (h.pages i low).there };
   }

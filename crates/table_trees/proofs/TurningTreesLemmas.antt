@@ -3,16 +3,17 @@ use Rattle.std.proofs.Common.{◌≡◌, ℕ, IsTrue, List, [], ◌∷◌, ap, a
 use Rattle.store_api.specs.Frame.{Touches}
 use Rattle.store_api.specs.StoreState.{page_at}
 use Rattle.store_api.specs.declared.pages.Pages.{Ghosts}
+use Rattle.store_api.specs.declared.shape.Shape.{Shape}
 use Rattle.store_api.proofs.FrameLemmas.{holds_here}
 use Rattle.extent_map.specs.Map.{HoldsMap}
 use Rattle.extent_map.specs.Owners.{IsUsedPage, owner_of}
-use Rattle.extent_map.specs.declared.extents.Extents.{Extents}
 use Rattle.extent_map.specs.declared.kind.Kind.{Kind}
+use Rattle.extent_map.specs.declared.space_notes.SpaceNotes.{SpaceNotes}
 use Rattle.extent_map.proofs.UsedPagesLemmas.{no_space_page, used_page_there}
 use Rattle.entry_tree.specs.Forest.{Forest}
 use Rattle.entry_tree.specs.Standing.{StandsTree}
 use Rattle.entry_tree.specs.declared.tree.Tree.{Tree}
-use Rattle.entry_tree.proofs.UsedPagesLemmas.{used_not_idle, used_same}
+use Rattle.entry_tree.proofs.UsedPagesLemmas.{used_not_idle}
 use Rattle.table_trees.specs.SpaceChanges.{KeepsBlocks, TurnsTree}
 use Rattle.table_trees.specs.TableTrees.{place_of_tree}
 use Rattle.table_trees.specs.TreesBeside.{ChangesTrees, IsSpaceOfTrees, table_of_block}
@@ -30,19 +31,19 @@ keeps_blocks old new same t e = (
 
 module _ {S : Type 0} {g : Ghosts S} where
   -- a used page that isn't touched is as it was
-  pub used_page_stays : (Mine : ℕ → Type 0) (ext : Extents) (old new : S) (owners : List Kind) (p : ℕ) → HoldsMap g ext old owners → IsTrue (g.state old).is_told → Touches g Mine old new
-      → IsUsedPage ext owners p → (Mine p → ⊥) → page_at (g.state new).work p ≡ page_at (g.state old).work p
-  used_page_stays Mine ext old new owners p map told touched used apart =
+  pub used_page_stays : (Mine : ℕ → Type 0) (shape : Shape) (old new : S) (owners : List Kind) (p : ℕ) → HoldsMap g shape old owners → IsTrue (g.state old).is_told → Touches g Mine old new
+      → IsUsedPage shape owners p → (Mine p → ⊥) → page_at (g.state new).work p ≡ page_at (g.state old).work p
+  used_page_stays Mine shape old new owners p map told touched used apart =
       let now = touched.others p (page_at (g.state old).work p) apart (holds_here p told (used_page_there p map used)) in
       now.bytes_are
 
   -- the tree turns into what it is now
-  pub tree_turns : (before ext : Extents) (old new : S) (tree : Tree) (owners owners_now : List Kind) (t after : Forest) → StandsTree g before old tree owners t → IsTrue (g.state old).is_told
-      → (g.state new).is_told ≡ (g.state old).is_told → Touches g (IsSpaceOfTrees g before old (place_of_tree tree ∷ [])) old new
-      → ChangesTrees g before ext new (place_of_tree tree ∷ []) owners (t ∷ []) owners_now (after ∷ [])
-      → TurnsTree before owners owners_now (g.state old).work (g.state new).work (place_of_tree tree) t after
-  tree_turns before ext old new tree owners owners_now t after st told still touched c =
-      let stood = one_stands before old tree owners t st in
+  pub tree_turns : (shape : Shape) (before noted : SpaceNotes) (old new : S) (tree : Tree) (owners owners_now : List Kind) (t after : Forest) → StandsTree g shape old tree owners t → IsTrue (g.state old).is_told
+      → (g.state new).is_told ≡ (g.state old).is_told → Touches g (IsSpaceOfTrees g shape old (place_of_tree tree ∷ [])) old new
+      → ChangesTrees g shape before noted new (place_of_tree tree ∷ []) owners (t ∷ []) owners_now (after ∷ [])
+      → TurnsTree shape owners owners_now (g.state old).work (g.state new).work (place_of_tree tree) t after
+  tree_turns shape before noted old new tree owners owners_now t after st told still touched c =
+      let stood = one_stands shape old tree owners t st in
       record {
         had = tree_of_told g old told (place_of_tree tree) t stood.held.0;
         was_used = st.used;
@@ -53,20 +54,20 @@ module _ {S : Type 0} {g : Ghosts S} where
             | inr was ↦ inr (was.0, omega (arith, was.1, times-one p t))
           ],
           λ is. elim is [
-            | inl now ↦ used_same before ext owners_now p c.shape (c.stand.used p (omega (arith, now, times-one p after)))
+            | inl now ↦ c.stand.used p (omega (arith, now, times-one p after))
             | inr was ↦ c.kept.others p was.0 (omega (arith, was.1, times-one p t))
           ],
         );
         fresh = λ p l none used. elim (c.pages p (omega (arith, l, times-one p after))) [
           | inl was ↦ absurd (omega (arith, was, none, times-one p t))
-          | inr idle ↦ used_not_idle before owners p used idle
+          | inr idle ↦ used_not_idle shape owners p used idle
         ];
         others = record {
-          bytes = λ p used none. used_page_stays (IsSpaceOfTrees g before old (place_of_tree tree ∷ [])) before old new owners p st.map told touched used
+          bytes = λ p used none. used_page_stays (IsSpaceOfTrees g shape old (place_of_tree tree ∷ [])) shape old new owners p st.map told touched used
               (λ mine. elim (mine owners (t ∷ []) stood) [
                 | inl here ↦ omega (arith, here, none, times-one p t)
-                | inr (inl space) ↦ no_space_page before p used.page space
-                | inr (inr idle) ↦ used_not_idle before owners p used idle
+                | inr (inl space) ↦ no_space_page shape p used.page space
+                | inr (inr idle) ↦ used_not_idle shape owners p used idle
               ]);
           used = λ p used none. c.kept.others p used (omega (arith, none, times-one p t));
         };

@@ -5,12 +5,17 @@ ghost use Rattle.entry_tree.specs.Reading.{BoundFits};
 use crate::entries::{Bytes, WIDTH};
 use bench_plan::Stop;
 use entry_tree::{Leaf, Tree};
-use extent_map::Extents;
+use extent_map::SpaceNotes;
 use std::alloc::Global;
-use store_api::Pages;
+use store_api::{Pages, Shape};
 
 /// Makes an empty tree.
-pub fn make<S: Pages>(alloc: Global, ext: &mut Extents, store: &mut S) -> Result<Tree, Stop>
+pub fn make<S: Pages>(
+    alloc: Global,
+    shape: Shape,
+    notes: &mut SpaceNotes,
+    store: &mut S,
+) -> Result<Tree, Stop>
     requires going { (S.state store.old).ended ≡ false }
     requires unmarked { (S.state store.old).marked ≡ None }
     ensures width { IfOk result (λ tree. tree.width ≡ WIDTH) }
@@ -18,7 +23,7 @@ pub fn make<S: Pages>(alloc: Global, ext: &mut Extents, store: &mut S) -> Result
     ensures unmarked { OnOk result ((S.state store.new).marked ≡ None) }
 {
     store.mark();
-    let tree = Tree::make(alloc, ext, store, WIDTH)?;
+    let tree = Tree::make(alloc, shape, notes, store, WIDTH)?;
     store.keep()?;
     Ok(tree)
 }
@@ -26,7 +31,8 @@ pub fn make<S: Pages>(alloc: Global, ext: &mut Extents, store: &mut S) -> Result
 /// Adds an entry to a tree.
 pub fn add<S: Pages>(
     tree: &Tree,
-    ext: &mut Extents,
+    shape: Shape,
+    notes: &mut SpaceNotes,
     store: &mut S,
     entry: &Bytes,
 ) -> Result<bool, Stop>
@@ -37,7 +43,7 @@ pub fn add<S: Pages>(
     ensures unmarked { OnOk result ((S.state store.new).marked ≡ None) }
 {
     store.mark();
-    let is_new = tree.add(ext, store, entry)?;
+    let is_new = tree.add(shape, notes, store, entry)?;
     store.keep()?;
     Ok(is_new)
 }
@@ -45,7 +51,8 @@ pub fn add<S: Pages>(
 /// Removes an entry from a tree.
 pub fn remove<S: Pages>(
     tree: &Tree,
-    ext: &mut Extents,
+    shape: Shape,
+    notes: &mut SpaceNotes,
     store: &mut S,
     entry: &Bytes,
 ) -> Result<bool, Stop>
@@ -56,7 +63,7 @@ pub fn remove<S: Pages>(
     ensures unmarked { OnOk result ((S.state store.new).marked ≡ None) }
 {
     store.mark();
-    let was_there = tree.remove(ext, store, entry)?;
+    let was_there = tree.remove(shape, notes, store, entry)?;
     store.keep()?;
     Ok(was_there)
 }
@@ -83,14 +90,14 @@ pub fn read<S: Pages>(tree: &Tree, store: &mut S, bound: &[u8], leaf: &mut Leaf)
 }
 
 /// Claims a block.
-pub fn claim<S: Pages>(ext: &mut Extents, store: &mut S) -> Result<u32, Stop>
+pub fn claim<S: Pages>(shape: Shape, notes: &mut SpaceNotes, store: &mut S) -> Result<u32, Stop>
     requires going { (S.state store.old).ended ≡ false }
     requires unmarked { (S.state store.old).marked ≡ None }
     ensures going { (S.state store.new).ended ≡ false }
     ensures unmarked { OnOk result ((S.state store.new).marked ≡ None) }
 {
     store.mark();
-    let e = ext.claim_block(store, 0)?;
+    let e = notes.claim_block(shape, store, 0)?;
     store.keep()?;
     Ok(e)
 }

@@ -11,9 +11,10 @@ mod what;
 mod work;
 
 use bench_plan::{Plan, Stop, plan_of, words};
+use extent_map::SpaceNotes;
 use host_edge::FileHost;
 use mdc_outside::Host;
-use setup::{extents, made};
+use setup::{made, shape};
 use std::alloc::Global;
 use what::What;
 use work::do_work;
@@ -40,7 +41,7 @@ fn run(rt: &HostRuntime, words: &[String]) -> Result<(), Stop> {
 // Does the work on a new database, and answers a number that tells of it. What owns the database makes one call, to which
 // it is lent.
 fn carry_out<H: Host + Drop>(alloc: Global, host: H, plan: Plan<What>) -> Result<u64, Stop> {
-    let mut ext = extents()?;
+    let shape = shape()?;
     let mut store = made(alloc, host)?;
-    do_work(alloc, &mut ext, &mut store, plan)
+    do_work(alloc, shape, &mut SpaceNotes::new(), &mut store, plan)
 }

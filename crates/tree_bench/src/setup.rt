@@ -2,11 +2,10 @@
 ghost use Rattle.std.specs.Prelude.{◌≡◌, false, None, IfOk};
 
 use bench_plan::{Stop, make_empty, opened};
-use extent_map::Extents;
 use mdc_outside::Host;
 use page_store::FileStore;
 use std::alloc::Global;
-use store_api::Pages;
+use store_api::{Pages, Shape};
 
 // A database may grow to so many extents, the most that there can be.
 const EXTENTS: u32 = 65_536;
@@ -22,10 +21,10 @@ pub fn made<H: Host + Drop>(alloc: Global, mut host: H) -> Result<FileStore<H>, 
     opened(alloc, host)
 }
 
-/// The extents of that database.
-pub fn extents() -> Result<Extents, Stop> {
-    match Extents::new(EXTENTS, EXTENT_PAGES) {
-        Some(ext) => Ok(ext),
+/// The shape of that database.
+pub fn shape() -> Result<Shape, Stop> {
+    match Shape::new(EXTENTS, EXTENT_PAGES) {
+        Some(shape) => Ok(shape),
         None => Err(Stop::Shape),
     }
 }

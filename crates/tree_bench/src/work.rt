@@ -6,9 +6,9 @@ use crate::entries::{Order, WIDTH, entry};
 use crate::what::What;
 use bench_plan::{Plan, Stop};
 use entry_tree::{Entry, Leaf, Tree};
-use extent_map::Extents;
+use extent_map::SpaceNotes;
 use std::alloc::Global;
-use store_api::Pages;
+use store_api::{Pages, Shape};
 
 // How many blocks are claimed each time.
 const CLAIMS: u32 = 1000;
@@ -22,7 +22,8 @@ const PARTS: u64 = 1000;
 /// Does a piece of work of that size so many times.
 pub fn do_work<S: Pages>(
     alloc: Global,
-    ext: &mut Extents,
+    shape: Shape,
+    notes: &mut SpaceNotes,
     store: &mut S,
     plan: Plan<What>,
 ) -> Result<u64, Stop>
@@ -31,36 +32,43 @@ pub fn do_work<S: Pages>(
 {
     let Plan { what, size, times } = plan;
     match what {
-        What::Add => make_trees(alloc, ext, store, Order::Shuffled, size, times),
-        What::Rise => make_trees(alloc, ext, store, Order::Rising, size, times),
+        What::Add => make_trees(alloc, shape, notes, store, Order::Shuffled, size, times),
+        What::Rise => make_trees(alloc, shape, notes, store, Order::Rising, size, times),
         What::Has => {
-            let tree = made_tree(alloc, ext, store, Order::Shuffled, size)?;
+            let tree = made_tree(alloc, shape, notes, store, Order::Shuffled, size)?;
             find_times(&tree, store, size, times)
         }
         What::Walk => {
-            let tree = made_tree(alloc, ext, store, Order::Shuffled, size)?;
+            let tree = made_tree(alloc, shape, notes, store, Order::Shuffled, size)?;
             walk_times(&tree, store, &mut Leaf::new(alloc), times)
         }
-        What::Remove => remove_times(alloc, ext, store, size, times),
-        What::Claim => claim(ext, store, size, times),
-        What::Fill => fill(alloc, ext, store, Order::Shuffled, size),
-        What::FillRising => fill(alloc, ext, store, Order::Rising, size),
+        What::Remove => remove_times(alloc, shape, notes, store, size, times),
+        What::Claim => claim(shape, notes, store, size, times),
+        What::Fill => fill(alloc, shape, notes, store, Order::Shuffled, size),
+        What::FillRising => fill(alloc, shape, notes, store, Order::Rising, size),
     }
 }
 
 // Claims a thousand blocks so many times, behind so many extents in use. Answers the sum of their numbers.
-fn claim<S: Pages>(ext: &mut Extents, store: &mut S, size: u32, times: u32) -> Result<u64, Stop>
+fn claim<S: Pages>(
+    shape: Shape,
+    notes: &mut SpaceNotes,
+    store: &mut S,
+    size: u32,
+    times: u32,
+) -> Result<u64, Stop>
     requires going { (S.state store.old).ended ≡ false }
     requires unmarked { (S.state store.old).marked ≡ None }
 {
-    claim_many(ext, store, size)?;
-    claim_many(ext, store, times.saturating_mul(CLAIMS))
+    claim_many(shape, notes, store, size)?;
+    claim_many(shape, notes, store, times.saturating_mul(CLAIMS))
 }
 
 // How full the leaves are of so many entries that came in an order, in thousandths.
 fn fill<S: Pages>(
     alloc: Global,
-    ext: &mut Extents,
+    shape: Shape,
+    notes: &mut SpaceNotes,
     store: &mut S,
     order: Order,
     size: u32,
@@ -68,7 +76,7 @@ fn fill<S: Pages>(
     requires going { (S.state store.old).ended ≡ false }
     requires unmarked { (S.state store.old).marked ≡ None }
 {
-    let tree = made_tree(alloc, ext, store, order, size)?;
+    let tree = made_tree(alloc, shape, notes, store, order, size)?;
     let Reads { entries, leaves } = walk_once(&tree, store, &mut Leaf::new(alloc))?;
     Ok(entries.saturating_mul(PARTS) / leaves.saturating_mul(LEAF_ROOM).max(1))
 }
@@ -76,7 +84,8 @@ fn fill<S: Pages>(
 // Makes so many trees of so many entries. Answers the sum of their roots.
 fn make_trees<S: Pages>(
     alloc: Global,
-    ext: &mut Extents,
+    shape: Shape,
+    notes: &mut SpaceNotes,
     store: &mut S,
     order: Order,
     size: u32,
@@ -87,7 +96,7 @@ fn make_trees<S: Pages>(
 {
     let mut sum: u64 = 0;
     for _ in 0..times {
-        let tree = made_tree(alloc, ext, store, order, size)?;
+        let tree = made_tree(alloc, shape, notes, store, order, size)?;
         sum = sum.wrapping_add(u64::from(tree.root));
     }
     Ok(sum)
@@ -96,7 +105,8 @@ fn make_trees<S: Pages>(
 // A new tree with so many entries.
 fn made_tree<S: Pages>(
     alloc: Global,
-    ext: &mut Extents,
+    shape: Shape,
+    notes: &mut SpaceNotes,
     store: &mut S,
     order: Order,
     size: u32,
@@ -107,9 +117,9 @@ fn made_tree<S: Pages>(
     ensures going { (S.state store.new).ended ≡ false }
     ensures unmarked { OnOk result ((S.state store.new).marked ≡ None) }
 {
-    let tree = calls::make(alloc, ext, store)?;
+    let tree = calls::make(alloc, shape, notes, store)?;
     for i in 0..size {
-        calls::add(&tree, ext, store, &entry(order, i))?;
+        calls::add(&tree, shape, notes, store, &entry(order, i))?;
     }
     Ok(tree)
 }
@@ -143,7 +153,8 @@ fn count_found<S: Pages>(tree: &Tree, store: &mut S, size: u32) -> Result<u64, S
 // Makes a tree of so many entries and empties it, so many times. Answers how many entries were removed.
 fn remove_times<S: Pages>(
     alloc: Global,
-    ext: &mut Extents,
+    shape: Shape,
+    notes: &mut SpaceNotes,
     store: &mut S,
     size: u32,
     times: u32,
@@ -153,8 +164,8 @@ fn remove_times<S: Pages>(
 {
     let mut removed: u64 = 0;
     for _ in 0..times {
-        let tree = made_tree(alloc, ext, store, Order::Shuffled, size)?;
-        removed = removed.wrapping_add(remove_all(&tree, ext, store, size)?);
+        let tree = made_tree(alloc, shape, notes, store, Order::Shuffled, size)?;
+        removed = removed.wrapping_add(remove_all(&tree, shape, notes, store, size)?);
     }
     Ok(removed)
 }
@@ -162,7 +173,8 @@ fn remove_times<S: Pages>(
 // Removes so many entries. Answers how many were there.
 fn remove_all<S: Pages>(
     tree: &Tree,
-    ext: &mut Extents,
+    shape: Shape,
+    notes: &mut SpaceNotes,
     store: &mut S,
     size: u32,
 ) -> Result<u64, Stop>
@@ -174,7 +186,7 @@ fn remove_all<S: Pages>(
 {
     let mut removed: u64 = 0;
     for i in 0..size {
-        let was_there = calls::remove(tree, ext, store, &entry(Order::Shuffled, i))?;
+        let was_there = calls::remove(tree, shape, notes, store, &entry(Order::Shuffled, i))?;
         removed = removed.wrapping_add(u64::from(was_there));
     }
     Ok(removed)
@@ -228,7 +240,12 @@ fn walk_once<S: Pages>(tree: &Tree, store: &mut S, leaf: &mut Leaf) -> Result<Re
 }
 
 // Claims so many blocks. Answers the sum of their numbers.
-fn claim_many<S: Pages>(ext: &mut Extents, store: &mut S, claims: u32) -> Result<u64, Stop>
+fn claim_many<S: Pages>(
+    shape: Shape,
+    notes: &mut SpaceNotes,
+    store: &mut S,
+    claims: u32,
+) -> Result<u64, Stop>
     requires going { (S.state store.old).ended ≡ false }
     requires unmarked { (S.state store.old).marked ≡ None }
     ensures going { OnOk result ((S.state store.new).ended ≡ false) }
@@ -236,7 +253,7 @@ fn claim_many<S: Pages>(ext: &mut Extents, store: &mut S, claims: u32) -> Result
 {
     let mut sum: u64 = 0;
     for _ in 0..claims {
-        sum = sum.wrapping_add(u64::from(calls::claim(ext, store)?));
+        sum = sum.wrapping_add(u64::from(calls::claim(shape, notes, store)?));
     }
     Ok(sum)
 }

@@ -9,6 +9,6 @@ use Rattle.block_index.proofs.leaving.leave.Goals as goal
 
 pub returns-then-not-was_there-clause-runs : goal.returns-then-not-was_there-clause-runs
 returns-then-not-was_there-clause-runs g c =
-    subst (λ fault. RunsOverPages g.P.Pages (IsTreeOrMapPage g.P.Pages c.args.ext.now c.args.pages.now c.args.tree.now) (IsTreeOrMapPage g.P.Pages c.args.ext.now c.args.pages.now c.args.tree.now)
-    (BreaksLeaving g.P.Pages c.args.ext.now c.args.pages.now c.args.tree.now c.args.entry.now) c.args.pages.now c.remove.new.pages (Some fault)) (sym c.misplaced.ensures)
+    subst (λ fault. RunsOverPages g.P.Pages (IsTreeOrMapPage g.P.Pages c.args.shape c.args.pages.now c.args.tree.now) (IsTreeOrMapPage g.P.Pages c.args.shape c.args.pages.now c.args.tree.now)
+    (BreaksLeaving g.P.Pages c.args.shape c.args.pages.now c.args.tree.now c.args.entry.now) c.args.pages.now c.remove.new.pages (Some fault)) (sym c.misplaced.ensures)
     (runs_damage (runs_on c.in_ok-was_there.ensures.runs) (inr (record { page = refl; rule = refl; wrong = λ owners t st. if_false _ c.in_ok-was_there.was_there c.if-not-was_there.true (c.in_ok-was_there.ensures.removes owners t st) })))

@@ -13,11 +13,11 @@ returns-clause-clears g c =
     IfOk-weaker c.clear_in_page.result _ _
     (λ filled clears slots holds. record {
       was =
-          filled_in_block g.P.Pages c.args.ext.now c.args.def.now c.args.rid.block c.args.pages.now c.args.rid.slot c.in_ok-place.place.page c.in_ok-place.place.slot
-          c.of-shape.ensures place.page place.slot place.below c.requires.slot filled (λ here is. (clears here is).0) slots holds;
+          filled_in_block g.P.Pages c.args.shape c.args.def.now c.args.rid.block c.args.pages.now c.args.rid.slot c.in_ok-place.place.page c.in_ok-place.place.slot
+          c.of-row_shape.ensures place.page place.slot place.below c.requires.slot filled (λ here is. (clears here is).0) slots holds;
       held =
-          changed_in_block g.P.Pages c.args.ext.now c.args.def.now c.args.rid.block c.args.pages.now c.args.rid.slot c.in_ok-place.place.page c.in_ok-place.place.slot
-          c.of-shape.ensures place.page place.slot place.below c.requires.slot c.clear_in_page.new.pages None c.clear_in_page.ensures.runs c.clear_in_page.ensures.count (λ here is. (clears here is).1) slots holds;
+          changed_in_block g.P.Pages c.args.shape c.args.def.now c.args.rid.block c.args.pages.now c.args.rid.slot c.in_ok-place.place.page c.in_ok-place.place.slot
+          c.of-row_shape.ensures place.page place.slot place.below c.requires.slot c.clear_in_page.new.pages None c.clear_in_page.ensures.runs c.clear_in_page.ensures.count (λ here is. (clears here is).1) slots holds;
     })
     c.clear_in_page.ensures.clears
 
@@ -25,15 +25,15 @@ pub returns-clause-seen : goal.returns-clause-seen
 returns-clause-seen g c =
     let place = c.in_ok-place.ensures in
     IfOk-weaker c.clear_in_page.result _ _
-    (λ filled sees told. seen_if_in_block g.P.Pages c.args.ext.now c.args.def.now c.args.rid.block c.args.pages.now c.args.rid.slot c.in_ok-place.place.page c.in_ok-place.place.slot
-    c.of-shape.ensures place.page place.slot place.below c.requires.slot filled place.there (sees told))
+    (λ filled sees told. seen_if_in_block g.P.Pages c.args.shape c.args.def.now c.args.rid.block c.args.pages.now c.args.rid.slot c.in_ok-place.place.page c.in_ok-place.place.slot
+    c.of-row_shape.ensures place.page place.slot place.below c.requires.slot filled place.there (sees told))
     c.clear_in_page.ensures.seen
 
 pub returns-clause-runs : goal.returns-clause-runs
 returns-clause-runs g c =
     let place = c.in_ok-place.ensures in
-    let in_block = page_of_slot_in_block g.P.Pages c.args.ext.now c.args.def.now c.args.rid.block c.args.pages.now c.args.rid.slot c.in_ok-place.place.page c.in_ok-place.place.slot
-    c.of-shape.ensures place.page place.slot place.below c.requires.slot in
+    let in_block = page_of_slot_in_block g.P.Pages c.args.shape c.args.def.now c.args.rid.block c.args.pages.now c.args.rid.slot c.in_ok-place.place.page c.in_ok-place.place.slot
+    c.of-row_shape.ensures place.page place.slot place.below c.requires.slot in
     runs_then (breaks_extent place.runs) c.clear_in_page.ensures.runs (λ p there is. in_block p c.requires.below is) (λ p is. in_block p c.requires.below is)
-    (breaks_at_slot g.P.Pages c.args.ext.now c.args.def.now c.args.rid.block c.args.pages.now c.args.rid.slot c.in_ok-place.place.page c.in_ok-place.place.slot
-    c.of-shape.ensures place.page place.slot place.below c.requires.slot c.requires.below)
+    (breaks_at_slot g.P.Pages c.args.shape c.args.def.now c.args.rid.block c.args.pages.now c.args.rid.slot c.in_ok-place.place.page c.in_ok-place.place.slot
+    c.of-row_shape.ensures place.page place.slot place.below c.requires.slot c.requires.below)

@@ -11,6 +11,6 @@ use Rattle.block_rows.proofs.changing.put_first.Given as goal
 abbrev pub invariant-loop-j : goal.invariant-loop-j
 invariant-loop-j g l = record {
   same : (g.P.Pages.state l.pages).work ≡ (g.P.Pages.state l.fn.pages).work;
-  full : (slots : List (Option Row)) → HoldsRows g.P.Pages l.ext l.fn.pages l.def l.block slots → HoldsNowhere IsEmptySlot (take (l.j * slot_count l.def.columns) slots);
-  runs : RunsOverPages g.P.Pages (IsPageOfBlock l.ext l.block) (IsPageOfBlock l.ext l.block) (BreaksRows g.P.Pages l.ext l.fn.pages l.def l.block) l.fn.pages l.pages None;
+  full : (slots : List (Option Row)) → HoldsRows g.P.Pages l.fn.shape l.fn.pages l.def l.block slots → HoldsNowhere IsEmptySlot (take (l.j * slot_count l.def.columns) slots);
+  runs : RunsOverPages g.P.Pages (IsPageOfBlock l.fn.shape l.block) (IsPageOfBlock l.fn.shape l.block) (BreaksRows g.P.Pages l.fn.shape l.fn.pages l.def l.block) l.fn.pages l.pages None;
 }

@@ -22,10 +22,10 @@ loop-j-preserved g c =
     record {
       count = c.in_ok-write_page.ensures.count ∙ so.count;
       wiped = λ told.
-          wiped_more g.P.Pages c.args.ext.now c.args.def.now c.args.block c.loop-j.pages c.write_page.new.pages c.wipe.new.page (c.in_ok-first.first + c.loop-j.j) c.loop-j.j at
+          wiped_more g.P.Pages c.args.shape c.args.def.now c.args.block c.loop-j.pages c.write_page.new.pages c.wipe.new.page (c.in_ok-first.first + c.loop-j.j) c.loop-j.j at
           (so.runs.works.steady.is_told ∙ told) (omega (arith, at, so.count, c.in_ok-first.ensures.there, c.loop-j-test.true)) c.in_ok-write_page.ensures.runs c.in_ok-write_page.ensures.puts
           (subst (λ columns. IsRowPage columns c.wipe.new.page (replicate (slot_count columns) None)) c.of.ensures c.wipe.ensures.empty) (so.wiped told);
-      runs = runs_more so.runs c.in_ok-write_page.ensures.runs (λ q there is. only_page_of_block c.args.ext.now c.args.block q c.loop-j.j c.requires.below c.loop-j-test.true (is ∙ at)) (λ q none. absurd none);
+      runs = runs_more so.runs c.in_ok-write_page.ensures.runs (λ q there is. only_page_of_block c.args.shape c.args.block q c.loop-j.j c.requires.below c.loop-j-test.true (is ∙ at)) (λ q none. absurd none);
     }
 
 pub returns-in_err-write_page-clause-runs : goal.returns-in_err-write_page-clause-runs
@@ -33,10 +33,10 @@ returns-in_err-write_page-clause-runs g c =
     let so = c.loop-j.invariant in
     let at = ap (λ n. n + c.loop-j.j) c.in_ok-first.ensures.first in
     runs_exit c.from_residual-in_err-write_page.result c.from_residual-in_err-write_page.ensures.1
-    (runs_more so.runs c.in_err-write_page.ensures.runs (λ q there is. only_page_of_block c.args.ext.now c.args.block q c.loop-j.j c.requires.below c.loop-j-test.true (is ∙ at)) (λ q none. absurd none))
+    (runs_more so.runs c.in_err-write_page.ensures.runs (λ q there is. only_page_of_block c.args.shape c.args.block q c.loop-j.j c.requires.below c.loop-j-test.true (is ∙ at)) (λ q none. absurd none))
 
 pub returns-clause-wipes : goal.returns-clause-wipes
 returns-clause-wipes g c = λ told.
     let so = c.loop-j.invariant in
-    wiped_all g.P.Pages c.args.ext.now c.args.def.now c.args.block (so.runs.works.steady.is_told ∙ told) (omega (arith, so.count, c.in_ok-first.ensures.there))
+    wiped_all g.P.Pages c.args.shape c.args.def.now c.args.block (so.runs.works.steady.is_told ∙ told) (omega (arith, so.count, c.in_ok-first.ensures.there))
     (λ i below. so.wiped told i (omega (arith, below, c.loop-j-test.false)))

@@ -12,6 +12,6 @@ abbrev pub invariant-loop-j : goal.invariant-loop-j
 invariant-loop-j g l = record {
   count : length (g.P.Pages.state l.pages).work ≡ length (g.P.Pages.state l.fn.pages).work;
   wiped : IsTrue (g.P.Pages.state l.fn.pages).is_told → (i : ℕ) → i < l.j
-      → HoldsRowPage g.P.Pages l.def.columns l.pages (first_page_of l.ext.cap l.ext.extent_pages l.block + i) (replicate (slot_count l.def.columns) None);
-  runs : RunsOverPages g.P.Pages (IsPageOfBlock l.ext l.block) (IsPageOfBlock l.ext l.block) (BreaksExtent g.P.Pages l.ext l.fn.pages l.block) l.fn.pages l.pages None;
+      → HoldsRowPage g.P.Pages l.def.columns l.pages (first_page_of l.fn.shape.extents l.fn.shape.extent_pages l.block + i) (replicate (slot_count l.def.columns) None);
+  runs : RunsOverPages g.P.Pages (IsPageOfBlock l.fn.shape l.block) (IsPageOfBlock l.fn.shape l.block) (BreaksExtent g.P.Pages l.fn.shape l.fn.pages l.block) l.fn.pages l.pages None;
 }

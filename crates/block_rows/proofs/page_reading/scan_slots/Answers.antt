@@ -1,7 +1,7 @@
 use Rattle.std.proofs.Common.{◌≡◌, ◌+◌, ◌++◌, ◌∷◌, [], ◌∙◌, List, IsTrue, ap, append-nil, append_assoc, arith, length, length-append, refl, subst, sym, take}
 use Rattle.std.specs.List.{AllByRecursion}
 use Rattle.row_page.specs.Row.{row_in}
-use Rattle.row_page.specs.RowPage.{rows_of, slot_count}
+use Rattle.row_page.specs.RowPage.{rows_of, slot_bytes, slot_count}
 use Rattle.row_filter.specs.Filtering.{may_filter}
 use Rattle.mdc_sound.specs.TableRows.{PlacedRow, rows_from_slot}
 use Rattle.mdc_sound.proofs.SlotRowsLemmas.{length-rows_from_slot}
@@ -11,7 +11,7 @@ use Rattle.block_rows.specs.HeldRows.{HasReadValues, qualifying}
 use Rattle.block_rows.specs.PageRows.{IsFaultOfBytes}
 use Rattle.block_rows.specs.SeenRows.{HasMet}
 use Rattle.block_rows.proofs.GivingLemmas.{given_more_qualifying, given_none}
-use Rattle.block_rows.proofs.MetRowsLemmas.{each_append, met_more}
+use Rattle.block_rows.proofs.MetRowsLemmas.{each_append, last_met, last_none, met_more}
 use Rattle.block_rows.proofs.PageRowsLemmas.{ends-view, next-view, seen-view, unheaded-view}
 use Rattle.block_rows.proofs.ReadValuesLemmas.{read-slot}
 use Rattle.block_rows.proofs.page_reading.scan_slots.Goals as goal
@@ -24,6 +24,7 @@ slots-init g c = record {
   counted = omega arith;
   few = omega (arith, c.requires.few);
   meets = λ rows has. subst (HasMet (places_of c.args.cells.now.columns.items) c.args.given.now c.args.met.now) (sym (append-nil rows)) has;
+  last = last_none (places_of c.args.cells.now.columns.items) c.args.shape.now.columns.now c.args.given.now c.args.met.now.first c.args.met.now.in_cell _ (omega arith);
   fits = c.requires.fits;
   pred = refl;
   width = refl;
@@ -81,6 +82,10 @@ slots-preserved g c =
       meets = λ rows has.
           subst (HasMet places c.args.given.now c.meet.new.self) (append_assoc rows so_far (next ∷ []) ∙ ap (λ l. rows ++ l) (sym more))
           (met_more places c.args.given.now c.slots.met c.meet.new.self (rows ++ so_far) next c.in_ok-meet.ensures.counted c.in_ok-meet.ensures.meets (so.meets rows has));
+      last = last_met places columns c.filled_row-row.result.columns.now c.args.given.now c.slots.met.first c.meet.new.self.first c.slots.met.in_cell c.meet.new.self.in_cell
+          c.bytes_of_slot-bytes.result.now c.filled_row-row.result.bytes.now (row.columns ∙ seen.1)
+          (c.bytes_of_slot-bytes.ensures.bytes ∙ (ap (λ page. slot_bytes columns page c.in-Some-next_filled.slot) (sym seen.0) ∙ (ap (λ cs. slot_bytes cs c.in-Some.view.page.now c.in-Some-next_filled.slot) (sym seen.1) ∙ sym row.bytes)))
+          c.in_ok-meet.ensures.meets;
       fits = subst (λ columns. g.K.RowSink.is_for columns c.give_if_taken.new.sink) (row.columns ∙ seen.1) taken.fits;
       pred = taken.pred ∙ so.pred;
       width = taken.width ∙ so.width;

@@ -9,7 +9,7 @@ use Rattle.block_rows.proofs.reading.rows_of_block.Goals as goal
 pub returns-clause-rows : goal.returns-clause-rows
 returns-clause-rows g c = λ told.
     c.in_ok-scan_block.ensures.given told [] (ap (map placed_row) c.new-hits.ensures.items)
-    ∙ qualifying-all c.in-Ok.filter.pred.now (rows_in_block c.args.ext.now (pages_of g.P.Pages c.args.pages.now) c.args.def.now c.args.block) c.in-Ok.ensures.pred
+    ∙ qualifying-all c.in-Ok.filter.pred.now (rows_in_block c.args.shape (pages_of g.P.Pages c.args.pages.now) c.args.def.now c.args.block) c.in-Ok.ensures.pred
 
 pub returns-clause-seen : goal.returns-clause-seen
 returns-clause-seen g c = λ told.

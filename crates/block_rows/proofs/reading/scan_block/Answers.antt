@@ -21,7 +21,7 @@ loop-j-init g c =
     let none = c.none-met.ensures in
     record {
       same = refl;
-      sees = λ told. sees_none c.args.ext.now (pages_of g.P.Pages c.args.pages.now) c.args.def.now c.args.block g.K.RowSink (places_of c.args.cells.now.columns.items) c.args.cell.now c.args.filter.now.pred.now c.args.sink.now c.none-met.result
+      sees = λ told. sees_none c.args.shape (pages_of g.P.Pages c.args.pages.now) c.args.def.now c.args.block g.K.RowSink (places_of c.args.cells.now.columns.items) c.args.cell.now c.args.filter.now.pred.now c.args.sink.now c.none-met.result
           (met_none (places_of c.args.cells.now.columns.items) c.args.cell.now c.none-met.result none.rows none.first none.in_cell);
       few = omega (arith, none.rows);
       fits = c.requires.fits;
@@ -32,17 +32,17 @@ loop-j-init g c =
     }
 
 pub scan_page-requires-clause-few : goal.scan_page-requires-clause-few
-scan_page-requires-clause-few g c = omega (arith, c.loop-j.invariant.few, c.first_slot-slot.ensures.slot, ap (λ k. c.loop-j.j * slot_count k) c.of-shape.ensures)
+scan_page-requires-clause-few g c = omega (arith, c.loop-j.invariant.few, c.first_slot-slot.ensures.slot, ap (λ k. c.loop-j.j * slot_count k) c.of-row_shape.ensures)
 
 pub scan_page-requires-clause-are : goal.scan_page-requires-clause-are
-scan_page-requires-clause-are g c = subst (λ columns. AreCellColumns columns c.args.cells.now) (sym c.of-shape.ensures) c.requires.are
+scan_page-requires-clause-are g c = subst (λ columns. AreCellColumns columns c.args.cells.now) (sym c.of-row_shape.ensures) c.requires.are
 
 pub scan_page-requires-clause-fits : goal.scan_page-requires-clause-fits
-scan_page-requires-clause-fits g c = subst (λ columns. g.K.RowSink.is_for columns c.loop-j.sink) (sym c.of-shape.ensures) c.loop-j.invariant.fits
+scan_page-requires-clause-fits g c = subst (λ columns. g.K.RowSink.is_for columns c.loop-j.sink) (sym c.of-row_shape.ensures) c.loop-j.invariant.fits
 
 pub scan_page-requires-clause-judged : goal.scan_page-requires-clause-judged
 scan_page-requires-clause-judged g c = λ row read.
-    subst (λ pred. IsTrue (may_filter pred row.values)) (sym c.loop-j.invariant.pred) (c.requires.judged row (subst (λ columns. HasReadValues columns row) c.of-shape.ensures read))
+    subst (λ pred. IsTrue (may_filter pred row.values)) (sym c.loop-j.invariant.pred) (c.requires.judged row (subst (λ columns. HasReadValues columns row) c.of-row_shape.ensures read))
 
 pub loop-j-preserved : goal.loop-j-preserved
 loop-j-preserved g c =
@@ -53,51 +53,51 @@ loop-j-preserved g c =
     record {
       same = scanned.same ∙ so.same;
       sees = λ told.
-          sees_more c.args.ext.now (pages_of g.P.Pages c.args.pages.now) c.args.def.now c.args.block g.K.RowSink places c.args.cell.now c.args.filter.now.pred.now c.of-shape.result.columns.now
+          sees_more c.args.shape (pages_of g.P.Pages c.args.pages.now) c.args.def.now c.args.block g.K.RowSink places c.args.cell.now c.args.filter.now.pred.now c.of-row_shape.result.columns.now
           (c.in_ok-first.first + c.loop-j.j) c.loop-j.j c.first_slot-slot.result c.args.sink.now c.loop-j.sink c.scan_page.new.sink c.loop-j.met c.scan_page.new.met
-          c.of-shape.ensures at c.loop-j-test.true c.first_slot-slot.ensures.slot (so.sees told)
-          (subst (λ pred. SeesPage g.K.RowSink c.of-shape.result.columns.now places c.args.cell.now (page_at (pages_of g.P.Pages c.args.pages.now) (c.in_ok-first.first + c.loop-j.j)) c.args.block c.first_slot-slot.result pred
+          c.of-row_shape.ensures at c.loop-j-test.true c.first_slot-slot.ensures.slot (so.sees told)
+          (subst (λ pred. SeesPage g.K.RowSink c.of-row_shape.result.columns.now places c.args.cell.now (page_at (pages_of g.P.Pages c.args.pages.now) (c.in_ok-first.first + c.loop-j.j)) c.args.block c.first_slot-slot.result pred
           c.loop-j.sink c.scan_page.new.sink c.loop-j.met c.scan_page.new.met) so.pred
-          (subst (λ work. SeesPage g.K.RowSink c.of-shape.result.columns.now places c.args.cell.now (page_at work (c.in_ok-first.first + c.loop-j.j)) c.args.block c.first_slot-slot.result c.loop-j.filter.pred.now
+          (subst (λ work. SeesPage g.K.RowSink c.of-row_shape.result.columns.now places c.args.cell.now (page_at work (c.in_ok-first.first + c.loop-j.j)) c.args.block c.first_slot-slot.result c.loop-j.filter.pred.now
           c.loop-j.sink c.scan_page.new.sink c.loop-j.met c.scan_page.new.met) so.same
           (scanned.sees (so.runs.works.steady.is_told ∙ told))));
-      few = omega (arith, scanned.few, c.first_slot-slot.ensures.slot, ap (λ k. (c.loop-j.j + 1) * slot_count k) c.of-shape.ensures);
-      fits = subst (λ columns. g.K.RowSink.is_for columns c.scan_page.new.sink) c.of-shape.ensures scanned.fits;
+      few = omega (arith, scanned.few, c.first_slot-slot.ensures.slot, ap (λ k. (c.loop-j.j + 1) * slot_count k) c.of-row_shape.ensures);
+      fits = subst (λ columns. g.K.RowSink.is_for columns c.scan_page.new.sink) c.of-row_shape.ensures scanned.fits;
       pred = scanned.pred ∙ so.pred;
       width = scanned.width ∙ so.width;
-      once = once_more g.P.Pages c.args.ext.now c.args.def.now c.args.block (c.in_ok-first.first + c.loop-j.j) c.loop-j.j at so.once scanned.once (λ q between. between);
-      runs = runs_page g.P.Pages c.args.ext.now c.args.def.now c.args.block (c.in_ok-first.first + c.loop-j.j) c.loop-j.j c.of-shape.ensures at c.requires.below c.loop-j-test.true (λ q none. none) so.runs so.same scanned.runs;
+      once = once_more g.P.Pages c.args.shape c.args.def.now c.args.block (c.in_ok-first.first + c.loop-j.j) c.loop-j.j at so.once scanned.once (λ q between. between);
+      runs = runs_page g.P.Pages c.args.shape c.args.def.now c.args.block (c.in_ok-first.first + c.loop-j.j) c.loop-j.j c.of-row_shape.ensures at c.requires.below c.loop-j-test.true (λ q none. none) so.runs so.same scanned.runs;
     }
 
 pub returns-in_err-scan_page-clause-once : goal.returns-in_err-scan_page-clause-once
 returns-in_err-scan_page-clause-once g c =
     let so = c.loop-j.invariant in
     let at = ap (λ n. n + c.loop-j.j) c.in_ok-first.ensures.first in
-    once_more g.P.Pages c.args.ext.now c.args.def.now c.args.block (c.in_ok-first.first + c.loop-j.j) c.loop-j.j at so.once c.in_err-scan_page.ensures.once
-    (λ q between. between_pages_of_block c.args.ext.now c.args.block q (c.loop-j.j + 1) c.requires.below (omega (arith, c.loop-j-test.true)) between)
+    once_more g.P.Pages c.args.shape c.args.def.now c.args.block (c.in_ok-first.first + c.loop-j.j) c.loop-j.j at so.once c.in_err-scan_page.ensures.once
+    (λ q between. between_pages_of_block c.args.shape c.args.block q (c.loop-j.j + 1) c.requires.below (omega (arith, c.loop-j-test.true)) between)
 
 pub returns-in_err-scan_page-clause-runs : goal.returns-in_err-scan_page-clause-runs
 returns-in_err-scan_page-clause-runs g c =
     let so = c.loop-j.invariant in
     let at = ap (λ n. n + c.loop-j.j) c.in_ok-first.ensures.first in
     runs_exit c.from_residual-in_err-scan_page.result c.from_residual-in_err-scan_page.ensures.1
-    (runs_page g.P.Pages c.args.ext.now c.args.def.now c.args.block (c.in_ok-first.first + c.loop-j.j) c.loop-j.j c.of-shape.ensures at c.requires.below c.loop-j-test.true (λ q none. none) so.runs so.same c.in_err-scan_page.ensures.runs)
+    (runs_page g.P.Pages c.args.shape c.args.def.now c.args.block (c.in_ok-first.first + c.loop-j.j) c.loop-j.j c.of-row_shape.ensures at c.requires.below c.loop-j-test.true (λ q none. none) so.runs so.same c.in_err-scan_page.ensures.runs)
 
 pub returns-clause-given : goal.returns-clause-given
 returns-clause-given g c = λ told.
-    given_all c.args.ext.now (pages_of g.P.Pages c.args.pages.now) c.args.def.now c.args.block g.K.RowSink (places_of c.args.cells.now.columns.items) c.args.cell.now c.args.filter.now.pred.now c.loop-j.j
+    given_all c.args.shape (pages_of g.P.Pages c.args.pages.now) c.args.def.now c.args.block g.K.RowSink (places_of c.args.cells.now.columns.items) c.args.cell.now c.args.filter.now.pred.now c.loop-j.j
     c.args.sink.now c.loop-j.sink c.loop-j.met c.loop-j-test.false (c.loop-j.invariant.sees told)
 
 pub returns-clause-seen : goal.returns-clause-seen
 returns-clause-seen g c = λ told.
-    seen_all c.args.ext.now (pages_of g.P.Pages c.args.pages.now) c.args.def.now c.args.block g.K.RowSink (places_of c.args.cells.now.columns.items) c.args.cell.now c.args.filter.now.pred.now c.loop-j.j
+    seen_all c.args.shape (pages_of g.P.Pages c.args.pages.now) c.args.def.now c.args.block g.K.RowSink (places_of c.args.cells.now.columns.items) c.args.cell.now c.args.filter.now.pred.now c.loop-j.j
     c.args.sink.now c.loop-j.sink c.loop-j.met c.loop-j-test.false (c.loop-j.invariant.sees told) c.in_ok-first.ensures.there
 
 pub returns-clause-in_cell : goal.returns-clause-in_cell
 returns-clause-in_cell g c = λ told.
-    in_cell_all c.args.ext.now (pages_of g.P.Pages c.args.pages.now) c.args.def.now c.args.block g.K.RowSink (places_of c.args.cells.now.columns.items) c.args.cell.now c.args.filter.now.pred.now c.loop-j.j
+    in_cell_all c.args.shape (pages_of g.P.Pages c.args.pages.now) c.args.def.now c.args.block g.K.RowSink (places_of c.args.cells.now.columns.items) c.args.cell.now c.args.filter.now.pred.now c.loop-j.j
     c.args.sink.now c.loop-j.sink c.loop-j.met c.loop-j-test.false (c.loop-j.invariant.sees told)
 
 pub returns-clause-once : goal.returns-clause-once
 returns-clause-once g c =
-    once_wider c.loop-j.invariant.once (λ q between. between_pages_of_block c.args.ext.now c.args.block q c.loop-j.j c.requires.below c.loop-j.auto.j-end between)
+    once_wider c.loop-j.invariant.once (λ q between. between_pages_of_block c.args.shape c.args.block q c.loop-j.j c.requires.below c.loop-j.auto.j-end between)

@@ -14,12 +14,12 @@ use Rattle.block_rows.proofs.reading.scan_block.Given as goal
 abbrev pub invariant-loop-j : goal.invariant-loop-j
 invariant-loop-j g l = record {
   same : (g.P.Pages.state l.pages).work ≡ (g.P.Pages.state l.fn.pages).work;
-  sees : IsTrue (g.P.Pages.state l.fn.pages).is_told → SeesPages g.K.RowSink l.ext (pages_of g.P.Pages l.fn.pages) l.def l.block (places_of l.cells.columns.items) l.cell l.fn.filter.pred.now l.j
+  sees : IsTrue (g.P.Pages.state l.fn.pages).is_told → SeesPages g.K.RowSink l.fn.shape (pages_of g.P.Pages l.fn.pages) l.def l.block (places_of l.cells.columns.items) l.cell l.fn.filter.pred.now l.j
       l.fn.sink l.sink l.met;
   few : l.met.rows ≤ l.j * slot_count l.def.columns;
   fits : g.K.RowSink.is_for l.def.columns l.sink;
   pred : l.filter.pred.now ≡ l.fn.filter.pred.now;
   width : length l.filter.values ≡ length l.fn.filter.values;
-  once : BringsOnce g.P.Pages (PagesBetween (first_page_of l.ext.cap l.ext.extent_pages l.block) (first_page_of l.ext.cap l.ext.extent_pages l.block + l.j)) l.fn.pages l.pages;
-  runs : RunsOverPages g.P.Pages NoPage (IsPageOfBlock l.ext l.block) (BreaksRows g.P.Pages l.ext l.fn.pages l.def l.block) l.fn.pages l.pages None;
+  once : BringsOnce g.P.Pages (PagesBetween (first_page_of l.fn.shape.extents l.fn.shape.extent_pages l.block) (first_page_of l.fn.shape.extents l.fn.shape.extent_pages l.block + l.j)) l.fn.pages l.pages;
+  runs : RunsOverPages g.P.Pages NoPage (IsPageOfBlock l.fn.shape l.block) (BreaksRows g.P.Pages l.fn.shape l.fn.pages l.def l.block) l.fn.pages l.pages None;
 }

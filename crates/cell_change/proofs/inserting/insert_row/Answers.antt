@@ -8,26 +8,26 @@ use Rattle.cell_change.proofs.inserting.insert_row.Goals as goal
 
 pub returns-clause-inserts : goal.returns-clause-inserts
 returns-clause-inserts g c owners forests ready =
-    inserts g.P.Pages c.args.ext.now c.place_row.new.ext c.args.pages.now c.place_row.new.pages c.args.def.now owners forests ready.stands _ c.args.row.now c.in_ok-rid.rid c.requires.defined
+    inserts g.P.Pages c.args.shape c.args.pages.now c.place_row.new.pages c.args.def.now owners forests ready.stands _ c.args.row.now c.in_ok-rid.rid c.requires.defined
     (c.in_ok-rid.ensures.places owners forests ready)
 
 pub returns-clause-sound : goal.returns-clause-sound
 returns-clause-sound g c owners forests ready between =
     let runs = c.in_ok-rid.ensures.runs in
-    sound_inserted g.P.Pages c.args.ext.now c.place_row.new.ext c.args.pages.now c.place_row.new.pages c.args.def.now owners forests ready.stands _ c.args.row.now c.in_ok-rid.rid c.requires.defined
+    sound_inserted g.P.Pages c.args.shape c.args.pages.now c.place_row.new.pages c.args.def.now owners forests ready.stands _ c.args.row.now c.in_ok-rid.rid c.requires.defined
     (c.in_ok-rid.ensures.places owners forests ready) c.requires.no_indexes c.requires.number (omega arith) runs.touches runs.works.no_shorter between
 
 pub returns-in_err-rid-clause-full : goal.returns-in_err-rid-clause-full
 returns-in_err-rid-clause-full g c =
     let fault = c.in_err-rid.field-0.0 in
     if_err_by c.from_residual.result fault _ c.from_residual.ensures.1
-    (full_as fault _ _ (λ cap is. (is.0, λ owners forests ready. insert_full g.P.Pages c.args.ext.now c.args.pages.now c.args.def.now owners forests ready.stands c.args.row.now (is.1 owners forests ready).runs_full))
+    (full_as fault _ _ (λ cap is. (is.0, λ owners forests ready. insert_full g.P.Pages c.args.shape c.args.pages.now c.args.def.now owners forests ready.stands c.args.row.now (is.1 owners forests ready).runs_full))
     c.in_err-rid.ensures.full)
 
 pub returns-clause-stands_for : goal.returns-clause-stands_for
 returns-clause-stands_for g c owners forests ready between db stands =
     let runs = c.in_ok-rid.ensures.runs in
-    database_inserted g.P.Pages c.args.ext.now c.place_row.new.ext _ c.args.pages.now c.place_row.new.pages c.args.def.now owners forests ready.stands runs.touches runs.works.no_shorter between db stands
+    database_inserted g.P.Pages c.args.shape _ c.args.pages.now c.place_row.new.pages c.args.def.now owners forests ready.stands runs.touches runs.works.no_shorter between db stands
     c.args.row.now c.in_ok-rid.rid
-    (inserts g.P.Pages c.args.ext.now c.place_row.new.ext c.args.pages.now c.place_row.new.pages c.args.def.now owners forests ready.stands _ c.args.row.now c.in_ok-rid.rid c.requires.defined
+    (inserts g.P.Pages c.args.shape c.args.pages.now c.place_row.new.pages c.args.def.now owners forests ready.stands _ c.args.row.now c.in_ok-rid.rid c.requires.defined
     (c.in_ok-rid.ensures.places owners forests ready)) c.requires.number (omega arith)

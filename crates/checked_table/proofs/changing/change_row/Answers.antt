@@ -14,7 +14,7 @@ use Rattle.checked_table.proofs.changing.change_row.Goals as goal
 
 pub returns-in-Ok-keep_or_undo : goal.returns-in-Ok-keep_or_undo
 returns-in-Ok-keep_or_undo g c =
-    let ext = c.args.ext.now in
+    let shape = c.args.shape in
     let def = c.args.def.now in
     let first = c.begin_change.ensures.pages in
     let keeps = c.in-Ok-keep_or_undo.ensures.keeps in
@@ -23,37 +23,36 @@ returns-in-Ok-keep_or_undo g c =
       stay = λ owners forests ready has. stays_between first keeps.pages (c.in-Ok.ensures.stay owners forests (ready_there first ready) (row_there first has));
       sound = λ owners forests ready has sound. sound_there keeps.pages (c.in-Ok.ensures.sound owners forests (ready_there first ready) (row_there first has) (sound_there first sound));
       stands_for = λ owners forests ready has sound db is.
-          stands_for_there c.change_row.new.ext def (changed_at db def.number (with_row c.args.is.now)) keeps.pages
-          (c.in-Ok.ensures.stands_for owners forests (ready_there first ready) (row_there first has) (sound_there first sound) db (stands_for_there ext def db first is));
+          stands_for_there c.args.shape def (changed_at db def.number (with_row c.args.is.now)) keeps.pages
+          (c.in-Ok.ensures.stands_for owners forests (ready_there first ready) (row_there first has) (sound_there first sound) db (stands_for_there shape def db first is));
       full = tt;
-      exact = λ has. answers_none g.P.Pages ext def c.args.pages.now;
-      whole = whole_kept c.begin_change.ensures c.in-Ok.ensures.runs (λ p mine owners forests st has. mine owners forests (stands_there first st) (row_there first has)) keeps c.in-Ok-keep_or_undo.ensures.device
-          c.change_row.ensures.shape;
+      exact = λ has. answers_none g.P.Pages shape def c.args.pages.now;
+      whole = whole_kept c.begin_change.ensures c.in-Ok.ensures.runs (λ p mine owners forests st has. mine owners forests (stands_there first st) (row_there first has)) keeps c.in-Ok-keep_or_undo.ensures.device;
     }
 
 pub returns-in-Err-keep_or_undo : goal.returns-in-Err-keep_or_undo
 returns-in-Err-keep_or_undo g c =
     let undone = c.in-Err-keep_or_undo.ensures in
-    let ends = end_unkept c.args.def.now c.begin_change.ensures c.in-Ok.ensures.runs c.change_row.ensures.shape undone.undoes undone.device undone.damaged c.forget_notes.ensures in
+    let ends = end_unkept c.args.shape c.args.def.now c.begin_change.ensures c.in-Ok.ensures.runs undone.undoes undone.device undone.damaged c.forget_notes.ensures in
     record { changes = tt; stay = tt; sound = tt; stands_for = tt; full = tt; exact = λ has. ends.left.exact; whole = whole_back ends }
 
 pub returns-in-Err : goal.returns-in-Err
 returns-in-Err g c =
-    let ext = c.args.ext.now in
+    let shape = c.args.shape in
     let def = c.args.def.now in
     let s = c.args.pages.now in
     let marked = c.begin_change.new.pages in
     let first = c.begin_change.ensures.pages in
     let undone = c.undo_space_change.ensures in
-    let ends = end_row_change c.begin_change.ensures c.in-Err.ensures.runs c.change_row.ensures.shape undone.undoes undone.device undone.forgets undone.exact c.requires.defined c.requires.place in
-    let RunsFull : PageList → Type 0 = λ work. UpdateRunsFull ext work def ((row_in_place c.args.rid c.args.was.now, c.args.is.now) ∷ []) in
+    let ends = end_row_change c.begin_change.ensures c.in-Err.ensures.runs undone.undoes undone.device undone.forgets undone.exact c.requires.defined c.requires.place in
+    let RunsFull : PageList → Type 0 = λ work. UpdateRunsFull shape work def ((row_in_place c.args.rid c.args.was.now, c.args.is.now) ∷ []) in
     record {
       changes = tt;
       stay = tt;
       sound = tt;
       stands_for = tt;
-      full = full_back ext def (room_of c.args.rooms.now) (λ owners forests. HasThisRow g.P.Pages ext marked def c.args.rid c.args.was.now owners forests → RunsFull (g.P.Pages.state marked).work)
-          (λ owners forests. HasThisRow g.P.Pages ext s def c.args.rid c.args.was.now owners forests → RunsFull (g.P.Pages.state s).work) c.in-Err.fault c.undo_space_change.result first
+      full = full_back shape c.args.notes.now def (room_of c.args.rooms.now) (λ owners forests. HasThisRow g.P.Pages shape marked def c.args.rid c.args.was.now owners forests → RunsFull (g.P.Pages.state marked).work)
+          (λ owners forests. HasThisRow g.P.Pages shape s def c.args.rid c.args.was.now owners forests → RunsFull (g.P.Pages.state s).work) c.in-Err.fault c.undo_space_change.result first
           (λ owners forests full has. subst RunsFull first.same (full (row_there first has))) undone.full c.in-Err.ensures.full;
       exact = ends.left.exact;
       whole = whole_back ends;

@@ -21,7 +21,7 @@ number_back def now is = ap (λ (d : TableDef). record d { next = def.next }) is
 
 pub returns-in-Ok-keep_or_undo : goal.returns-in-Ok-keep_or_undo
 returns-in-Ok-keep_or_undo g c =
-    let ext = c.args.ext.now in
+    let shape = c.args.shape in
     let def = c.args.def.now in
     let first = c.begin_change.ensures.pages in
     let keeps = c.in-Ok-keep_or_undo.ensures.keeps in
@@ -29,37 +29,37 @@ returns-in-Ok-keep_or_undo g c =
     record {
       inserts = λ owners forests ready. inserts_between first keeps.pages (c.in-Ok.ensures.inserts owners forests (ready_there first ready));
       makes = λ owners forests ready.
-          said_between first keeps.pages (λ was is. MakesChanges ext was (putting_changes def c.args.row.now rid (slice_index_or (table_spots ext was def owners forests.map) rid.block OtherBlock)) is)
+          said_between first keeps.pages (λ was is. MakesChanges shape was (putting_changes def c.args.row.now rid (slice_index_or (table_spots shape was def owners forests.map) rid.block OtherBlock)) is)
           (c.in-Ok.ensures.makes owners forests (ready_there first ready));
       stay = λ owners forests ready. stays_between first keeps.pages (c.in-Ok.ensures.stay owners forests (ready_there first ready));
       sound = λ owners forests ready sound. sound_there keeps.pages (c.in-Ok.ensures.sound owners forests (ready_there first ready) (sound_there first sound));
       stands_for = λ owners forests ready sound db is.
-          stands_for_there c.insert_row.new.ext c.insert_row.new.def (changed_at db def.number (appended (c.args.row.now.values ∷ []))) keeps.pages
-          (c.in-Ok.ensures.stands_for owners forests (ready_there first ready) (sound_there first sound) db (stands_for_there ext def db first is));
+          stands_for_there c.args.shape c.insert_row.new.def (changed_at db def.number (appended (c.args.row.now.values ∷ []))) keeps.pages
+          (c.in-Ok.ensures.stands_for owners forests (ready_there first ready) (sound_there first sound) db (stands_for_there shape def db first is));
       next = c.in-Ok.ensures.next;
       kept = tt;
       full = tt;
-      exact = answers_none g.P.Pages ext def c.args.pages.now;
-      whole = whole_kept c.begin_change.ensures c.in-Ok.ensures.runs (λ p. if_stood first) keeps c.in-Ok-keep_or_undo.ensures.device c.insert_row.ensures.shape;
+      exact = answers_none g.P.Pages shape def c.args.pages.now;
+      whole = whole_kept c.begin_change.ensures c.in-Ok.ensures.runs (λ p. if_stood first) keeps c.in-Ok-keep_or_undo.ensures.device;
     }
 
 pub returns-in-Err-keep_or_undo : goal.returns-in-Err-keep_or_undo
 returns-in-Err-keep_or_undo g c =
     let undone = c.in-Err-keep_or_undo.ensures in
-    let ends = end_unkept c.args.def.now c.begin_change.ensures c.in-Ok.ensures.runs c.insert_row.ensures.shape undone.undoes undone.device undone.damaged c.forget_notes.ensures in
+    let ends = end_unkept c.args.shape c.args.def.now c.begin_change.ensures c.in-Ok.ensures.runs undone.undoes undone.device undone.damaged c.forget_notes.ensures in
     let back = number_back c.args.def.now c.insert_row.new.def c.in-Ok.ensures.next in
     record { inserts = tt; makes = tt; stay = tt; sound = tt; stands_for = tt; next = tt; kept = back; full = tt; exact = ends.left.exact; whole = whole_back ends }
 
 pub returns-in-Err : goal.returns-in-Err
 returns-in-Err g c =
-    let ext = c.args.ext.now in
+    let shape = c.args.shape in
     let def = c.args.def.now in
     let first = c.begin_change.ensures.pages in
     let undo = c.undo_space_change in
     let undone = undo.ensures in
-    let judges = subst (λ (d : TableDef). JudgesFault g.P.Pages undo.new.ext d undo.new.pages (store_part_of c.in-Err.fault) (store_part_of undo.result)) c.in-Err.ensures.kept undone.exact in
-    let ends = end_change c.begin_change.ensures c.in-Err.ensures.runs c.insert_row.ensures.shape undone.undoes undone.device undone.forgets judges c.requires.defined c.requires.place in
-    let RunsFull : PageList → Type 0 = λ work. InsertRunsFull ext work def (c.args.row.now ∷ []) in
+    let judges = subst (λ (d : TableDef). JudgesFault g.P.Pages shape d undo.new.pages (store_part_of c.in-Err.fault) (store_part_of undo.result)) c.in-Err.ensures.kept undone.exact in
+    let ends = end_change c.begin_change.ensures c.in-Err.ensures.runs undone.undoes undone.device undone.forgets judges c.requires.defined c.requires.place in
+    let RunsFull : PageList → Type 0 = λ work. InsertRunsFull shape work def (c.args.row.now ∷ []) in
     record {
       inserts = tt;
       makes = tt;
@@ -68,7 +68,7 @@ returns-in-Err g c =
       stands_for = tt;
       next = tt;
       kept = c.in-Err.ensures.kept;
-      full = full_back ext def (room_of c.args.rooms.now) (λ owners forests. RunsFull (g.P.Pages.state c.begin_change.new.pages).work) (λ owners forests. RunsFull (g.P.Pages.state c.args.pages.now).work) c.in-Err.fault
+      full = full_back shape c.args.notes.now def (room_of c.args.rooms.now) (λ owners forests. RunsFull (g.P.Pages.state c.begin_change.new.pages).work) (λ owners forests. RunsFull (g.P.Pages.state c.args.pages.now).work) c.in-Err.fault
           undo.result first (λ owners forests. subst RunsFull first.same) undone.full c.in-Err.ensures.full;
       exact = ends.left.exact;
       whole = whole_back ends;

@@ -14,7 +14,7 @@ use Rattle.checked_table.proofs.placing.place_row.Goals as goal
 
 pub returns-in-Ok-keep_or_undo : goal.returns-in-Ok-keep_or_undo
 returns-in-Ok-keep_or_undo g c =
-    let ext = c.args.ext.now in
+    let shape = c.args.shape in
     let def = c.args.def.now in
     let first = c.begin_change.ensures.pages in
     let keeps = c.in-Ok-keep_or_undo.ensures.keeps in
@@ -23,29 +23,29 @@ returns-in-Ok-keep_or_undo g c =
       places = λ owners forests ready. places_between first keeps.pages (c.in-Ok.ensures.places owners forests (ready_there first ready));
       full = tt;
       makes = λ owners forests ready.
-          said_between first keeps.pages (λ was is. MakesChanges ext was (block_changes def c.args.row.now rid.block (slice_index_or (table_spots ext was def owners forests.map) rid.block OtherBlock)) is)
+          said_between first keeps.pages (λ was is. MakesChanges shape was (block_changes def c.args.row.now rid.block (slice_index_or (table_spots shape was def owners forests.map) rid.block OtherBlock)) is)
           (c.in-Ok.ensures.makes owners forests (ready_there first ready));
       stay = λ owners forests ready. stays_between first keeps.pages (c.in-Ok.ensures.stay owners forests (ready_there first ready));
-      exact = answers_none g.P.Pages ext def c.args.pages.now;
-      whole = whole_kept c.begin_change.ensures c.in-Ok.ensures.runs (λ p. if_stood first) keeps c.in-Ok-keep_or_undo.ensures.device c.place_row.ensures.shape;
+      exact = answers_none g.P.Pages shape def c.args.pages.now;
+      whole = whole_kept c.begin_change.ensures c.in-Ok.ensures.runs (λ p. if_stood first) keeps c.in-Ok-keep_or_undo.ensures.device;
     }
 
 pub returns-in-Err-keep_or_undo : goal.returns-in-Err-keep_or_undo
 returns-in-Err-keep_or_undo g c =
     let undone = c.in-Err-keep_or_undo.ensures in
-    let ends = end_unkept c.args.def.now c.begin_change.ensures c.in-Ok.ensures.runs c.place_row.ensures.shape undone.undoes undone.device undone.damaged c.forget_notes.ensures in
+    let ends = end_unkept c.args.shape c.args.def.now c.begin_change.ensures c.in-Ok.ensures.runs undone.undoes undone.device undone.damaged c.forget_notes.ensures in
     record { places = tt; full = tt; makes = tt; stay = tt; exact = ends.left.exact; whole = whole_back ends }
 
 pub returns-in-Err : goal.returns-in-Err
 returns-in-Err g c =
-    let ext = c.args.ext.now in
+    let shape = c.args.shape in
     let def = c.args.def.now in
     let first = c.begin_change.ensures.pages in
     let undone = c.undo_space_change.ensures in
-    let ends = end_change c.begin_change.ensures c.in-Err.ensures.runs c.place_row.ensures.shape undone.undoes undone.device undone.forgets undone.exact c.requires.defined c.requires.place in
+    let ends = end_change c.begin_change.ensures c.in-Err.ensures.runs undone.undoes undone.device undone.forgets undone.exact c.requires.defined c.requires.place in
     record {
       places = tt;
-      full = full_back ext def (room_of c.args.rooms.now) (FindsNoPlace g.P.Pages ext c.place_row.new.ext c.begin_change.new.pages c.place_row.new.pages def c.args.row.now) (LacksPlace g.P.Pages ext c.args.pages.now def c.args.row.now)
+      full = full_back shape c.args.notes.now def (room_of c.args.rooms.now) (FindsNoPlace g.P.Pages shape c.begin_change.new.pages c.place_row.new.pages def c.args.row.now) (LacksPlace g.P.Pages shape c.args.pages.now def c.args.row.now)
           c.in-Err.fault c.undo_space_change.result first (λ owners forests. lacks_place first) undone.full c.in-Err.ensures.full;
       makes = tt;
       stay = tt;

@@ -3,7 +3,7 @@ use Rattle.checked_table.proofs.reading.account_of.Goals as goal
 
 pub returns-in-Ok : goal.returns-in-Ok
 returns-in-Ok g c =
-    let left = read_well c.args.ext.now c.args.def.now c.in-Ok.ensures.runs c.account_of.ensures.same c.requires.unmarked in
+    let left = read_well c.args.shape c.args.def.now c.in-Ok.ensures.runs c.account_of.ensures.same c.requires.unmarked in
     record { counts = c.in-Ok.ensures.counts; exact = left.exact; same = left.pages.same; unmarked = left.unmarked; steady = left.steady; device = left.device; brings = c.account_of.ensures.runs.brings }
 
 pub returns-in-Err : goal.returns-in-Err

@@ -3,7 +3,7 @@ use Rattle.checked_table.proofs.reading.find_rows.Goals as goal
 
 pub returns-in-Ok : goal.returns-in-Ok
 returns-in-Ok g c =
-    let left = read_well c.args.ext.now c.args.def.now c.in-Ok.ensures.runs c.find_rows.ensures.same c.requires.unmarked in
+    let left = read_well c.args.shape c.args.def.now c.in-Ok.ensures.runs c.find_rows.ensures.same c.requires.unmarked in
     record { finds = c.in-Ok.ensures.finds; seen = c.in-Ok.ensures.seen; keyed = c.in-Ok.ensures.keyed; exact = left.exact; same = left.pages.same; unmarked = left.unmarked; steady = left.steady; device = left.device; once = c.find_rows.ensures.once; brings = c.find_rows.ensures.runs.brings }
 
 pub returns-in-Err : goal.returns-in-Err

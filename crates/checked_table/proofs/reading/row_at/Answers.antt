@@ -3,7 +3,7 @@ use Rattle.checked_table.proofs.reading.row_at.Goals as goal
 
 pub returns-in-Ok : goal.returns-in-Ok
 returns-in-Ok g c =
-    let left = read_well c.args.ext.now c.args.def.now c.in-Ok.ensures.runs c.row_at.ensures.same c.requires.unmarked in
+    let left = read_well c.args.shape c.args.def.now c.in-Ok.ensures.runs c.row_at.ensures.same c.requires.unmarked in
     record { found = c.in-Ok.ensures.found; keyed = c.in-Ok.ensures.keyed; exact = left.exact; same = left.pages.same; unmarked = left.unmarked; steady = left.steady; device = left.device; brings = c.row_at.ensures.runs.brings }
 
 pub returns-in-Err : goal.returns-in-Err

@@ -3,7 +3,7 @@ use Rattle.checked_table.proofs.reading.rows_of_block.Goals as goal
 
 pub returns-in-Ok : goal.returns-in-Ok
 returns-in-Ok g c =
-    let left = read_well c.args.ext.now c.args.def.now c.in-Ok.ensures.runs c.rows_of_used_block.ensures.same c.requires.unmarked in
+    let left = read_well c.args.shape c.args.def.now c.in-Ok.ensures.runs c.rows_of_used_block.ensures.same c.requires.unmarked in
     record { rows = c.in-Ok.ensures.rows; keyed = c.in-Ok.ensures.keyed; exact = λ has. left.exact; same = left.pages.same; unmarked = left.unmarked; steady = left.steady; device = left.device; once = c.rows_of_used_block.ensures.once }
 
 pub returns-in-Err : goal.returns-in-Err

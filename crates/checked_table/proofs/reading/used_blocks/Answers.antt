@@ -3,7 +3,7 @@ use Rattle.checked_table.proofs.reading.used_blocks.Goals as goal
 
 pub returns-in-Ok : goal.returns-in-Ok
 returns-in-Ok g c =
-    let left = read_well c.args.ext.now c.args.def.now c.in-Ok.ensures.runs c.used_blocks.ensures.same c.requires.unmarked in
+    let left = read_well c.args.shape c.args.def.now c.in-Ok.ensures.runs c.used_blocks.ensures.same c.requires.unmarked in
     record { listed = c.in-Ok.ensures.listed; exact = left.exact; same = left.pages.same; unmarked = left.unmarked; steady = left.steady; device = left.device; brings = c.used_blocks.ensures.runs.brings }
 
 pub returns-in-Err : goal.returns-in-Err

@@ -10,7 +10,7 @@ use Rattle.checked_table.proofs.taking.take_row.Goals as goal
 
 pub returns-in-Ok-keep_or_undo : goal.returns-in-Ok-keep_or_undo
 returns-in-Ok-keep_or_undo g c =
-    let ext = c.args.ext.now in
+    let shape = c.args.shape in
     let def = c.args.def.now in
     let first = c.begin_change.ensures.pages in
     let keeps = c.in-Ok-keep_or_undo.ensures.keeps in
@@ -20,22 +20,22 @@ returns-in-Ok-keep_or_undo g c =
           let left = c.in-Ok.ensures.leaves owners forests (stands_there first st) (row_there first has) in
           (left.0, left.1, changes_between first keeps.pages left.2, left.3);
       makes = λ owners forests ready slots lies.
-          said_between first keeps.pages (λ was is. MakesChanges ext was (left_changes def c.args.row.now c.args.rid.block (count_rows slots)) is)
-          (c.in-Ok.ensures.makes owners forests (ready_there first ready) slots (lies_there ext def owners forests first lies));
+          said_between first keeps.pages (λ was is. MakesChanges shape was (left_changes def c.args.row.now c.args.rid.block (count_rows slots)) is)
+          (c.in-Ok.ensures.makes owners forests (ready_there first ready) slots (lies_there shape def owners forests first lies));
       stay = λ owners forests ready. stays_between first keeps.pages (c.take_row.ensures.stay owners forests (ready_there first ready));
       count = ap length keeps.pages.same ∙ (c.take_row.ensures.count ∙ ap length first.same);
-      exact = λ has. answers_none g.P.Pages ext def c.args.pages.now;
-      whole = whole_kept c.begin_change.ensures c.in-Ok.ensures.runs (λ p. if_stood first) keeps c.in-Ok-keep_or_undo.ensures.device c.take_row.ensures.shape;
+      exact = λ has. answers_none g.P.Pages shape def c.args.pages.now;
+      whole = whole_kept c.begin_change.ensures c.in-Ok.ensures.runs (λ p. if_stood first) keeps c.in-Ok-keep_or_undo.ensures.device;
     }
 
 pub returns-in-Err-keep_or_undo : goal.returns-in-Err-keep_or_undo
 returns-in-Err-keep_or_undo g c =
     let undone = c.in-Err-keep_or_undo.ensures in
-    let ends = end_unkept c.args.def.now c.begin_change.ensures c.in-Ok.ensures.runs c.take_row.ensures.shape undone.undoes undone.device undone.damaged c.forget_notes.ensures in
+    let ends = end_unkept c.args.shape c.args.def.now c.begin_change.ensures c.in-Ok.ensures.runs undone.undoes undone.device undone.damaged c.forget_notes.ensures in
     record { takes = tt; leaves = tt; makes = tt; stay = λ owners forests ready. stays_back ends.left.pages.same; count = ap length ends.left.pages.same; exact = λ has. ends.left.exact; whole = whole_back ends }
 
 pub returns-in-Err : goal.returns-in-Err
 returns-in-Err g c =
     let undone = c.undo_change.ensures in
-    let ends = end_row_change c.begin_change.ensures c.in-Err.ensures.runs c.take_row.ensures.shape undone.undoes undone.device undone.forgets undone.exact c.requires.defined c.requires.place in
+    let ends = end_row_change c.begin_change.ensures c.in-Err.ensures.runs undone.undoes undone.device undone.forgets undone.exact c.requires.defined c.requires.place in
     record { takes = tt; leaves = tt; makes = tt; stay = λ owners forests ready. stays_back ends.left.pages.same; count = ap length ends.left.pages.same; exact = ends.left.exact; whole = whole_back ends }

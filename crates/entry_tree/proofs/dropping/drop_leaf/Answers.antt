@@ -1,11 +1,11 @@
-use Rattle.std.proofs.Common.{◌≡◌, None, Some, inl, inr, refl, subst, sym}
+use Rattle.std.proofs.Common.{◌≡◌, None, Some, inl, inr, subst, sym}
 use Rattle.store_api.specs.RunsOverPages.{RunsOverPages}
 use Rattle.store_api.proofs.RunsOverPagesLemmas.{runs_exit, runs_on, runs_then, runs_wider}
 use Rattle.extent_map.specs.Owners.{without_page}
 use Rattle.entry_tree.specs.HeldTrees.{nodes_in}
 use Rattle.entry_tree.specs.Pruning.{BreaksDrop, HasBeside, IsDropLook, IsDropPage}
 use Rattle.entry_tree.proofs.DropRunsLemmas.{all_same, breaks_where, drop_expects, drop_expects_more, drop_expects_other, drops_none, drops_some, giving, leaf_used, map_stands, on_ok_both, other_look, other_used}
-use Rattle.entry_tree.proofs.ReturnedPagesLemmas.{map_page-shape, used_beside, used-shape}
+use Rattle.entry_tree.proofs.ReturnedPagesLemmas.{used_beside}
 use Rattle.entry_tree.proofs.dropping.drop_leaf.Goals as goal
 
 pub returns-in_err-other_child-clause-runs : goal.returns-in_err-other_child-clause-runs
@@ -17,8 +17,8 @@ pub returns-in_err-take_from_inner-in-None-clause-runs : goal.returns-in_err-tak
 returns-in_err-take_from_inner-in-None-clause-runs g c =
     let beside : HasBeside (nodes_in c.args.tree.now.width (g.P.Pages.state c.args.pages.now) c.args.page) c.args.at None =
     subst (HasBeside (nodes_in c.args.tree.now.width (g.P.Pages.state c.args.pages.now) c.args.page) c.args.at) c.in-None.is c.in_ok-other_child.ensures.beside in
-    let start : RunsOverPages g.P.Pages (IsDropPage c.args.ext.now c.args.page) (IsDropLook c.args.ext.now (nodes_in c.args.tree.now.width (g.P.Pages.state c.args.pages.now) c.args.page) c.args.page c.args.at)
-    (BreaksDrop g.P.Pages c.args.ext.now c.args.pages.now c.args.tree.now c.args.leaf c.args.page c.args.at) c.args.pages.now c.other_child.new.pages None =
+    let start : RunsOverPages g.P.Pages (IsDropPage c.args.shape c.args.page) (IsDropLook c.args.shape (nodes_in c.args.tree.now.width (g.P.Pages.state c.args.pages.now) c.args.page) c.args.page c.args.at)
+    (BreaksDrop g.P.Pages c.args.shape c.args.pages.now c.args.tree.now c.args.leaf c.args.page c.args.at) c.args.pages.now c.other_child.new.pages None =
     runs_wider (runs_on c.in_ok-other_child.ensures.runs) (λ p there none. absurd none) (λ p is. inl (inl is)) (λ damage b. b) in
     runs_exit c.from_residual-in_err-take_from_inner-in-None.result c.from_residual-in_err-take_from_inner-in-None.ensures.1
     (runs_then start c.in_err-take_from_inner-in-None.ensures.runs (λ p there is. inl is) (λ p is. inl (inl is)) (λ damage b. inl (breaks_where b (drop_expects_more g.P.Pages c.args.pages.now c.args.tree.now c.args.leaf c.args.page c.args.at c.other_child.new.pages (all_same c.args.tree.now.width c.in_ok-other_child.ensures.runs c.other_child.ensures.same c.args.page) beside))))
@@ -36,21 +36,21 @@ pub returns-in_ok-take_from_inner-in-None-clause-runs : goal.returns-in_ok-take_
 returns-in_ok-take_from_inner-in-None-clause-runs g c =
     let beside : HasBeside (nodes_in c.args.tree.now.width (g.P.Pages.state c.args.pages.now) c.args.page) c.args.at None =
     subst (HasBeside (nodes_in c.args.tree.now.width (g.P.Pages.state c.args.pages.now) c.args.page) c.args.at) c.in-None.is c.in_ok-other_child.ensures.beside in
-    let start : RunsOverPages g.P.Pages (IsDropPage c.args.ext.now c.args.page) (IsDropLook c.args.ext.now (nodes_in c.args.tree.now.width (g.P.Pages.state c.args.pages.now) c.args.page) c.args.page c.args.at)
-    (BreaksDrop g.P.Pages c.args.ext.now c.args.pages.now c.args.tree.now c.args.leaf c.args.page c.args.at) c.args.pages.now c.other_child.new.pages None =
+    let start : RunsOverPages g.P.Pages (IsDropPage c.args.shape c.args.page) (IsDropLook c.args.shape (nodes_in c.args.tree.now.width (g.P.Pages.state c.args.pages.now) c.args.page) c.args.page c.args.at)
+    (BreaksDrop g.P.Pages c.args.shape c.args.pages.now c.args.tree.now c.args.leaf c.args.page c.args.at) c.args.pages.now c.other_child.new.pages None =
     runs_wider (runs_on c.in_ok-other_child.ensures.runs) (λ p there none. absurd none) (λ p is. inl (inl is)) (λ damage b. b) in
-    let taken : RunsOverPages g.P.Pages (IsDropPage c.args.ext.now c.args.page) (IsDropLook c.args.ext.now (nodes_in c.args.tree.now.width (g.P.Pages.state c.args.pages.now) c.args.page) c.args.page c.args.at)
-    (BreaksDrop g.P.Pages c.args.ext.now c.args.pages.now c.args.tree.now c.args.leaf c.args.page c.args.at) c.args.pages.now c.take_from_inner.new.pages None =
-    runs_then start (runs_on {Breaks = BreaksDrop g.P.Pages c.args.ext.now c.args.pages.now c.args.tree.now c.args.leaf c.args.page c.args.at} c.in_ok-take_from_inner-in-None.ensures.runs) (λ p there is. inl is) (λ p is. inl (inl is)) (λ damage b. b) in
+    let taken : RunsOverPages g.P.Pages (IsDropPage c.args.shape c.args.page) (IsDropLook c.args.shape (nodes_in c.args.tree.now.width (g.P.Pages.state c.args.pages.now) c.args.page) c.args.page c.args.at)
+    (BreaksDrop g.P.Pages c.args.shape c.args.pages.now c.args.tree.now c.args.leaf c.args.page c.args.at) c.args.pages.now c.take_from_inner.new.pages None =
+    runs_then start (runs_on {Breaks = BreaksDrop g.P.Pages c.args.shape c.args.pages.now c.args.tree.now c.args.leaf c.args.page c.args.at} c.in_ok-take_from_inner-in-None.ensures.runs) (λ p there is. inl is) (λ p is. inl (inl is)) (λ damage b. b) in
     runs_then taken c.give_page.ensures.runs (λ p there is. inr is) (λ p is. inl (inr is))
-    (λ damage b. giving (record { cap = refl; extent_pages = refl }) b (λ owners d. (owners, map_stands d.4 c.in_ok-other_child.ensures.runs c.in_ok-take_from_inner-in-None.ensures.runs, leaf_used d.4)))
+    (λ damage b. giving b (λ owners d. (owners, map_stands d.4 c.in_ok-other_child.ensures.runs c.in_ok-take_from_inner-in-None.ensures.runs, leaf_used d.4)))
 
 pub returns-in_err-take_content-in-Some-clause-runs : goal.returns-in_err-take_content-in-Some-clause-runs
 returns-in_err-take_content-in-Some-clause-runs g c =
     let beside : HasBeside (nodes_in c.args.tree.now.width (g.P.Pages.state c.args.pages.now) c.args.page) c.args.at (Some c.in-Some.other) =
     subst (HasBeside (nodes_in c.args.tree.now.width (g.P.Pages.state c.args.pages.now) c.args.page) c.args.at) c.in-Some.is c.in_ok-other_child.ensures.beside in
-    let start : RunsOverPages g.P.Pages (IsDropPage c.args.ext.now c.args.page) (IsDropLook c.args.ext.now (nodes_in c.args.tree.now.width (g.P.Pages.state c.args.pages.now) c.args.page) c.args.page c.args.at)
-    (BreaksDrop g.P.Pages c.args.ext.now c.args.pages.now c.args.tree.now c.args.leaf c.args.page c.args.at) c.args.pages.now c.other_child.new.pages None =
+    let start : RunsOverPages g.P.Pages (IsDropPage c.args.shape c.args.page) (IsDropLook c.args.shape (nodes_in c.args.tree.now.width (g.P.Pages.state c.args.pages.now) c.args.page) c.args.page c.args.at)
+    (BreaksDrop g.P.Pages c.args.shape c.args.pages.now c.args.tree.now c.args.leaf c.args.page c.args.at) c.args.pages.now c.other_child.new.pages None =
     runs_wider (runs_on c.in_ok-other_child.ensures.runs) (λ p there none. absurd none) (λ p is. inl (inl is)) (λ damage b. b) in
     runs_exit c.from_residual-in_err-take_content-in-Some.result c.from_residual-in_err-take_content-in-Some.ensures.1
     (runs_then start c.in_err-take_content-in-Some.ensures.runs (λ p there is. inl is)
@@ -61,16 +61,16 @@ pub returns-in_err-give_page-in-Some-clause-runs : goal.returns-in_err-give_page
 returns-in_err-give_page-in-Some-clause-runs g c =
     let beside : HasBeside (nodes_in c.args.tree.now.width (g.P.Pages.state c.args.pages.now) c.args.page) c.args.at (Some c.in-Some.other) =
     subst (HasBeside (nodes_in c.args.tree.now.width (g.P.Pages.state c.args.pages.now) c.args.page) c.args.at) c.in-Some.is c.in_ok-other_child.ensures.beside in
-    let start : RunsOverPages g.P.Pages (IsDropPage c.args.ext.now c.args.page) (IsDropLook c.args.ext.now (nodes_in c.args.tree.now.width (g.P.Pages.state c.args.pages.now) c.args.page) c.args.page c.args.at)
-    (BreaksDrop g.P.Pages c.args.ext.now c.args.pages.now c.args.tree.now c.args.leaf c.args.page c.args.at) c.args.pages.now c.other_child.new.pages None =
+    let start : RunsOverPages g.P.Pages (IsDropPage c.args.shape c.args.page) (IsDropLook c.args.shape (nodes_in c.args.tree.now.width (g.P.Pages.state c.args.pages.now) c.args.page) c.args.page c.args.at)
+    (BreaksDrop g.P.Pages c.args.shape c.args.pages.now c.args.tree.now c.args.leaf c.args.page c.args.at) c.args.pages.now c.other_child.new.pages None =
     runs_wider (runs_on c.in_ok-other_child.ensures.runs) (λ p there none. absurd none) (λ p is. inl (inl is)) (λ damage b. b) in
-    let taken : RunsOverPages g.P.Pages (IsDropPage c.args.ext.now c.args.page) (IsDropLook c.args.ext.now (nodes_in c.args.tree.now.width (g.P.Pages.state c.args.pages.now) c.args.page) c.args.page c.args.at)
-    (BreaksDrop g.P.Pages c.args.ext.now c.args.pages.now c.args.tree.now c.args.leaf c.args.page c.args.at) c.args.pages.now c.take_content.new.pages None =
-    runs_then start (runs_on {Breaks = BreaksDrop g.P.Pages c.args.ext.now c.args.pages.now c.args.tree.now c.args.leaf c.args.page c.args.at} c.in_ok-take_content-in-Some.ensures.runs) (λ p there is. inl is)
+    let taken : RunsOverPages g.P.Pages (IsDropPage c.args.shape c.args.page) (IsDropLook c.args.shape (nodes_in c.args.tree.now.width (g.P.Pages.state c.args.pages.now) c.args.page) c.args.page c.args.at)
+    (BreaksDrop g.P.Pages c.args.shape c.args.pages.now c.args.tree.now c.args.leaf c.args.page c.args.at) c.args.pages.now c.take_content.new.pages None =
+    runs_then start (runs_on {Breaks = BreaksDrop g.P.Pages c.args.shape c.args.pages.now c.args.tree.now c.args.leaf c.args.page c.args.at} c.in_ok-take_content-in-Some.ensures.runs) (λ p there is. inl is)
     (λ p is. inr (other_look (nodes_in c.args.tree.now.width (g.P.Pages.state c.args.pages.now) c.args.page) c.args.at c.in-Some.other p beside is)) (λ damage b. b) in
     runs_exit c.from_residual-in_err-give_page-in-Some.result c.from_residual-in_err-give_page-in-Some.ensures.1
     (runs_then taken c.in_err-give_page-in-Some.ensures.runs (λ p there is. inr is) (λ p is. inl (inr is))
-    (λ damage b. giving (record { cap = refl; extent_pages = refl }) b (λ owners d. (owners, map_stands d.4 c.in_ok-other_child.ensures.runs c.in_ok-take_content-in-Some.ensures.runs, (other_used c.in-Some.other d.4 beside).0))))
+    (λ damage b. giving b (λ owners d. (owners, map_stands d.4 c.in_ok-other_child.ensures.runs c.in_ok-take_content-in-Some.ensures.runs, (other_used c.in-Some.other d.4 beside).0))))
 
 pub returns-in_ok-give_page-in-Some-clause-drops : goal.returns-in_ok-give_page-in-Some-clause-drops
 returns-in_ok-give_page-in-Some-clause-drops g c =
@@ -79,27 +79,26 @@ returns-in_ok-give_page-in-Some-clause-drops g c =
     on_ok_both c.give_page-in-Some-2.result c.give_page-in-Some-2.ensures.gives c.give_page-in-Some-2.ensures.notes
     (λ gives notes owners was t f fs d.
     drops_some c.in-Some.other d beside c.in_ok-other_child.ensures.runs c.other_child.ensures.same c.in_ok-take_content-in-Some.ensures.taken c.in_ok-take_content-in-Some.ensures.runs
-    c.in_ok-give_page-in-Some.ensures.runs c.give_page-in-Some.ensures.count c.give_page-in-Some.ensures.shape c.give_page-in-Some-2.ensures.runs c.give_page-in-Some-2.ensures.count c.in_ok-give_page-in-Some.ensures.gives c.in_ok-give_page-in-Some.ensures.notes gives notes)
+    c.in_ok-give_page-in-Some.ensures.runs c.give_page-in-Some.ensures.count c.give_page-in-Some-2.ensures.runs c.give_page-in-Some-2.ensures.count c.in_ok-give_page-in-Some.ensures.gives c.in_ok-give_page-in-Some.ensures.notes gives notes)
 
 pub returns-in_ok-give_page-in-Some-clause-runs : goal.returns-in_ok-give_page-in-Some-clause-runs
 returns-in_ok-give_page-in-Some-clause-runs g c =
     let beside : HasBeside (nodes_in c.args.tree.now.width (g.P.Pages.state c.args.pages.now) c.args.page) c.args.at (Some c.in-Some.other) =
     subst (HasBeside (nodes_in c.args.tree.now.width (g.P.Pages.state c.args.pages.now) c.args.page) c.args.at) c.in-Some.is c.in_ok-other_child.ensures.beside in
-    let start : RunsOverPages g.P.Pages (IsDropPage c.args.ext.now c.args.page) (IsDropLook c.args.ext.now (nodes_in c.args.tree.now.width (g.P.Pages.state c.args.pages.now) c.args.page) c.args.page c.args.at)
-    (BreaksDrop g.P.Pages c.args.ext.now c.args.pages.now c.args.tree.now c.args.leaf c.args.page c.args.at) c.args.pages.now c.other_child.new.pages None =
+    let start : RunsOverPages g.P.Pages (IsDropPage c.args.shape c.args.page) (IsDropLook c.args.shape (nodes_in c.args.tree.now.width (g.P.Pages.state c.args.pages.now) c.args.page) c.args.page c.args.at)
+    (BreaksDrop g.P.Pages c.args.shape c.args.pages.now c.args.tree.now c.args.leaf c.args.page c.args.at) c.args.pages.now c.other_child.new.pages None =
     runs_wider (runs_on c.in_ok-other_child.ensures.runs) (λ p there none. absurd none) (λ p is. inl (inl is)) (λ damage b. b) in
-    let taken : RunsOverPages g.P.Pages (IsDropPage c.args.ext.now c.args.page) (IsDropLook c.args.ext.now (nodes_in c.args.tree.now.width (g.P.Pages.state c.args.pages.now) c.args.page) c.args.page c.args.at)
-    (BreaksDrop g.P.Pages c.args.ext.now c.args.pages.now c.args.tree.now c.args.leaf c.args.page c.args.at) c.args.pages.now c.take_content.new.pages None =
-    runs_then start (runs_on {Breaks = BreaksDrop g.P.Pages c.args.ext.now c.args.pages.now c.args.tree.now c.args.leaf c.args.page c.args.at} c.in_ok-take_content-in-Some.ensures.runs) (λ p there is. inl is)
+    let taken : RunsOverPages g.P.Pages (IsDropPage c.args.shape c.args.page) (IsDropLook c.args.shape (nodes_in c.args.tree.now.width (g.P.Pages.state c.args.pages.now) c.args.page) c.args.page c.args.at)
+    (BreaksDrop g.P.Pages c.args.shape c.args.pages.now c.args.tree.now c.args.leaf c.args.page c.args.at) c.args.pages.now c.take_content.new.pages None =
+    runs_then start (runs_on {Breaks = BreaksDrop g.P.Pages c.args.shape c.args.pages.now c.args.tree.now c.args.leaf c.args.page c.args.at} c.in_ok-take_content-in-Some.ensures.runs) (λ p there is. inl is)
     (λ p is. inr (other_look (nodes_in c.args.tree.now.width (g.P.Pages.state c.args.pages.now) c.args.page) c.args.at c.in-Some.other p beside is)) (λ damage b. b) in
-    let given : RunsOverPages g.P.Pages (IsDropPage c.args.ext.now c.args.page) (IsDropLook c.args.ext.now (nodes_in c.args.tree.now.width (g.P.Pages.state c.args.pages.now) c.args.page) c.args.page c.args.at)
-    (BreaksDrop g.P.Pages c.args.ext.now c.args.pages.now c.args.tree.now c.args.leaf c.args.page c.args.at) c.args.pages.now c.give_page-in-Some.new.pages None =
-    runs_then taken (runs_on {Breaks = BreaksDrop g.P.Pages c.args.ext.now c.args.pages.now c.args.tree.now c.args.leaf c.args.page c.args.at} c.in_ok-give_page-in-Some.ensures.runs) (λ p there is. inr is) (λ p is. inl (inr is)) (λ damage b. b) in
-    runs_then given c.give_page-in-Some-2.ensures.runs (λ p there is. inr (map_page-shape c.args.ext.now c.give_page-in-Some.new.ext p c.give_page-in-Some.ensures.shape is)) (λ p is. inl (inr (map_page-shape c.args.ext.now c.give_page-in-Some.new.ext p c.give_page-in-Some.ensures.shape is)))
-    (λ damage b. giving c.give_page-in-Some.ensures.shape b (λ owners d.
+    let given : RunsOverPages g.P.Pages (IsDropPage c.args.shape c.args.page) (IsDropLook c.args.shape (nodes_in c.args.tree.now.width (g.P.Pages.state c.args.pages.now) c.args.page) c.args.page c.args.at)
+    (BreaksDrop g.P.Pages c.args.shape c.args.pages.now c.args.tree.now c.args.leaf c.args.page c.args.at) c.args.pages.now c.give_page-in-Some.new.pages None =
+    runs_then taken (runs_on {Breaks = BreaksDrop g.P.Pages c.args.shape c.args.pages.now c.args.tree.now c.args.leaf c.args.page c.args.at} c.in_ok-give_page-in-Some.ensures.runs) (λ p there is. inr is) (λ p is. inl (inr is)) (λ damage b. b) in
+    runs_then given c.give_page-in-Some-2.ensures.runs (λ p there is. inr is) (λ p is. inl (inr is))
+    (λ damage b. giving b (λ owners d.
     let used = other_used c.in-Some.other d.4 beside in (
-      without_page c.args.ext.now owners c.in-Some.other,
+      without_page c.args.shape owners c.in-Some.other,
       c.in_ok-give_page-in-Some.ensures.gives owners (map_stands d.4 c.in_ok-other_child.ensures.runs c.in_ok-take_content-in-Some.ensures.runs),
-      used-shape c.args.ext.now c.give_page-in-Some.new.ext (without_page c.args.ext.now owners c.in-Some.other) c.args.leaf c.give_page-in-Some.ensures.shape
-          (used_beside c.args.ext.now owners c.args.leaf c.in-Some.other (leaf_used d.4) used.0.page (λ (e : c.args.leaf ≡ c.in-Some.other). used.1 (sym e))),
+      (used_beside c.args.shape owners c.args.leaf c.in-Some.other (leaf_used d.4) used.0.page (λ (e : c.args.leaf ≡ c.in-Some.other). used.1 (sym e))),
     )))

@@ -7,7 +7,7 @@ use Rattle.entry_tree.proofs.dropping.give_page.Goals as goal
 pub returns-clause-runs : goal.returns-clause-runs
 returns-clause-runs g c =
     let is_page = c.has_page.ensures.0 c.if-not-has_page.false in
-    runs_wider c.give_index_page.ensures.runs (λ p there is. map_page_there c.args.ext.now c.args.page p is_page is) (λ p is. map_page_there c.args.ext.now c.args.page p is_page is)
+    runs_wider c.give_index_page.ensures.runs (λ p there is. map_page_there c.args.shape c.args.page p is_page is) (λ p is. map_page_there c.args.shape c.args.page p is_page is)
     (λ damage breaks. breaks)
 
 pub returns-then-not-has_page-clause-runs : goal.returns-then-not-has_page-clause-runs

@@ -41,8 +41,8 @@ returns-then-len-gt1-clause-takes g c =
 
 pub returns-then-len-gt1-clause-runs : goal.returns-then-len-gt1-clause-runs
 returns-then-len-gt1-clause-runs g c =
-    let start : RunsOverPages g.P.Pages (IsTreeOrMapPage g.P.Pages c.args.ext.now c.args.pages.now c.args.tree.now) (IsTreeOrMapPage g.P.Pages c.args.ext.now c.args.pages.now c.args.tree.now)
-    (BreaksTreeOrReturn g.P.Pages c.args.ext.now c.args.pages.now c.args.tree.now) c.args.pages.now c.leaf_len.new.pages None =
+    let start : RunsOverPages g.P.Pages (IsTreeOrMapPage g.P.Pages c.args.shape c.args.pages.now c.args.tree.now) (IsTreeOrMapPage g.P.Pages c.args.shape c.args.pages.now c.args.tree.now)
+    (BreaksTreeOrReturn g.P.Pages c.args.shape c.args.pages.now c.args.tree.now) c.args.pages.now c.leaf_len.new.pages None =
     runs_wider (runs_on c.in_ok-len.ensures.runs) (λ p there none. absurd none) (λ p is. only_leaf c.requires.spot is) (λ damage b. b) in
     runs_then start c.take_from_leaf-then-len-gt1.ensures.runs (λ p there is. only_leaf c.requires.spot is) (λ p is. only_leaf c.requires.spot is)
     (λ damage b. breaks_unmet b (λ t h.
@@ -64,7 +64,7 @@ returns-clause-takes g c =
     (λ drops owners t st items is.
     let sp = spot t st.held in
     same_item sp items is
-    (removes_drop st sp c.in_ok-len.ensures.runs.works.steady.is_told c.leaf_len.ensures.same (let len = c.in_ok-len.ensures.len sp.items sp.leaf in omega (arith, len, c.if-len-gt1.false)) c.drop_leaf.ensures.shape drops))
+    (removes_drop st sp c.in_ok-len.ensures.runs.works.steady.is_told c.leaf_len.ensures.same (let len = c.in_ok-len.ensures.len sp.items sp.leaf in omega (arith, len, c.if-len-gt1.false)) drops))
     c.drop_leaf.ensures.drops
 
 pub returns-clause-runs : goal.returns-clause-runs
@@ -73,8 +73,8 @@ returns-clause-runs g c =
     → IsItemSpot (nodes_in c.args.tree.now.width (g.P.Pages.state c.args.pages.now)) t c.args.spot.page c.args.spot.at (Some (c.in-Some.page, c.in-Some.at)) =
     (λ t h. subst (IsItemSpot (nodes_in c.args.tree.now.width (g.P.Pages.state c.args.pages.now)) t c.args.spot.page c.args.spot.at) c.in-Some.is (c.requires.spot t h)) in
     let told = c.in_ok-len.ensures.runs.works.steady.is_told in
-    let start : RunsOverPages g.P.Pages (IsTreeOrMapPage g.P.Pages c.args.ext.now c.args.pages.now c.args.tree.now) (IsTreeOrMapPage g.P.Pages c.args.ext.now c.args.pages.now c.args.tree.now)
-    (BreaksTreeOrReturn g.P.Pages c.args.ext.now c.args.pages.now c.args.tree.now) c.args.pages.now c.leaf_len.new.pages None =
+    let start : RunsOverPages g.P.Pages (IsTreeOrMapPage g.P.Pages c.args.shape c.args.pages.now c.args.tree.now) (IsTreeOrMapPage g.P.Pages c.args.shape c.args.pages.now c.args.tree.now)
+    (BreaksTreeOrReturn g.P.Pages c.args.shape c.args.pages.now c.args.tree.now) c.args.pages.now c.leaf_len.new.pages None =
     runs_wider (runs_on c.in_ok-len.ensures.runs) (λ p there none. absurd none) (λ p is. only_leaf c.requires.spot is) (λ damage b. b) in
     runs_then start c.drop_leaf.ensures.runs (λ p there is. only_drop p spot told c.leaf_len.ensures.same is) (λ p is. only_look p spot told c.leaf_len.ensures.same is)
     (λ damage b. breaks_drop spot told c.leaf_len.ensures.same b)

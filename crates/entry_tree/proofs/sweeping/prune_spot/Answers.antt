@@ -46,7 +46,7 @@ returns-clause-prunes g c =
     on_ok_weaker c.drop_leaf.result
     (λ drops owners t st sp.
     prunes_drop (without_blocks c.args.blocks.now c.args.at c.args.spot.now.at sp.items) st sp c.in-Some.is
-    (subst (IsEmptiedBy c.args.blocks.now c.args.at c.args.spot.now.at sp.items) c.if-not-all.false (c.requires.all sp.items sp.leaf)) c.drop_leaf.ensures.shape drops)
+    (subst (IsEmptiedBy c.args.blocks.now c.args.at c.args.spot.now.at sp.items) c.if-not-all.false (c.requires.all sp.items sp.leaf)) drops)
     c.drop_leaf.ensures.drops
 
 pub returns-clause-runs : goal.returns-clause-runs

@@ -53,8 +53,8 @@ pub returns-in_err-prune_spot-clause-runs : goal.returns-in_err-prune_spot-claus
 returns-in_err-prune_spot-clause-runs g c =
     let told = c.in_ok-going.ensures.runs.works.steady.is_told in
     let same = c.count_in_leaf.ensures.same in
-    let start : RunsOverPages g.P.Pages (IsTreeOrMapPage g.P.Pages c.args.ext.now c.args.pages.now c.args.tree.now) (IsTreeOrMapPage g.P.Pages c.args.ext.now c.args.pages.now c.args.tree.now)
-    (BreaksTreeOrReturn g.P.Pages c.args.ext.now c.args.pages.now c.args.tree.now) c.args.pages.now c.count_in_leaf.new.pages None =
+    let start : RunsOverPages g.P.Pages (IsTreeOrMapPage g.P.Pages c.args.shape c.args.pages.now c.args.tree.now) (IsTreeOrMapPage g.P.Pages c.args.shape c.args.pages.now c.args.tree.now)
+    (BreaksTreeOrReturn g.P.Pages c.args.shape c.args.pages.now c.args.tree.now) c.args.pages.now c.count_in_leaf.new.pages None =
     runs_wider (runs_on c.in_ok-going.ensures.runs) (λ p there none. absurd none) (λ p is. only_spot c.requires.spot is) (λ damage b. b) in
     runs_exit c.from_residual-in_err-prune_spot.result c.from_residual-in_err-prune_spot.ensures.1
     (runs_then start c.in_err-prune_spot.ensures.runs (λ p there is. page_same told same is) (λ p is. page_same told same is) (λ damage b. breaks_same told same b))
@@ -80,7 +80,7 @@ pub returns-clause-runs : goal.returns-clause-runs
 returns-clause-runs g c =
     let told = c.in_ok-going.ensures.runs.works.steady.is_told in
     let same = c.count_in_leaf.ensures.same in
-    let start : RunsOverPages g.P.Pages (IsTreeOrMapPage g.P.Pages c.args.ext.now c.args.pages.now c.args.tree.now) (IsTreeOrMapPage g.P.Pages c.args.ext.now c.args.pages.now c.args.tree.now)
-    (BreaksTreeOrReturn g.P.Pages c.args.ext.now c.args.pages.now c.args.tree.now) c.args.pages.now c.count_in_leaf.new.pages None =
+    let start : RunsOverPages g.P.Pages (IsTreeOrMapPage g.P.Pages c.args.shape c.args.pages.now c.args.tree.now) (IsTreeOrMapPage g.P.Pages c.args.shape c.args.pages.now c.args.tree.now)
+    (BreaksTreeOrReturn g.P.Pages c.args.shape c.args.pages.now c.args.tree.now) c.args.pages.now c.count_in_leaf.new.pages None =
     runs_wider (runs_on c.in_ok-going.ensures.runs) (λ p there none. absurd none) (λ p is. only_spot c.requires.spot is) (λ damage b. b) in
     runs_then start c.in_ok-prune_spot.ensures.runs (λ p there is. page_same told same is) (λ p is. page_same told same is) (λ damage b. breaks_same told same b)

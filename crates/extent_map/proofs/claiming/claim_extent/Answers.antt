@@ -37,37 +37,37 @@ returns-clause-root g c = changes_count_then (changes_count_after c.find.ensures
 
 pub returns-in_err-grow_to-clause-runs : goal.returns-in_err-grow_to-clause-runs
 returns-in_err-grow_to-clause-runs g c =
-    let ext = c.args.ext.now in
-    let start : RunsOverPages g.P.Pages (IsSpacePage ext) (IsSpacePage ext) (BreaksSpace g.P.Pages ext c.args.pages.now) c.args.pages.now c.find.new.pages None =
+    let shape = c.args.shape in
+    let start : RunsOverPages g.P.Pages (IsSpacePage shape) (IsSpacePage shape) (BreaksSpace g.P.Pages shape c.args.pages.now) c.args.pages.now c.find.new.pages None =
     runs_wider c.in_ok-found.ensures.runs (λ p there none. absurd none) (λ p on. inr on) (λ damage breaks. breaks) in
     runs_exit c.from_residual-in_err-grow_to.result c.from_residual-in_err-grow_to.ensures.1 (runs_more start c.in_err-grow_to.ensures.runs (λ p there is. inl is) (λ p is. inl is))
 
 pub returns-in_err-set_kind-clause-runs : goal.returns-in_err-set_kind-clause-runs
 returns-in_err-set_kind-clause-runs g c =
-    let ext = c.args.ext.now in
-    let start : RunsOverPages g.P.Pages (IsSpacePage ext) (IsSpacePage ext) (BreaksSpace g.P.Pages ext c.args.pages.now) c.args.pages.now c.find.new.pages None =
+    let shape = c.args.shape in
+    let start : RunsOverPages g.P.Pages (IsSpacePage shape) (IsSpacePage shape) (BreaksSpace g.P.Pages shape c.args.pages.now) c.args.pages.now c.find.new.pages None =
     runs_wider c.in_ok-found.ensures.runs (λ p there none. absurd none) (λ p on. inr on) (λ damage breaks. breaks) in
     let grown = runs_more start c.in_ok-grow_to.ensures.runs (λ p there is. inl is) (λ p is. inl is) in
-    let found = subst (λ f. IfSome f (IsFound FreeExtent ext.extent_pages ext.free_from ext.cap)) c.in-Some.is c.in_ok-found.ensures.fits in
+    let found = subst (λ f. IfSome f (IsFound FreeExtent shape.extent_pages c.args.from shape.extents)) c.in-Some.is c.in_ok-found.ensures.fits in
     runs_exit c.from_residual-in_err-set_kind.result c.from_residual-in_err-set_kind.ensures.1
-    (runs_more grown c.in_err-set_kind.ensures.runs (λ p there is. inr (is_map_page ext c.in-Some.e p found.within is)) (λ p is. inr (is_map_page ext c.in-Some.e p found.within is)))
+    (runs_more grown c.in_err-set_kind.ensures.runs (λ p there is. inr (is_map_page shape c.in-Some.e p found.within is)) (λ p is. inr (is_map_page shape c.in-Some.e p found.within is)))
 
 pub returns-clause-runs : goal.returns-clause-runs
 returns-clause-runs g c =
-    let ext = c.args.ext.now in
-    let start : RunsOverPages g.P.Pages (IsSpacePage ext) (IsSpacePage ext) (BreaksSpace g.P.Pages ext c.args.pages.now) c.args.pages.now c.find.new.pages None =
+    let shape = c.args.shape in
+    let start : RunsOverPages g.P.Pages (IsSpacePage shape) (IsSpacePage shape) (BreaksSpace g.P.Pages shape c.args.pages.now) c.args.pages.now c.find.new.pages None =
     runs_wider c.in_ok-found.ensures.runs (λ p there none. absurd none) (λ p on. inr on) (λ damage breaks. breaks) in
     let grown = runs_more start c.in_ok-grow_to.ensures.runs (λ p there is. inl is) (λ p is. inl is) in
-    let found = subst (λ f. IfSome f (IsFound FreeExtent ext.extent_pages ext.free_from ext.cap)) c.in-Some.is c.in_ok-found.ensures.fits in
-    runs_more grown c.in_ok-set_kind.ensures.runs (λ p there is. inr (is_map_page ext c.in-Some.e p found.within is)) (λ p is. inr (is_map_page ext c.in-Some.e p found.within is))
+    let found = subst (λ f. IfSome f (IsFound FreeExtent shape.extent_pages c.args.from shape.extents)) c.in-Some.is c.in_ok-found.ensures.fits in
+    runs_more grown c.in_ok-set_kind.ensures.runs (λ p there is. inr (is_map_page shape c.in-Some.e p found.within is)) (λ p is. inr (is_map_page shape c.in-Some.e p found.within is))
 
 pub returns-clause-claims : goal.returns-clause-claims
 returns-clause-claims g c =
-    let ext = c.args.ext.now in
+    let shape = c.args.shape in
     let ok = c.in_ok-found.ensures in
-    let found = subst (λ f. IfSome f (IsFound FreeExtent ext.extent_pages ext.free_from ext.cap)) c.in-Some.is ok.fits in
+    let found = subst (λ f. IfSome f (IsFound FreeExtent shape.extent_pages c.args.from shape.extents)) c.in-Some.is ok.fits in
     let there = subst (λ f. IfSome f (λ at. map_page_of at.0 < length (g.P.Pages.state c.args.pages.now).work)) c.in-Some.is ok.there in
-    claims_extent c.in-Some.e found (λ owners told. subst (λ f. FindsWanted FreeExtent ext.extent_pages owners ext.free_from ext.cap f) c.in-Some.is (ok.found owners told))
+    claims_extent c.args.from c.in-Some.e found (λ owners told. subst (λ f. FindsWanted FreeExtent shape.extent_pages owners c.args.from shape.extents f) c.in-Some.is (ok.found owners told))
     c.requires.kind there ok.runs.works.steady.is_told ok.same
     (c.in_ok-grow_to.ensures.count ∙ ap (max (length (g.P.Pages.state c.find.new.pages).work)) c.end_of.ensures.end) c.in_ok-grow_to.ensures.counted c.in_ok-grow_to.ensures.stated c.in_ok-grow_to.ensures.runs
     c.in_ok-set_kind.ensures.sets c.set_kind.ensures.count c.in_ok-set_kind.ensures.runs

@@ -12,8 +12,8 @@ abbrev pub invariant-loop-next : goal.invariant-loop-next
 invariant-loop-next g l = record {
   behind : l.from ≤ l.next;
   same : (g.P.Pages.state l.pages).work ≡ (g.P.Pages.state l.fn.pages).work;
-  none : (owners : List Kind) → HoldsMap g.P.Pages l.ext l.fn.pages owners → NoneWanted l.wanted l.ext.extent_pages owners l.from l.next;
-  runs : RunsOverPages g.P.Pages NoPage (IsMapPage l.ext) (BreaksSpace g.P.Pages l.ext l.fn.pages) l.fn.pages l.pages None;
+  none : (owners : List Kind) → HoldsMap g.P.Pages l.shape l.fn.pages owners → NoneWanted l.wanted l.shape.extent_pages owners l.from l.next;
+  runs : RunsOverPages g.P.Pages NoPage (IsMapPage l.shape) (BreaksSpace g.P.Pages l.shape l.fn.pages) l.fn.pages l.pages None;
 }
 
 abbrev pub decreases-loop-next : goal.decreases-loop-next

@@ -13,5 +13,5 @@ returns-in-Err-clause-runs g c = runs_damage c.in_ok-bring_map_page.ensures.runs
     none_shown c.args.from c.args.to c.in-Err.malformed.extent c.page.result.now _ c.requires.one_page c.in-Err.ensures.malformed c.in_ok-bring_map_page.ensures.hand c.page.ensures told))
 
 pub returns-in-Ok-clause-shown : goal.returns-in-Ok-clause-shown
-returns-in-Ok-clause-shown g c = finds_shown c.args.ext.now c.args.pages.now c.args.wanted c.args.from c.args.to c.in-Ok.found c.requires.one_page c.in-Ok.ensures.fits
+returns-in-Ok-clause-shown g c = finds_shown c.args.shape c.args.pages.now c.args.wanted c.args.from c.args.to c.in-Ok.found c.requires.one_page c.in-Ok.ensures.fits
     (λ owners told. c.in-Ok.ensures.found owners (shows_kinds c.args.from c.args.to c.page.result.now _ c.requires.one_page told c.in_ok-bring_map_page.ensures.hand c.page.ensures))

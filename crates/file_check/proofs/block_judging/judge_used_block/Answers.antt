@@ -22,27 +22,27 @@ use Rattle.file_check.proofs.block_judging.judge_used_block.Goals.{In_ok-counts,
 use Rattle.file_check.proofs.block_judging.judge_used_block.Goals as goal
 
 -- what is known of the block stays known
-rows : (g : Over) (c : In_ok-rows g) → Learns g.P.Pages (KnowsBlock c.args.ext.now c.args.def.now c.args.block) (KnowsBlock c.args.ext.now c.args.def.now c.args.block) c.args.pages.now c.rows_of_block.new.pages
+rows : (g : Over) (c : In_ok-rows g) → Learns g.P.Pages (KnowsBlock c.args.shape c.args.def.now c.args.block) (KnowsBlock c.args.shape c.args.def.now c.args.block) c.args.pages.now c.rows_of_block.new.pages
 rows g c = learns_on learns_nothing c.in_ok-rows.ensures.runs c.in_ok-rows.ensures.same
 
-counts : (g : Over) (c : In_ok-counts g) → Learns g.P.Pages (KnowsBlock c.args.ext.now c.args.def.now c.args.block) (KnowsBlock c.args.ext.now c.args.def.now c.args.block) c.args.pages.now c.rows_of_block.new.pages
-    → Learns g.P.Pages (KnowsBlock c.args.ext.now c.args.def.now c.args.block) (KnowsBlock c.args.ext.now c.args.def.now c.args.block) c.args.pages.now c.judge_count_of_block.new.pages
+counts : (g : Over) (c : In_ok-counts g) → Learns g.P.Pages (KnowsBlock c.args.shape c.args.def.now c.args.block) (KnowsBlock c.args.shape c.args.def.now c.args.block) c.args.pages.now c.rows_of_block.new.pages
+    → Learns g.P.Pages (KnowsBlock c.args.shape c.args.def.now c.args.block) (KnowsBlock c.args.shape c.args.def.now c.args.block) c.args.pages.now c.judge_count_of_block.new.pages
 counts g c known = learns_on known c.in_ok-counts.ensures.runs c.in_ok-counts.ensures.same
 
-entries : (g : Over) (c : In_ok-entries g) → Learns g.P.Pages (KnowsBlock c.args.ext.now c.args.def.now c.args.block) (KnowsBlock c.args.ext.now c.args.def.now c.args.block) c.args.pages.now c.judge_count_of_block.new.pages
-    → Learns g.P.Pages (KnowsBlock c.args.ext.now c.args.def.now c.args.block) (KnowsBlock c.args.ext.now c.args.def.now c.args.block) c.args.pages.now c.judge_entries_of_block.new.pages
+entries : (g : Over) (c : In_ok-entries g) → Learns g.P.Pages (KnowsBlock c.args.shape c.args.def.now c.args.block) (KnowsBlock c.args.shape c.args.def.now c.args.block) c.args.pages.now c.judge_count_of_block.new.pages
+    → Learns g.P.Pages (KnowsBlock c.args.shape c.args.def.now c.args.block) (KnowsBlock c.args.shape c.args.def.now c.args.block) c.args.pages.now c.judge_entries_of_block.new.pages
 entries g c known = learns_on known c.in_ok-entries.ensures.runs c.in_ok-entries.ensures.same
 
 pub returns-in_err-rows-clause-runs : goal.returns-in_err-rows-clause-runs
 returns-in_err-rows-clause-runs g c =
     runs_exit c.from_residual.result c.from_residual.ensures.1
-    (runs_next {Known = KnowsBlock c.args.ext.now c.args.def.now c.args.block} learns_nothing (λ told. BlockHasRowPages c.args.ext.now told c.args.def.now c.args.block) (λ known. (known.1.rows c.args.block known.2).forms) c.in_err-rows.ensures.runs)
+    (runs_next {Known = KnowsBlock c.args.shape c.args.def.now c.args.block} learns_nothing (λ told. BlockHasRowPages c.args.shape told c.args.def.now c.args.block) (λ known. (known.1.rows c.args.block known.2).forms) c.in_err-rows.ensures.runs)
 
 pub returns-in_err-counts-clause-runs : goal.returns-in_err-counts-clause-runs
 returns-in_err-counts-clause-runs g c =
     let at = goal.at.returns-in_err-counts-clause-runs g c in
     runs_exit c.from_residual-in_err-counts.result c.from_residual-in_err-counts.ensures.1
-    (runs_next (rows g at.In_ok-rows) (TellsMap c.args.ext.now c.args.def.now) (λ known. (known.0, known.1.trees.map)) c.in_err-counts.ensures.runs)
+    (runs_next (rows g at.In_ok-rows) (TellsMap c.args.shape c.args.def.now) (λ known. (known.0, known.1.trees.map)) c.in_err-counts.ensures.runs)
 
 pub returns-in_err-entries-clause-runs : goal.returns-in_err-entries-clause-runs
 returns-in_err-entries-clause-runs g c =
@@ -55,35 +55,35 @@ returns-in_err-push_numbers-clause-runs g c =
     let at = goal.at.returns-in_err-push_numbers-clause-runs g c in
     runs_exit c.from_residual-in_err-push_numbers.result c.from_residual-in_err-push_numbers.ensures.1
     (runs_to_memory _ c.in_err-push_numbers.ensures.memory
-    (runs_undamaged (KnowsBlock c.args.ext.now c.args.def.now c.args.block) (entries g at.In_ok-entries (counts g at.In_ok-counts (rows g at.In_ok-rows))).runs))
+    (runs_undamaged (KnowsBlock c.args.shape c.args.def.now c.args.block) (entries g at.In_ok-entries (counts g at.In_ok-counts (rows g at.In_ok-rows))).runs))
 
 pub returns-clause-runs : goal.returns-clause-runs
 returns-clause-runs g c =
     let at = goal.at.returns-clause-runs g c in
-    runs_undamaged (KnowsBlock c.args.ext.now c.args.def.now c.args.block) (entries g at.In_ok-entries (counts g at.In_ok-counts (rows g at.In_ok-rows))).runs
+    runs_undamaged (KnowsBlock c.args.shape c.args.def.now c.args.block) (entries g at.In_ok-entries (counts g at.In_ok-counts (rows g at.In_ok-rows))).runs
 
 pub returns-clause-judged : goal.returns-clause-judged
 returns-clause-judged g c told m has there done before =
     let at = goal.at.returns-clause-judged g c in
-    let ext = c.args.ext.now in
+    let shape = c.args.shape in
     let def = c.args.def.now in
     let block = c.args.block in
     let work = (g.P.Pages.state c.args.pages.now).work in
     let hits = c.in_ok-rows.rows.items in
-    let read : map placed_row hits ≡ rows_in_block ext work def block = c.in_ok-rows.ensures.rows told (has.rows block there).forms in
+    let read : map placed_row hits ≡ rows_in_block shape work def block = c.in_ok-rows.ensures.rows told (has.rows block there).forms in
     let number : c.len.result ≡ length hits = omega (arith, c.len.ensures, c.in_ok-rows.rows.ok.0) in
-    let count : c.len.result ≡ length (rows_in_block ext work def block) = number ∙ (sym (length-map hits placed_row) ∙ ap length read) in
-    let known : KnowsBlock ext def block work = (m, has, there) in
+    let count : c.len.result ≡ length (rows_in_block shape work def block) = number ∙ (sym (length-map hits placed_row) ∙ ap length read) in
+    let known : KnowsBlock shape def block work = (m, has, there) in
     let counted =
     says_next (rows g at.In_ok-rows)
-    (λ pages. HasBlockMap ext pages def m → Contains (mapped_blocks m) block → (Contains (used_blocks m) block → c.len.result ≡ length (rows_in_block ext pages def block))
-    → Judges (IsBlockCounted ext pages def m block) (BreaksBlockCount ext pages def m block) c.in_ok-counts.counts)
+    (λ pages. HasBlockMap shape pages def m → Contains (mapped_blocks m) block → (Contains (used_blocks m) block → c.len.result ≡ length (rows_in_block shape pages def block))
+    → Judges (IsBlockCounted shape pages def m block) (BreaksBlockCount shape pages def m block) c.in_ok-counts.counts)
     (λ t. c.in_ok-counts.ensures.judged t m) told known in
     let entered =
     says_next (counts g at.In_ok-counts (rows g at.In_ok-rows))
     (λ pages. StandIndexes Blocks pages def → Judges (IsFirstEntered pages def (map placed_row c.deref.result.now)) (LacksFirst pages def (map placed_row c.deref.result.now)) c.in_ok-entries.entries)
     c.in_ok-entries.ensures.judged told known in
-    one_more_judged ext work def m block done c.args.found.now _ c.in_ok-counts.counts c.judge_cell_of_block-cells.result c.in_ok-entries.entries (map placed_row c.deref.result.now) (ap (map placed_row) c.deref.ensures.value ∙ read)
+    one_more_judged shape work def m block done c.args.found.now _ c.in_ok-counts.counts c.judge_cell_of_block-cells.result c.in_ok-entries.entries (map placed_row c.deref.result.now) (ap (map placed_row) c.deref.ensures.value ∙ read)
     c.lower-found.ensures c.lower-found-3.ensures c.lower-found-2.ensures
     (λ so_far are. subst (λ (read : List Hit). AreNumbersOf c.push_numbers.new.numbers.items (so_far ++ map placed_row read)) (c.deref-3.ensures.value ∙ sym c.deref.ensures.value) (c.in_ok-push_numbers.ensures.pushed so_far are))
     (counted.1 has.trees.map (state_is_mapped m 1 block there) (λ used. count)) (c.judge_cell_of_block-cells.ensures work (ap (map placed_row) c.deref-2.ensures.value ∙ read)) (entered.1 (has.trees.indexes Blocks)) before

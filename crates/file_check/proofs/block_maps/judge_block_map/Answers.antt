@@ -9,11 +9,11 @@ use Rattle.file_check.proofs.block_maps.judge_block_map.Goals as goal
 pub returns-then-branch-clause-judged : goal.returns-then-branch-clause-judged
 returns-then-branch-clause-judged g c t h =
     let held = held_by_place g.P.Pages c.args.pages.now c.block_map_tree.result (map_place c.args.def.now) t c.block_map_tree.ensures h in
-    map_keeps c.args.ext.now c.args.kinds.now c.args.def.now t c.in_ok-entries.entries (c.in_ok-entries.ensures.all t held) c.requires.count (c.in_ok-list_blocks_of.ensures.are c.if-branch.true)
+    map_keeps c.args.shape c.args.kinds.now c.args.def.now t c.in_ok-entries.entries (c.in_ok-entries.ensures.all t held) c.requires.count (c.in_ok-list_blocks_of.ensures.are c.if-branch.true)
 
 pub returns-clause-judged : goal.returns-clause-judged
 returns-clause-judged g c t h =
     let held = held_by_place g.P.Pages c.args.pages.now c.block_map_tree.result (map_place c.args.def.now) t c.block_map_tree.ensures h in
     let same = c.in_ok-entries.ensures.all t held in
-    map_breaks c.args.ext.now c.args.kinds.now c.args.def.now t c.in_ok-entries.entries same
+    map_breaks c.args.shape c.args.kinds.now c.args.def.now t c.in_ok-entries.entries same
     (c.in_ok-list_blocks_of.ensures.not c.if-branch.false (subst (Rises None None) (sym same) (Fits-entries None None [] t held.is_tree.fits)))

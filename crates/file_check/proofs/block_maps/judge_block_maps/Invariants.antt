@@ -14,7 +14,7 @@ abbrev pub invariant-loop-def : goal.invariant-loop-def
 invariant-loop-def g l = record {
   same : (g.P.Pages.state l.pages).work ≡ (g.P.Pages.state l.fn.pages).work;
   going : (g.P.Pages.state l.pages).ended ≡ false;
-  runs : RunsOverPages g.P.Pages NoPage AnyPage (Unless g.P.Pages l.fn.pages (λ told. (view : DatabaseView) × ViewHasTrees l.ext told l.defs view)) l.fn.pages l.pages None;
-  judged : IsTrue (g.P.Pages.state l.fn.pages).is_told → (view : DatabaseView) → ViewHasTrees l.ext (g.P.Pages.state l.fn.pages).work l.defs view
-      → JudgesEach (MapSound l.ext view) (MapBreaks view) (tables_there (take l.def-index view.places)) l.lowest;
+  runs : RunsOverPages g.P.Pages NoPage AnyPage (Unless g.P.Pages l.fn.pages (λ told. (view : DatabaseView) × ViewHasTrees l.fn.shape told l.defs view)) l.fn.pages l.pages None;
+  judged : IsTrue (g.P.Pages.state l.fn.pages).is_told → (view : DatabaseView) → ViewHasTrees l.fn.shape (g.P.Pages.state l.fn.pages).work l.defs view
+      → JudgesEach (MapSound l.fn.shape view) (MapBreaks view) (tables_there (take l.def-index view.places)) l.lowest;
 }

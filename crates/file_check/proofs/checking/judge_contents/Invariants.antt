@@ -6,4 +6,4 @@ use Rattle.file_check.proofs.checking.judge_contents.Given as goal
 -- the rules so far are kept
 abbrev pub invariant-loop-rule : goal.invariant-loop-rule
 invariant-loop-rule g l =
-    IsTrue (g.P.Pages.state l.fn.pages).is_told → KeepsBlockMaps l.ext l.defs (g.P.Pages.state l.fn.pages).work → KeepsFirst l.ext l.defs l.rule-index (g.P.Pages.state l.fn.pages).work
+    IsTrue (g.P.Pages.state l.fn.pages).is_told → KeepsBlockMaps l.fn.shape l.defs (g.P.Pages.state l.fn.pages).work → KeepsFirst l.fn.shape l.defs l.rule-index (g.P.Pages.state l.fn.pages).work

@@ -10,50 +10,50 @@ use Rattle.file_check.proofs.checking.judge_tables.Goals as goal
 
 -- the trees stand, and are counted
 trees : (g : Over) (c : After-deref g)
-    → Learns g.P.Pages (KeepsTables c.args.ext.now c.args.defs.now) (KeepsCounted c.args.ext.now c.args.defs.now c.deref.result.now) c.args.pages.now c.judge_trees.new.pages
+    → Learns g.P.Pages (KeepsTables c.args.shape c.args.defs.now) (KeepsCounted c.args.shape c.args.defs.now c.deref.result.now) c.args.pages.now c.judge_trees.new.pages
 trees g c =
-    let ext = c.args.ext.now in
+    let shape = c.args.shape in
     let defs = c.args.defs.now in
     let work = (g.P.Pages.state c.args.pages.now).work in
     let found = c.in_ok-trees.trees.broken in
     let times = c.in_ok-trees.trees.times.items in
-    learns_next learns_nothing (SaysTrees defs times found) (KeepsCounted ext defs c.deref.result.now) c.in_ok-trees.ensures.runs c.judge_trees.ensures.same c.in_ok-trees.ensures.judged
-    (λ kept says. subst (λ counted. KeepsCounted ext defs counted work) (sym c.deref.ensures.value) (trees_kept ext work found c.in_default.not-Some defs times kept says))
+    learns_next learns_nothing (SaysTrees defs times found) (KeepsCounted shape defs c.deref.result.now) c.in_ok-trees.ensures.runs c.judge_trees.ensures.same c.in_ok-trees.ensures.judged
+    (λ kept says. subst (λ counted. KeepsCounted shape defs counted work) (sym c.deref.ensures.value) (trees_kept shape work found c.in_default.not-Some defs times kept says))
 
 -- and their pages are their own
 tree_pages : (g : Over) (c : In_default-2 g)
-    → Learns g.P.Pages (KeepsTables c.args.ext.now c.args.defs.now) (KeepsCounted c.args.ext.now c.args.defs.now c.deref.result.now) c.args.pages.now c.judge_trees.new.pages
-    → Learns g.P.Pages (KeepsTables c.args.ext.now c.args.defs.now) (KeepsTrees c.args.ext.now c.args.defs.now) c.args.pages.now c.judge_tree_pages.new.pages
+    → Learns g.P.Pages (KeepsTables c.args.shape c.args.defs.now) (KeepsCounted c.args.shape c.args.defs.now c.deref.result.now) c.args.pages.now c.judge_trees.new.pages
+    → Learns g.P.Pages (KeepsTables c.args.shape c.args.defs.now) (KeepsTrees c.args.shape c.args.defs.now) c.args.pages.now c.judge_tree_pages.new.pages
 tree_pages g c known =
-    let ext = c.args.ext.now in
+    let shape = c.args.shape in
     let defs = c.args.defs.now in
     let found = c.in_ok-page.field-0 in
     let times = c.deref.result.now in
-    learns_next known (SaysTreePages ext times found) (KeepsTrees ext defs) c.in_ok-page.ensures.runs c.judge_tree_pages.ensures.same c.in_ok-page.ensures.judged
-    (tree_pages_kept ext (g.P.Pages.state c.args.pages.now).work found c.in_default-2.not-Some defs times)
+    learns_next known (SaysTreePages shape times found) (KeepsTrees shape defs) c.in_ok-page.ensures.runs c.judge_tree_pages.ensures.same c.in_ok-page.ensures.judged
+    (tree_pages_kept shape (g.P.Pages.state c.args.pages.now).work found c.in_default-2.not-Some defs times)
 
 pub returns-in-Some-clause-verdict : goal.returns-in-Some-clause-verdict
 returns-in-Some-clause-verdict g c told kept =
-    let ext = c.args.ext.now in
+    let shape = c.args.shape in
     let pages = (g.P.Pages.state c.args.pages.now).work in
-    subst (IsVerdictOf ext pages) (sym c.broken.ensures)
-    (trees_broken ext pages c.in_ok-trees.trees.broken c.in-Some.page c.in-Some.is c.args.defs.now c.in_ok-trees.trees.times.items kept (c.in_ok-trees.ensures.judged told))
+    subst (IsVerdictOf shape pages) (sym c.broken.ensures)
+    (trees_broken shape pages c.in_ok-trees.trees.broken c.in-Some.page c.in-Some.is c.args.defs.now c.in_ok-trees.trees.times.items kept (c.in_ok-trees.ensures.judged told))
 
 pub returns-in_err-page-clause-runs : goal.returns-in_err-page-clause-runs
 returns-in_err-page-clause-runs g c =
     let at = goal.at.returns-in_err-page-clause-runs g c in
     runs_exit c.from_residual-in_err-page.result c.from_residual-in_err-page.ensures.1
-    (runs_next (trees g at.After-deref) (SomeTrees c.args.ext.now) (λ kept. (c.args.defs.now, kept.view, kept.known)) c.in_err-page.ensures.runs)
+    (runs_next (trees g at.After-deref) (SomeTrees c.args.shape) (λ kept. (c.args.defs.now, kept.view, kept.known)) c.in_err-page.ensures.runs)
 
 pub returns-in-Some-2-clause-verdict : goal.returns-in-Some-2-clause-verdict
 returns-in-Some-2-clause-verdict g c told kept =
     let at = goal.at.returns-in-Some-2-clause-verdict g c in
-    let ext = c.args.ext.now in
+    let shape = c.args.shape in
     let pages = (g.P.Pages.state c.args.pages.now).work in
     let found = c.in_ok-page.field-0 in
     let times = c.deref.result.now in
-    let says = says_next (trees g at.After-deref) (SaysTreePages ext times found) c.in_ok-page.ensures.judged told kept in
-    subst (IsVerdictOf ext pages) (sym c.broken-in-Some-2.ensures) (tree_pages_broken ext pages found c.in-Some-2.page c.in-Some-2.is c.args.defs.now times says.0 says.1)
+    let says = says_next (trees g at.After-deref) (SaysTreePages shape times found) c.in_ok-page.ensures.judged told kept in
+    subst (IsVerdictOf shape pages) (sym c.broken-in-Some-2.ensures) (tree_pages_broken shape pages found c.in-Some-2.page c.in-Some-2.is c.args.defs.now times says.0 says.1)
 
 pub returns-in-Some-2-clause-runs : goal.returns-in-Some-2-clause-runs
 returns-in-Some-2-clause-runs g c = runs_judge c.in_ok-trees.ensures.runs c.in_ok-page.ensures.runs
@@ -61,9 +61,9 @@ returns-in-Some-2-clause-runs g c = runs_judge c.in_ok-trees.ensures.runs c.in_o
 pub returns-clause-verdict : goal.returns-clause-verdict
 returns-clause-verdict g c =
     let at = goal.at.returns-clause-verdict g c in
-    verdict_behind (tree_pages g at.In_default-2 (trees g at.After-deref)) c.args.ext.now c.judge_blocks.result c.judge_blocks.ensures.verdict
+    verdict_behind (tree_pages g at.In_default-2 (trees g at.After-deref)) c.args.shape c.judge_blocks.result c.judge_blocks.ensures.verdict
 
 pub returns-clause-runs : goal.returns-clause-runs
 returns-clause-runs g c =
     let at = goal.at.returns-clause-runs g c in
-    runs_next (tree_pages g at.In_default-2 (trees g at.After-deref)) (KeepsTrees c.args.ext.now c.args.defs.now) (λ kept. kept) c.judge_blocks.ensures.runs
+    runs_next (tree_pages g at.In_default-2 (trees g at.After-deref)) (KeepsTrees c.args.shape c.args.defs.now) (λ kept. kept) c.judge_blocks.ensures.runs

@@ -15,9 +15,9 @@ abbrev pub invariant-loop-t : goal.invariant-loop-t
 invariant-loop-t g l = record {
   count : length l.defs.items ≡ l.t;
   limits : EachPlace IsWithinLimits l.defs.items;
-  judged : IsTrue (g.P.Pages.state l.fn.pages).is_told → (owners : List Kind) → IsMapSound l.ext (g.P.Pages.state l.fn.pages).work owners
-      → JudgedSoFar l.ext (g.P.Pages.state l.fn.pages).work owners l.t l.defs.items l.lowest;
+  judged : IsTrue (g.P.Pages.state l.fn.pages).is_told → (owners : List Kind) → IsMapSound l.fn.shape (g.P.Pages.state l.fn.pages).work owners
+      → JudgedSoFar l.fn.shape (g.P.Pages.state l.fn.pages).work owners l.t l.defs.items l.lowest;
   same : (g.P.Pages.state l.pages).work ≡ (g.P.Pages.state l.fn.pages).work;
   going : (g.P.Pages.state l.pages).ended ≡ false;
-  runs : RunsOverPages g.P.Pages NoPage AnyPage (Unless g.P.Pages l.fn.pages (HasOwners l.ext)) l.fn.pages l.pages None;
+  runs : RunsOverPages g.P.Pages NoPage AnyPage (Unless g.P.Pages l.fn.pages (HasOwners l.fn.shape)) l.fn.pages l.pages None;
 }

@@ -21,16 +21,16 @@ returns-in_err-bring-clause-runs g c =
 pub returns-then-not-is_map_page_sound-clause-judged : goal.returns-then-not-is_map_page_sound-clause-judged
 returns-then-not-is_map_page_sound-clause-judged g c = λ told root.
     let inv = c.loop-p.invariant in
-    let ext = c.args.ext.now in
+    let shape = c.args.shape in
     let pages = (g.P.Pages.state c.args.pages.now).work in
     let p = c.loop-p.p in
     let behind : 17 + (p - 17) ≡ p = omega (arith, c.loop-p.auto.p) in
-    let low : p - 17 < map_pages ext.cap = omega (arith, c.loop-p-test.true, c.first_page-end.ensures) in
+    let low : p - 17 < map_pages shape.extents = omega (arith, c.loop-p-test.true, c.first_page-end.ensures) in
     let at : page_at pages p ≡ c.page.result.now =
     ap (λ now. page_at now p) (sym inv.same)
     ∙ brought_page g.P.Pages c.loop-p.pages p _ c.page.result.now (inv.runs.works.steady.is_told ∙ told) (omega (arith, c.loop-p-test.true, c.if-count-end.false, c.count-count.ensures, ap length inv.same)) c.in_ok-bring.ensures.hand c.page.ensures in
-    subst (IsLowestBreak (BreaksRule ext pages 2)) behind
-    (map_broken ext pages (p - 17) low
+    subst (IsLowestBreak (BreaksRule shape pages 2)) behind
+    (map_broken shape pages (p - 17) low
     (c.is_map_page_sound.ensures.broken c.if-not-is_map_page_sound.true pages root (sym c.count-count.ensures) (c.in_ok-tables.ensures.told told) (ap (page_at pages) behind ∙ at))
     (λ j less. inv.sound told root j (omega (arith, less))))
 
@@ -40,7 +40,7 @@ returns-then-not-is_map_page_sound-clause-runs g c = runs_more c.loop-p.invarian
 pub loop-p-preserved : goal.loop-p-preserved
 loop-p-preserved g c =
     let inv = c.loop-p.invariant in
-    let ext = c.args.ext.now in
+    let shape = c.args.shape in
     let pages = (g.P.Pages.state c.args.pages.now).work in
     let p = c.loop-p.p in
     record {
@@ -52,7 +52,7 @@ loop-p-preserved g c =
             let at : page_at pages p ≡ c.page.result.now =
             ap (λ now. page_at now p) (sym inv.same)
             ∙ brought_page g.P.Pages c.loop-p.pages p _ c.page.result.now (inv.runs.works.steady.is_told ∙ told) (omega (arith, c.loop-p-test.true, c.if-count-end.false, c.count-count.ensures, ap length inv.same)) c.in_ok-bring.ensures.hand c.page.ensures in
-            subst (IsMapPageSound ext pages (owners_on ext pages)) here
+            subst (IsMapPageSound shape pages (owners_on shape pages)) here
             (c.is_map_page_sound.ensures.sound c.if-not-is_map_page_sound.false pages root (sym c.count-count.ensures) (c.in_ok-tables.ensures.told told) (ap (page_at pages) behind ∙ at))
       ];
       same = c.bring.ensures.same ∙ inv.same;
@@ -61,5 +61,5 @@ loop-p-preserved g c =
 
 pub returns-clause-judged : goal.returns-clause-judged
 returns-clause-judged g c = λ told root.
-    map_holds c.args.ext.now (g.P.Pages.state c.args.pages.now).work
+    map_holds c.args.shape (g.P.Pages.state c.args.pages.now).work
     (λ j less. c.loop-p.invariant.sound told root j (omega (arith, less, c.loop-p-test.false, c.first_page-end.ensures)))

@@ -9,7 +9,7 @@ abbrev pub invariant-loop-e : goal.invariant-loop-e
 invariant-loop-e g l = record {
   same : (g.P.Pages.state l.pages).work ≡ (g.P.Pages.state l.fn.pages).work;
   going : (g.P.Pages.state l.pages).ended ≡ false;
-  runs : ReadsMap g.P.Pages l.ext l.fn.pages l.pages None;
+  runs : ReadsMap g.P.Pages l.fn.shape l.fn.pages l.pages None;
   count : length l.kinds.items ≡ l.e;
-  kinds : (owners : List Kind) → HoldsMap g.P.Pages l.ext l.fn.pages owners → l.kinds.items ≡ take l.e owners;
+  kinds : (owners : List Kind) → HoldsMap g.P.Pages l.fn.shape l.fn.pages owners → l.kinds.items ≡ take l.e owners;
 }

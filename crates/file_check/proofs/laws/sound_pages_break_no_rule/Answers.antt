@@ -2,4 +2,4 @@ use Rattle.file_check.proofs.SoundUnbrokenLemmas.{sound_unbroken}
 use Rattle.file_check.proofs.laws.sound_pages_break_no_rule.Goals as goal
 
 pub returns : goal.returns
-returns c = λ ext pages rule page sound broken. sound_unbroken ext pages sound rule page broken
+returns c = λ shape pages rule page sound broken. sound_unbroken shape pages sound rule page broken

@@ -6,7 +6,7 @@ use Rattle.file_check.proofs.map_pages.are_entries_sound.Goals as goal
 pub loop-e-preserved : goal.loop-e-preserved
 loop-e-preserved c = λ x low less. elim (cases_eq x c.loop-e.e) [
   | inl here ↦
-      subst (λ e. IsEntrySound c.args.ext.now c.args.count c.args.tables.now e (kind_on c.args.ext.now c.args.page.now e)) (sym here)
+      subst (λ e. IsEntrySound c.args.shape c.args.count c.args.tables.now e (kind_on c.args.shape c.args.page.now e)) (sym here)
       (c.is_entry_sound.ensures.0 c.if-not-is_entry_sound.false)
   | inr other ↦ c.loop-e.invariant x low (omega (arith, less, other))
 ]

@@ -11,12 +11,12 @@ use Rattle.file_check.proofs.record_indexes.is_sound.Goals as goal
 pub returns-in_err-entries-clause-runs : goal.returns-in_err-entries-clause-runs
 returns-in_err-entries-clause-runs g c =
     runs_exit c.from_residual-in_err-entries.result c.from_residual-in_err-entries.ensures.1
-    (runs_entries c.args.ext.now c.args.def.now c.args.used.now c.args.index.now.tree c.in_ok-note_rows.ensures.runs c.in_ok-note_rows.ensures.same c.in_err-entries.ensures.runs)
+    (runs_entries c.args.shape c.args.def.now c.args.used.now c.args.index.now.tree c.in_ok-note_rows.ensures.runs c.in_ok-note_rows.ensures.same c.in_err-entries.ensures.runs)
 
 pub returns-clause-sound : goal.returns-clause-sound
 returns-clause-sound g c told readable tree has =
     let index = c.args.index.now in
-    let wanted = entries_of_blocks index.kind c.args.ext.now (g.P.Pages.state c.args.pages.now).work c.args.def.now index.parts c.args.used.now in
+    let wanted = entries_of_blocks index.kind c.args.shape (g.P.Pages.state c.args.pages.now).work c.args.def.now index.parts c.args.used.now in
     let fresh : (entry : List ℕ) → Contains (noted_entries c.new-noted.result) entry → Contains (leaf_entries tree) entry =
     λ entry there. (let (k, low, at) = subst (λ (entries : List (List ℕ)). Contains entries entry) c.new-noted.ensures there in absurd (omega (arith, low))) in
     let notes = when_true c.in_ok-note_rows.field-0 (NotesEntries wanted (leaf_entries tree) c.new-noted.result c.note_rows.new.noted) _ c.if-not-branch.false (c.in_ok-note_rows.ensures.notes told readable tree has fresh) in
@@ -33,4 +33,4 @@ returns-clause-sound g c told readable tree has =
     )
 
 pub returns-clause-runs : goal.returns-clause-runs
-returns-clause-runs g c = runs_entries c.args.ext.now c.args.def.now c.args.used.now c.args.index.now.tree c.in_ok-note_rows.ensures.runs c.in_ok-note_rows.ensures.same c.in_ok-entries.ensures.runs
+returns-clause-runs g c = runs_entries c.args.shape c.args.def.now c.args.used.now c.args.index.now.tree c.in_ok-note_rows.ensures.runs c.in_ok-note_rows.ensures.same c.in_ok-entries.ensures.runs

@@ -12,11 +12,11 @@ use Rattle.file_check.proofs.record_indexes.note_rows.Given as goal
 -- the entries of the rows in the first blocks are there, and were noted
 abbrev pub invariant-loop-block : goal.invariant-loop-block
 invariant-loop-block g l = record {
-  notes : IsTrue (g.P.Pages.state l.fn.pages).is_told → AreReadable l.ext (g.P.Pages.state l.fn.pages).work l.def l.used
+  notes : IsTrue (g.P.Pages.state l.fn.pages).is_told → AreReadable l.fn.shape (g.P.Pages.state l.fn.pages).work l.def l.used
       → (tree : Forest) → HasTree (g.P.Pages.state l.fn.pages).work (place_of_tree l.index.tree) tree
       → ((entry : List ℕ) → Contains (noted_entries l.fn.noted) entry → Contains (leaf_entries tree) entry)
-      → NotesEntries (entries_of_blocks l.index.kind l.ext (g.P.Pages.state l.fn.pages).work l.def l.index.parts (take l.block-index l.block-items)) (leaf_entries tree) l.fn.noted l.noted;
+      → NotesEntries (entries_of_blocks l.index.kind l.fn.shape (g.P.Pages.state l.fn.pages).work l.def l.index.parts (take l.block-index l.block-items)) (leaf_entries tree) l.fn.noted l.noted;
   same : (g.P.Pages.state l.pages).work ≡ (g.P.Pages.state l.fn.pages).work;
   going : (g.P.Pages.state l.pages).ended ≡ false;
-  runs : RunsOverPages g.P.Pages NoPage AnyPage (UnlessReadable g.P.Pages l.ext l.fn.pages l.def l.used (place_of_tree l.index.tree)) l.fn.pages l.pages None;
+  runs : RunsOverPages g.P.Pages NoPage AnyPage (UnlessReadable g.P.Pages l.fn.shape l.fn.pages l.def l.used (place_of_tree l.index.tree)) l.fn.pages l.pages None;
 }

@@ -7,7 +7,7 @@ use Rattle.file_check.proofs.root.judge_root.Goals as goal
 
 pub returns-then-count-eq0-clause-judged : goal.returns-then-count-eq0-clause-judged
 returns-then-count-eq0-clause-judged g c = λ told.
-    none_breaks c.args.ext.now (g.P.Pages.state c.args.pages.now).work (omega (arith, c.if-count-eq0.true, c.count-count.ensures))
+    none_breaks c.args.shape (g.P.Pages.state c.args.pages.now).work (omega (arith, c.if-count-eq0.true, c.count-count.ensures))
 
 pub returns-then-count-eq0-clause-runs : goal.returns-then-count-eq0-clause-runs
 returns-then-count-eq0-clause-runs g c = runs_none

@@ -13,5 +13,5 @@ returns-in_err-roots-clause-runs g c = runs_exit c.from_residual.result c.from_r
 pub returns-clause-judged : goal.returns-clause-judged
 returns-clause-judged g c =
     subst (λ (roots : List ℕ). IfOk c.are_root_pages.result (λ good. IsTrue (g.P.Pages.state c.args.pages.now).is_told → (owners : List Kind)
-    → IsMapSound c.args.ext.now (g.P.Pages.state c.args.pages.now).work owners → JudgesRoots c.args.ext.now (g.P.Pages.state c.args.pages.now).work owners roots good))
+    → IsMapSound c.args.shape (g.P.Pages.state c.args.pages.now).work owners → JudgesRoots c.args.shape (g.P.Pages.state c.args.pages.now).work owners roots good))
     (c.deref.ensures.value ∙ c.in_ok-roots.ensures.roots) c.are_root_pages.ensures.judged

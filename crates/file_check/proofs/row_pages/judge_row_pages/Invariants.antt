@@ -14,9 +14,9 @@ use Rattle.file_check.proofs.row_pages.judge_row_pages.Given as goal
 -- the blocks so far are judged
 abbrev pub invariant-loop-block : goal.invariant-loop-block
 invariant-loop-block g l = record {
-  judged : IsTrue (g.P.Pages.state l.fn.pages).is_told → (map_tree : Forest) → HasBlockMap l.ext (g.P.Pages.state l.fn.pages).work l.def map_tree
-      → JudgesEach (AreBlockRowsSound l.ext (g.P.Pages.state l.fn.pages).work l.def) (BreaksBlockRows l.ext (g.P.Pages.state l.fn.pages).work l.def) (take l.block-index l.block-items) l.lowest;
+  judged : IsTrue (g.P.Pages.state l.fn.pages).is_told → (map_tree : Forest) → HasBlockMap l.fn.shape (g.P.Pages.state l.fn.pages).work l.def map_tree
+      → JudgesEach (AreBlockRowsSound l.fn.shape (g.P.Pages.state l.fn.pages).work l.def) (BreaksBlockRows l.fn.shape (g.P.Pages.state l.fn.pages).work l.def) (take l.block-index l.block-items) l.lowest;
   same : (g.P.Pages.state l.pages).work ≡ (g.P.Pages.state l.fn.pages).work;
   going : (g.P.Pages.state l.pages).ended ≡ false;
-  runs : RunsOverPages g.P.Pages NoPage AnyPage (Unless g.P.Pages l.fn.pages (TellsMap l.ext l.def)) l.fn.pages l.pages None;
+  runs : RunsOverPages g.P.Pages NoPage AnyPage (Unless g.P.Pages l.fn.pages (TellsMap l.fn.shape l.def)) l.fn.pages l.pages None;
 }

@@ -11,7 +11,7 @@ use Rattle.file_check.proofs.row_pages.judge_rows_of_block.Given as goal
 -- the pages so far fit
 abbrev pub invariant-loop-place : goal.invariant-loop-place
 invariant-loop-place g l = record {
-  judged : IsTrue (g.P.Pages.state l.fn.pages).is_told → (j : ℕ) → j < l.place → IsFittingPage l.def (block_page l.ext (g.P.Pages.state l.fn.pages).work l.block j);
+  judged : IsTrue (g.P.Pages.state l.fn.pages).is_told → (j : ℕ) → j < l.place → IsFittingPage l.def (block_page l.fn.shape (g.P.Pages.state l.fn.pages).work l.block j);
   same : (g.P.Pages.state l.pages).work ≡ (g.P.Pages.state l.fn.pages).work;
   going : (g.P.Pages.state l.pages).ended ≡ false;
   runs : RunsOverPages g.P.Pages NoPage AnyPage NoDamage l.fn.pages l.pages None;

@@ -15,8 +15,8 @@ loop-def-init g c =
     let work = (g.P.Pages.state c.args.pages.now).work in
     record {
       judged = λ told rule view known.
-          subst (JudgesEach (KeepsTableRule rule c.args.ext.now work) (BreaksTableRule rule c.args.ext.now work) []) (sym (c.none-lowest.ensures rule))
-          (judges_nothing (KeepsTableRule rule c.args.ext.now work) (BreaksTableRule rule c.args.ext.now work));
+          subst (JudgesEach (KeepsTableRule rule c.args.shape work) (BreaksTableRule rule c.args.shape work) []) (sym (c.none-lowest.ensures rule))
+          (judges_nothing (KeepsTableRule rule c.args.shape work) (BreaksTableRule rule c.args.shape work));
       same = refl;
       going = c.requires.going;
       runs = runs_none;
@@ -25,14 +25,14 @@ loop-def-init g c =
 pub loop-def-preserved-in_default : goal.loop-def-preserved-in_default
 loop-def-preserved-in_default g c =
     let inv = c.loop-def.invariant in
-    let ext = c.args.ext.now in
+    let shape = c.args.shape in
     let work = (g.P.Pages.state c.args.pages.now).work in
     let defs = c.args.defs.now in
     let i = c.loop-def.def-index in
     record {
       judged = λ told rule view known.
-          no_table_next (KeepsTableRule rule ext work) (BreaksTableRule rule ext work) view.places i (found_of rule c.loop-def.lowest)
-          (place_of_def ext work defs view (trees_known rule ext work defs view known) i None (place_found defs i c.def-item.result None c.loop-def-test.true c.def-item.is c.in_default.is))
+          no_table_next (KeepsTableRule rule shape work) (BreaksTableRule rule shape work) view.places i (found_of rule c.loop-def.lowest)
+          (place_of_def shape work defs view (trees_known rule shape work defs view known) i None (place_found defs i c.def-item.result None c.loop-def-test.true c.def-item.is c.in_default.is))
           (inv.judged told rule view known);
       same = inv.same;
       going = inv.going;
@@ -52,12 +52,12 @@ returns-in_err-here-clause-runs g c =
     let at = place_found defs i c.def-item.result (Some c.in-Some.def) c.loop-def-test.true c.def-item.is c.in-Some.is in
     runs_exit c.from_residual.result c.from_residual.ensures.1
     (runs_then inv.runs c.in_err-here.ensures.runs (λ p there mine. mine) (λ p is. tt)
-    (λ damage b. table_unless g.P.Pages c.args.ext.now c.args.pages.now c.loop-def.pages defs i c.in-Some.def damage inv.runs.works.steady.is_told inv.same at b))
+    (λ damage b. table_unless g.P.Pages c.args.shape c.args.pages.now c.loop-def.pages defs i c.in-Some.def damage inv.runs.works.steady.is_told inv.same at b))
 
 pub loop-def-preserved : goal.loop-def-preserved
 loop-def-preserved g c =
     let inv = c.loop-def.invariant in
-    let ext = c.args.ext.now in
+    let shape = c.args.shape in
     let work = (g.P.Pages.state c.args.pages.now).work in
     let defs = c.args.defs.now in
     let i = c.loop-def.def-index in
@@ -66,22 +66,22 @@ loop-def-preserved g c =
     let at : slice_get defs i ≡ Some (Some def) = place_found defs i c.def-item.result (Some def) c.loop-def-test.true c.def-item.is c.in-Some.is in
     record {
       judged = λ told rule view known.
-          subst (JudgesEach (KeepsTableRule rule ext work) (BreaksTableRule rule ext work) (tables_there (take (i + 1) view.places))) (sym (c.lower-lowest.ensures rule))
-          (table_next (KeepsTableRule rule ext work) (BreaksTableRule rule ext work) view.places i def (found_of rule c.loop-def.lowest) (found_of rule here)
-          (place_of_def ext work defs view (trees_known rule ext work defs view known) i (Some def) at)
-          (λ table stands is. judged_in_view rule ext work (g.P.Pages.state c.loop-def.pages).work defs view i table def (found_of rule here) inv.same known stands is (c.in_ok-here.ensures.judged (inv.runs.works.steady.is_told ∙ told) rule))
+          subst (JudgesEach (KeepsTableRule rule shape work) (BreaksTableRule rule shape work) (tables_there (take (i + 1) view.places))) (sym (c.lower-lowest.ensures rule))
+          (table_next (KeepsTableRule rule shape work) (BreaksTableRule rule shape work) view.places i def (found_of rule c.loop-def.lowest) (found_of rule here)
+          (place_of_def shape work defs view (trees_known rule shape work defs view known) i (Some def) at)
+          (λ table stands is. judged_in_view rule shape work (g.P.Pages.state c.loop-def.pages).work defs view i table def (found_of rule here) inv.same known stands is (c.in_ok-here.ensures.judged (inv.runs.works.steady.is_told ∙ told) rule))
           (inv.judged told rule view known));
       same = c.judge_table.ensures.same ∙ inv.same;
       going = c.in_ok-here.ensures.runs.works.steady.ended ∙ inv.going;
       runs = runs_then {fault = None} inv.runs c.in_ok-here.ensures.runs (λ p there mine. mine) (λ p is. tt)
-          (λ damage b. table_unless g.P.Pages ext c.args.pages.now c.loop-def.pages defs i def damage inv.runs.works.steady.is_told inv.same at b);
+          (λ damage b. table_unless g.P.Pages shape c.args.pages.now c.loop-def.pages defs i def damage inv.runs.works.steady.is_told inv.same at b);
     }
 
 pub returns-clause-judged : goal.returns-clause-judged
 returns-clause-judged g c told rule view known =
-    let ext = c.args.ext.now in
+    let shape = c.args.shape in
     let work = (g.P.Pages.state c.args.pages.now).work in
     let defs = c.args.defs.now in
-    judges_tables rule ext work defs view (found_of rule c.loop-def.lowest) known
-    (subst (λ (places : List (Option TableView)). JudgesEach (KeepsTableRule rule ext work) (BreaksTableRule rule ext work) (tables_there places) (found_of rule c.loop-def.lowest))
-    (all_places ext work defs view (trees_known rule ext work defs view known) c.loop-def.def-index c.loop-def-test.false) (c.loop-def.invariant.judged told rule view known))
+    judges_tables rule shape work defs view (found_of rule c.loop-def.lowest) known
+    (subst (λ (places : List (Option TableView)). JudgesEach (KeepsTableRule rule shape work) (BreaksTableRule rule shape work) (tables_there places) (found_of rule c.loop-def.lowest))
+    (all_places shape work defs view (trees_known rule shape work defs view known) c.loop-def.def-index c.loop-def-test.false) (c.loop-def.invariant.judged told rule view known))

@@ -13,9 +13,9 @@ use Rattle.file_check.proofs.table_judging.judge_all_tables.Given as goal
 -- the tables in the places so far are judged
 abbrev pub invariant-loop-def : goal.invariant-loop-def
 invariant-loop-def g l = record {
-  judged : IsTrue (g.P.Pages.state l.fn.pages).is_told → (rule : TableRule) (view : DatabaseView) → ViewKnownFor rule l.ext (g.P.Pages.state l.fn.pages).work l.defs view
-      → JudgesEach (KeepsTableRule rule l.ext (g.P.Pages.state l.fn.pages).work) (BreaksTableRule rule l.ext (g.P.Pages.state l.fn.pages).work) (tables_there (take l.def-index view.places)) (found_of rule l.lowest);
+  judged : IsTrue (g.P.Pages.state l.fn.pages).is_told → (rule : TableRule) (view : DatabaseView) → ViewKnownFor rule l.fn.shape (g.P.Pages.state l.fn.pages).work l.defs view
+      → JudgesEach (KeepsTableRule rule l.fn.shape (g.P.Pages.state l.fn.pages).work) (BreaksTableRule rule l.fn.shape (g.P.Pages.state l.fn.pages).work) (tables_there (take l.def-index view.places)) (found_of rule l.lowest);
   same : (g.P.Pages.state l.pages).work ≡ (g.P.Pages.state l.fn.pages).work;
   going : (g.P.Pages.state l.pages).ended ≡ false;
-  runs : RunsOverPages g.P.Pages NoPage AnyPage (Unless g.P.Pages l.fn.pages (λ told. (view : DatabaseView) × ViewHasBlocks l.ext told l.defs view)) l.fn.pages l.pages None;
+  runs : RunsOverPages g.P.Pages NoPage AnyPage (Unless g.P.Pages l.fn.pages (λ told. (view : DatabaseView) × ViewHasBlocks l.fn.shape told l.defs view)) l.fn.pages l.pages None;
 }

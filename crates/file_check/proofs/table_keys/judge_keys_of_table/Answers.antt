@@ -17,10 +17,10 @@ use Rattle.file_check.proofs.table_keys.judge_keys_of_table.Goals as goal
 
 -- an index, as it was judged of the pages as they were
 judged : (g : Over) (c : In_ok-is_unique g)
-    → WhereRows (g.P.Pages.state c.args.pages.now) c.args.ext.now c.args.def.now (λ rows. IsTrue c.in_ok-is_unique.field-0 ↔ IsUniqueSound rows c.index-item.result)
+    → WhereRows (g.P.Pages.state c.args.pages.now) c.args.shape c.args.def.now (λ rows. IsTrue c.in_ok-is_unique.field-0 ↔ IsUniqueSound rows c.index-item.result)
 judged g c =
     let inv = c.loop-index.invariant in
-    where_rows c.args.ext.now c.args.def.now (λ rows. IsTrue c.in_ok-is_unique.field-0 ↔ IsUniqueSound rows c.index-item.result) (g.P.Pages.state c.args.pages.now) (g.P.Pages.state c.loop-index.pages)
+    where_rows c.args.shape c.args.def.now (λ rows. IsTrue c.in_ok-is_unique.field-0 ↔ IsUniqueSound rows c.index-item.result) (g.P.Pages.state c.args.pages.now) (g.P.Pages.state c.loop-index.pages)
     inv.runs.works.steady.is_told inv.same c.in_ok-is_unique.ensures.judged
 
 pub returns-in_err-are_apart_below-clause-runs : goal.returns-in_err-are_apart_below-clause-runs
@@ -31,7 +31,7 @@ returns-then-not-branch-clause-runs g c = runs_none
 
 pub returns-then-not-branch-clause-judged : goal.returns-then-not-branch-clause-judged
 returns-then-not-branch-clause-judged g c told map_tree rows are =
-    let placed = rows_in_table c.args.ext.now (g.P.Pages.state c.args.pages.now).work c.args.def.now map_tree in
+    let placed = rows_in_table c.args.shape (g.P.Pages.state c.args.pages.now).work c.args.def.now map_tree in
     keys_broken c.args.def.now placed (1 + c.from-page.result) (ap (λ n. 1 + n) c.from-page.ensures)
     (inl (λ sound.
     let apart : c.in_ok-are_apart_below.field-0 ≡ true =
@@ -47,21 +47,21 @@ loop-index-preserved g c =
     let inv = c.loop-index.invariant in
     record {
       unique = λ told map_tree rows.
-          let placed = rows_in_table c.args.ext.now (g.P.Pages.state c.args.pages.now).work c.args.def.now map_tree in
+          let placed = rows_in_table c.args.shape (g.P.Pages.state c.args.pages.now).work c.args.def.now map_tree in
           unique_more placed c.as_slice-index-items.result.now c.loop-index.index-index c.index-item.result c.loop-index-test.true (inv.unique told map_tree rows)
           (subst (IsUniqueSound placed) c.index-item.is ((judged g (goal.at.loop-index-preserved g c).In_ok-is_unique told map_tree rows).0 c.if-not-branch-2.false));
       same = c.is_unique.ensures.same ∙ inv.same;
       going = c.in_ok-is_unique.ensures.runs.works.steady.ended ∙ inv.going;
-      runs = runs_unless (TellsRows c.args.ext.now c.args.def.now) inv.same inv.runs c.in_ok-is_unique.ensures.runs;
+      runs = runs_unless (TellsRows c.args.shape c.args.def.now) inv.same inv.runs c.in_ok-is_unique.ensures.runs;
     }
 
 pub returns-in_err-is_unique-clause-runs : goal.returns-in_err-is_unique-clause-runs
 returns-in_err-is_unique-clause-runs g c =
     let inv = c.loop-index.invariant in
-    runs_exit c.from_residual-in_err-is_unique.result c.from_residual-in_err-is_unique.ensures.1 (runs_unless (TellsRows c.args.ext.now c.args.def.now) inv.same inv.runs c.in_err-is_unique.ensures.runs)
+    runs_exit c.from_residual-in_err-is_unique.result c.from_residual-in_err-is_unique.ensures.1 (runs_unless (TellsRows c.args.shape c.args.def.now) inv.same inv.runs c.in_err-is_unique.ensures.runs)
 
 pub returns-then-not-branch-2-clause-runs : goal.returns-then-not-branch-2-clause-runs
-returns-then-not-branch-2-clause-runs g c = let inv = c.loop-index.invariant in runs_unless (TellsRows c.args.ext.now c.args.def.now) inv.same inv.runs c.in_ok-is_unique.ensures.runs
+returns-then-not-branch-2-clause-runs g c = let inv = c.loop-index.invariant in runs_unless (TellsRows c.args.shape c.args.def.now) inv.same inv.runs c.in_ok-is_unique.ensures.runs
 
 pub returns-then-not-branch-2-clause-judged : goal.returns-then-not-branch-2-clause-judged
 returns-then-not-branch-2-clause-judged g c told map_tree rows are =
@@ -69,7 +69,7 @@ returns-then-not-branch-2-clause-judged g c told map_tree rows are =
     subst (λ (index : IndexDef). Contains c.args.def.now.indexes index) (sym c.index-item.is)
     (subst (λ (indexes : List IndexDef). Contains indexes (get_or c.as_slice-index-items.result.now c.loop-index.index-index c.index-item.result)) c.as_slice-index-items.ensures
     (Contains-get_or c.as_slice-index-items.result.now c.loop-index.index-index c.index-item.result c.loop-index-test.true)) in
-    keys_broken c.args.def.now (rows_in_table c.args.ext.now (g.P.Pages.state c.args.pages.now).work c.args.def.now map_tree) (1 + c.from-page.result) (ap (λ n. 1 + n) c.from-page.ensures)
+    keys_broken c.args.def.now (rows_in_table c.args.shape (g.P.Pages.state c.args.pages.now).work c.args.def.now map_tree) (1 + c.from-page.result) (ap (λ n. 1 + n) c.from-page.ensures)
     (inr (
       c.index-item.result,
       there,
@@ -81,7 +81,7 @@ returns-then-not-branch-2-clause-judged g c told map_tree rows are =
 
 pub returns-clause-judged : goal.returns-clause-judged
 returns-clause-judged g c told map_tree rows are =
-    let placed = rows_in_table c.args.ext.now (g.P.Pages.state c.args.pages.now).work c.args.def.now map_tree in
+    let placed = rows_in_table c.args.shape (g.P.Pages.state c.args.pages.now).work c.args.def.now map_tree in
     keys_sound c.args.def.now placed (record {
       numbers = (numbers_if_apart c.args.def.now c.args.numbers.now.items placed are).0
           (c.in_ok-are_apart_below.ensures.judged.0 c.if-not-branch.false);

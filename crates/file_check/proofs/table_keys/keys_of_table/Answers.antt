@@ -8,7 +8,7 @@ use Rattle.file_check.proofs.table_keys.keys_of_table.Goals.{In-loop-block}
 use Rattle.file_check.proofs.table_keys.keys_of_table.Goals as goal
 
 -- a block is to be read
-reads : (g : Over) (c : In-loop-block g) → ReadsBlock g.P.Pages c.args.ext.now c.args.def.now c.args.pages.now c.loop-block.pages c.as_slice-block-items.result.now c.loop-block.block-index
+reads : (g : Over) (c : In-loop-block g) → ReadsBlock g.P.Pages c.args.shape c.args.def.now c.args.pages.now c.loop-block.pages c.as_slice-block-items.result.now c.loop-block.block-index
 reads g c =
     let inv = c.loop-block.invariant in
     record {
@@ -19,14 +19,14 @@ reads g c =
     }
 
 pub returns-in_err-blocks-clause-runs : goal.returns-in_err-blocks-clause-runs
-returns-in_err-blocks-clause-runs g c = runs_exit c.from_residual.result c.from_residual.ensures.1 (runs_listing c.args.ext.now c.args.def.now c.in_err-blocks.ensures.runs)
+returns-in_err-blocks-clause-runs g c = runs_exit c.from_residual.result c.from_residual.ensures.1 (runs_listing c.args.shape c.args.def.now c.in_err-blocks.ensures.runs)
 
 pub loop-block-init : goal.loop-block-init
 loop-block-init g c = record {
   keys = λ told map_tree rows. ap (map (λ key. key.items)) c.new-keys.ensures.items;
   same = c.blocks_in_state.ensures.same;
   going = c.in_ok-blocks.ensures.runs.works.steady.ended ∙ c.requires.going;
-  runs = runs_listing {fault = None} c.args.ext.now c.args.def.now c.in_ok-blocks.ensures.runs;
+  runs = runs_listing {fault = None} c.args.shape c.args.def.now c.in_ok-blocks.ensures.runs;
 }
 
 pub returns-in_err-rows-clause-runs : goal.returns-in_err-rows-clause-runs
@@ -54,5 +54,5 @@ loop-block-preserved g c =
 
 pub returns-clause-keys : goal.returns-clause-keys
 returns-clause-keys g c told map_tree rows =
-    gathers_all c.args.ext.now (g.P.Pages.state c.args.pages.now).work c.args.def.now map_tree ((AreKeysOf c.args.def.now.columns c.args.index.now.parts) (map (λ key. key.items) c.loop-block.keys.items)) c.as_slice-block-items.result.now c.loop-block.block-index
+    gathers_all c.args.shape (g.P.Pages.state c.args.pages.now).work c.args.def.now map_tree ((AreKeysOf c.args.def.now.columns c.args.index.now.parts) (map (λ key. key.items) c.loop-block.keys.items)) c.as_slice-block-items.result.now c.loop-block.block-index
     c.loop-block-test.false (c.as_slice-block-items.ensures.value ∙ c.in_ok-blocks.ensures.listed told map_tree rows.map.tree) (c.loop-block.invariant.keys told map_tree rows)

@@ -12,7 +12,7 @@ abbrev pub invariant-loop-e : goal.invariant-loop-e
 invariant-loop-e g l = record {
   same : (g.P.Pages.state l.pages).work ≡ (g.P.Pages.state l.fn.pages).work;
   going : (g.P.Pages.state l.pages).ended ≡ false;
-  runs : ReadsMap g.P.Pages l.ext l.fn.pages l.pages None;
-  sound : IsTrue (g.P.Pages.state l.fn.pages).is_told → (defs : Definitions) (view : DatabaseView) → ViewHasTrees l.ext (g.P.Pages.state l.fn.pages).work defs view
-      → AreTimesInTrees (g.P.Pages.state l.fn.pages).work view l.times → (p : ℕ) → p < first_page_of l.ext.cap l.ext.extent_pages l.e → IsTreePageSound l.ext view p;
+  runs : ReadsMap g.P.Pages l.fn.shape l.fn.pages l.pages None;
+  sound : IsTrue (g.P.Pages.state l.fn.pages).is_told → (defs : Definitions) (view : DatabaseView) → ViewHasTrees l.fn.shape (g.P.Pages.state l.fn.pages).work defs view
+      → AreTimesInTrees (g.P.Pages.state l.fn.pages).work view l.times → (p : ℕ) → p < first_page_of l.fn.shape.extents l.fn.shape.extent_pages l.e → IsTreePageSound l.fn.shape view p;
 }

@@ -55,11 +55,11 @@ loop-def-preserved g c =
     }
 
 pub returns-clause-judged : goal.returns-clause-judged
-returns-clause-judged g c told ext owners known =
+returns-clause-judged g c told shape owners known =
     let inv = c.loop-def.invariant in
     let judged = subst (λ (defs : Definitions). JudgesPlaces (g.P.Pages.state c.args.pages.now).work (all_places defs) c.in_ok-marks.marks c.loop-def.marks c.loop-def.broken)
     (take_all c.loop-def.def-index c.args.defs.now c.loop-def-test.false) (inv.judged told) in
-    trees_judged ext (g.P.Pages.state c.args.pages.now).work owners c.args.defs.now known c.in_ok-marks.marks c.loop-def.marks c.loop-def.broken c.requires.limits inv.marks inv.none judged
+    trees_judged shape (g.P.Pages.state c.args.pages.now).work owners c.args.defs.now known c.in_ok-marks.marks c.loop-def.marks c.loop-def.broken c.requires.limits inv.marks inv.none judged
 
 pub returns-clause-runs : goal.returns-clause-runs
 returns-clause-runs g c = runs_on c.loop-def.invariant.runs

@@ -27,11 +27,11 @@ returns-in-Ok-clause-runs g c = λ before said is told well.
     let store = c.in-Ok.store in
     let after = opened.opens.told before is in
     let base = (opened.served before is).1 in
-    let states = states_standing before.bytes after.0.bytes (pages_in before.bytes) well.ext (after.2.1 well.formed) well.states in
+    let states = states_standing before.bytes after.0.bytes (pages_in before.bytes) well.shape (after.2.1 well.formed) well.states in
     let tells = test_by_told (g.H.Disk.file c.args.host) before is in
     let sound = sound_opened _ store before.bytes _ (g.H.Host.tape c.args.host) store.desk.shape (g.H.Disk.attaches c.args.host) well tells opened.just_opened base in
-    let serves = c.serve_store.ensures.runs after.0 said after.1 (ap (λ b. b.tape) opened.opens.beside ∙ told) well.ext states sound in
-    run_on_file g.H.Disk _ store before said (g.I.Source.left c.args.input.now) (g.I.Source.left c.serve_store.new.input) c.args.host store.host c.serve_store.result.host well.ext c.serve_store.result.end
+    let serves = c.serve_store.ensures.runs after.0 said after.1 (ap (λ b. b.tape) opened.opens.beside ∙ told) well.shape states sound in
+    run_on_file g.H.Disk _ store before said (g.I.Source.left c.args.input.now) (g.I.Source.left c.serve_store.new.input) c.args.host store.host c.serve_store.result.host well.shape c.serve_store.result.end
     well.states serves base (g.met.H.Disk.only_now c.args.host) is told (opened.opens.crash before said is told) refl c.serve_store.ensures.later (λ t pages heard left. (left.4, left.5)) (opened.base_since before is said)
 
 pub returns-in-Ok-clause-told : goal.returns-in-Ok-clause-told
@@ -60,7 +60,7 @@ returns-in-Ok-clause-cause g c = λ before is.
     let tells = test_by_told (g.H.Disk.file c.args.host) before is in
     let session = c.serve_store.ensures.takes in
     cause_of_session before.bytes session.0 c.serve_store.result.end (opened.served before is).0 session.1 (λ damage ends well.
-    c.serve_store.ensures.damaged damage ends after.0 after.1 well.ext (states_standing before.bytes after.0.bytes (pages_in before.bytes) well.ext (after.2.1 well.formed) well.states)
+    c.serve_store.ensures.damaged damage ends after.0 after.1 well.shape (states_standing before.bytes after.0.bytes (pages_in before.bytes) well.shape (after.2.1 well.formed) well.states)
     (sound_opened _ c.in-Ok.store before.bytes _ (g.H.Host.tape c.args.host) c.in-Ok.store.desk.shape (g.H.Disk.attaches c.args.host) well tells opened.just_opened (opened.served before is).1))
 
 pub returns-in-Ok-clause-unopened : goal.returns-in-Ok-clause-unopened
@@ -167,14 +167,14 @@ returns-in-Err-clause-stays_formed g c = λ before said is told formed.
 -- ---- damage is exact
 
 pub returns-in-Ok-clause-breaks : goal.returns-in-Ok-clause-breaks
-returns-in-Ok-clause-breaks g c = λ damage ends before is. inr (λ ext states.
+returns-in-Ok-clause-breaks g c = λ damage ends before is. inr (λ shape states.
     let opened = c.in-Ok.ensures in
     let after = opened.opens.told before is in
     let formed = served_formed before.bytes (opened.served before is).0 in
     let From : Option (List ℕ) → Type 0 =
-    λ tape. BreaksAtEnd ext (g.I.Source.left c.args.input.now) (g.I.Source.left c.serve_store.new.input) tape (g.H.Disk.beside c.serve_store.result.host).tape damage c.serve_store.result.end (g.H.Disk.file c.serve_store.result.host) in
+    λ tape. BreaksAtEnd shape (g.I.Source.left c.args.input.now) (g.I.Source.left c.serve_store.new.input) tape (g.H.Disk.beside c.serve_store.result.host).tape damage c.serve_store.result.end (g.H.Disk.file c.serve_store.result.host) in
     subst From (ap (λ b. b.tape) opened.opens.beside)
-    (c.serve_store.ensures.breaks damage ends (sym (ap (λ state. state.work) opened.just_opened)) after.0 after.1 ext (states_standing before.bytes after.0.bytes (pages_in before.bytes) ext (after.2.1 formed) states)))
+    (c.serve_store.ensures.breaks damage ends (sym (ap (λ state. state.work) opened.just_opened)) after.0 after.1 shape (states_standing before.bytes after.0.bytes (pages_in before.bytes) shape (after.2.1 formed) states)))
 
 pub returns-in-Err-clause-breaks : goal.returns-in-Err-clause-breaks
 returns-in-Err-clause-breaks g c = λ damage ends before is.

@@ -20,8 +20,8 @@ returns-in-Ok-clause-runs g c = λ sound.
     let ready = c.in-Ok.ensures.ready sound in
     let script = g.I.Source.left c.args.input.now in
     let left = g.I.Source.left c.serve-end.new.input in
-    let Runs : g.row.S.Denot → Type 0 = λ s. RunsOnStore g.S.Pages c.args.ext script left c.args.store s c.serve-end.result in
-    subst Runs (sym c.close.ensures) (served_on_store g.S.Pages script left c.serve-end.result c.args.ext c.args.store c.in-Ok.engine c.serve-end.new.engine sound ready
+    let Runs : g.row.S.Denot → Type 0 = λ s. RunsOnStore g.S.Pages c.args.shape script left c.args.store s c.serve-end.result in
+    subst Runs (sym c.close.ensures) (served_on_store g.S.Pages script left c.serve-end.result c.args.shape c.args.store c.in-Ok.engine c.serve-end.new.engine sound ready
     c.in-Ok.ensures.pages c.in-Ok.ensures.closed c.in-Ok.ensures.settings c.in-Ok.ensures.pass c.in-Ok.ensures.shape (c.serve-end.ensures.runs ready) (λ damage is. c.serve-end.ensures.damaged damage is ready))
 
 pub returns-in-Ok-clause-damaged : goal.returns-in-Ok-clause-damaged
@@ -30,8 +30,8 @@ returns-in-Ok-clause-damaged g c = λ damage is sound. c.serve-end.ensures.damag
 pub returns-in-Err-clause-runs : goal.returns-in-Err-clause-runs
 returns-in-Err-clause-runs g c = λ sound.
     let script = g.I.Source.left c.args.input.now in
-    let Runs : SessionStop → Type 0 = λ stop. RunsOnStore g.S.Pages c.args.ext script script c.args.store c.in-Err.field-0.store (Err stop) in
-    subst Runs (sym c.from.ensures) (stopped_on_store g.S.Pages script c.in-Err.field-0.stop c.args.ext c.args.store c.in-Err.field-0.store sound c.in-Err.ensures.pages
+    let Runs : SessionStop → Type 0 = λ stop. RunsOnStore g.S.Pages c.args.shape script script c.args.store c.in-Err.field-0.store (Err stop) in
+    subst Runs (sym c.from.ensures) (stopped_on_store g.S.Pages script c.in-Err.field-0.stop c.args.shape c.args.store c.in-Err.field-0.store sound c.in-Err.ensures.pages
     (λ damage is. c.in-Err.ensures.damaged damage is sound.told sound.sound))
 
 pub returns-in-Err-clause-takes : goal.returns-in-Err-clause-takes
@@ -67,7 +67,7 @@ returns-in-Ok-clause-breaks g c = λ damage is.
     let script = g.I.Source.left c.args.input.now in
     let left = g.I.Source.left c.serve-end.new.input in
     let breaks = c.serve-end.ensures.breaks damage is in
-    breaks_served g.S.Pages script left c.serve-end.result c.args.ext c.args.store c.close.result c.in-Ok.engine c.serve-end.new.engine damage c.close.ensures c.in-Ok.ensures.pages c.in-Ok.ensures.closed c.in-Ok.ensures.shape
+    breaks_served g.S.Pages script left c.serve-end.result c.args.shape c.args.store c.close.result c.in-Ok.engine c.serve-end.new.engine damage c.close.ensures c.in-Ok.ensures.pages c.in-Ok.ensures.closed c.in-Ok.ensures.shape
     breaks.0 breaks.1
 
 -- a stop that names damage is one of the engine that does
@@ -83,7 +83,7 @@ returns-in-Err-clause-breaks g c = λ damage is.
     let stop = names_damage c.in-Err.field-0.stop damage (sym c.from.ensures ∙ named) in
     let replies = returns-in-Err-clause-replies g c in (
       replies,
-      breaks_unopened g.S.Pages c.args.ext replies.items c.args.store c.in-Err.field-0.store damage c.in-Err.ensures.pages (c.in-Err.ensures.ended ∙ c.requires.going) (c.in-Err.ensures.breaks damage stop),
+      breaks_unopened g.S.Pages c.args.shape replies.items c.args.store c.in-Err.field-0.store damage c.in-Err.ensures.pages (c.in-Err.ensures.ended ∙ c.requires.going) (c.in-Err.ensures.breaks damage stop),
     )
 
 pub returns-in-Err-clause-damaged : goal.returns-in-Err-clause-damaged

@@ -4,7 +4,6 @@ use Rattle.script_session.specs.Replying.{RepliesTo}
 use Rattle.script_session.specs.Told.{TellsMore}
 use Rattle.script_session.proofs.ToldLemmas.{told_behind}
 use Rattle.script_session.specs.declared.stop.SessionStop.TheVariants as session
-use Rattle.extent_map.specs.Owners.{IsSameShape}
 use Rattle.page_store.specs.FileStore.{left_of}
 use Rattle.page_store.proofs.BesideLemmas.{beside_of-attaches, beside_of-shape}
 use Rattle.file_session.specs.Breaking.{BreaksInFile}
@@ -13,6 +12,7 @@ use Rattle.file_session.proofs.EndOfSessionLemmas.{end_counted, end_counted_as, 
 use Rattle.file_session.proofs.FormedRunsLemmas.{left_formed}
 use Rattle.file_session.proofs.HostRunsLemmas.{left_in_shape, run_on_host}
 use Rattle.file_session.proofs.StoreRunsLemmas.{runs_along, sound_along}
+use Rattle.file_verdict.proofs.JudgingLemmas.{same_shape}
 use Rattle.file_verdict.proofs.ToldLemmas.{stays_by_test, told_by_test}
 use Rattle.file_session.proofs.serving.serve_store.Given.{Over}
 use Rattle.file_session.proofs.serving.serve_store.Goals as goal
@@ -24,31 +24,30 @@ kept_shape g c =
     beside_of-shape last.desk.shape c.args.store.desk.shape (g.H.Disk.attaches last.host) (g.H.Disk.attaches c.args.store.host) c.serve_pages-answered.ensures.beside
 
 pub returns-clause-runs : goal.returns-clause-runs
-returns-clause-runs g c = λ file said is told ext states sound.
+returns-clause-runs g c = λ file said is told shape states sound.
     let last = c.serve_pages-answered.result.store in
     let script = g.I.Source.left c.args.input.now in
     let left = g.I.Source.left c.serve_pages-answered.new.input in
     let stated = c.shape-extents.ensures.stated c.requires.going file is in
     let extents = sym stated.0 ∙ states.extents in
     let extent_pages = sym stated.1 ∙ states.extent_pages in
-    let shape : IsSameShape ext c.in-Some.ext = record { cap = c.in-Some.ensures.shape.0 ∙ extents; extent_pages = c.in-Some.ensures.shape.1 ∙ extent_pages } in
-    let runs = c.serve_pages-answered.ensures.runs (sound_along _ ext c.in-Some.ext c.args.store shape sound) in
+    let same = same_shape c.in-Some.shape shape (c.in-Some.ensures.0 ∙ extents) (c.in-Some.ensures.1 ∙ extent_pages) in
+    let runs = c.serve_pages-answered.ensures.runs (sound_along _ shape c.in-Some.shape c.args.store (sym same) sound) in
     let now_told = told_by_test (g.H.Disk.file last.host) (c.serve_pages-answered.ensures.is_told ∙ ap is_some is) in
     let heard = told_behind (g.H.Disk.beside c.args.store.host).tape (g.H.Disk.beside last.host).tape runs.said said told runs.told in
     let left_last = left_of last.desk.shape (g.H.Disk.file last.host) (g.H.Disk.beside last.host).tape (g.H.Disk.moment last.host) in
     let same_cap = ap (λ shape. shape.extents) (kept_shape g c) ∙ (sym (ap (λ parts. parts.0) c.shape-extents.ensures.parts) ∙ extents) in
     let same_size = ap (λ shape. shape.extent_pages) (kept_shape g c) ∙ (sym (ap (λ parts. parts.1) c.shape-extents.ensures.parts) ∙ extent_pages) in
-    run_on_host _ g.H.Disk (record { stand = c.sound_pages_stand.ensures; lists = c.goes_on_lists.ensures }) ext said script left c.args.store last c.close.result c.serve_pages-answered.result.end c.end_of.result
-    (runs_along _ ext c.in-Some.ext script left c.args.store last c.serve_pages-answered.result.end shape runs) told (ap (λ host. (g.H.Disk.beside host).tape) c.close.ensures.same) c.end_of.ensures
-    (λ t image heard_then now. left_in_shape ext last.desk.shape now_told.0.bytes (left_last t) image heard_then same_cap same_size (c.close.ensures.left now_told.0 (said ++ runs.said) now_told.1 heard t image heard_then now))
+    run_on_host _ g.H.Disk (record { stand = c.sound_pages_stand.ensures; lists = c.goes_on_lists.ensures }) shape said script left c.args.store last c.close.result c.serve_pages-answered.result.end c.end_of.result
+    (runs_along _ c.in-Some.shape shape script left c.args.store last c.serve_pages-answered.result.end same runs) told (ap (λ host. (g.H.Disk.beside host).tape) c.close.ensures.same) c.end_of.ensures
+    (λ t image heard_then now. left_in_shape shape last.desk.shape now_told.0.bytes (left_last t) image heard_then same_cap same_size (c.close.ensures.left now_told.0 (said ++ runs.said) now_told.1 heard t image heard_then now))
 
 pub returns-clause-damaged : goal.returns-clause-damaged
-returns-clause-damaged g c = λ damage ends file is ext states sound.
+returns-clause-damaged g c = λ damage ends file is shape states sound.
     let stated = c.shape-extents.ensures.stated c.requires.going file is in
-    let shape : IsSameShape ext c.in-Some.ext =
-    record { cap = c.in-Some.ensures.shape.0 ∙ (sym stated.0 ∙ states.extents); extent_pages = c.in-Some.ensures.shape.1 ∙ (sym stated.1 ∙ states.extent_pages) } in
+    let same = same_shape c.in-Some.shape shape (c.in-Some.ensures.0 ∙ (sym stated.0 ∙ states.extents)) (c.in-Some.ensures.1 ∙ (sym stated.1 ∙ states.extent_pages)) in
     c.serve_pages-answered.ensures.damaged damage (stop_of_end c.serve_pages-answered.result.end (session.Damaged damage) (sym c.end_of.ensures ∙ ends))
-    (sound_along _ ext c.in-Some.ext c.args.store shape sound)
+    (sound_along _ shape c.in-Some.shape c.args.store (sym same) sound)
 
 pub returns-clause-reads : goal.returns-clause-reads
 returns-clause-reads g c = end_counted session.Unread c.serve_pages-answered.result.end c.end_of.result _ _ c.end_of.ensures c.serve_pages-answered.ensures.reads
@@ -99,21 +98,20 @@ returns-clause-reopens g c = λ file said is told.
 -- ---- damage is exact
 
 pub returns-clause-breaks : goal.returns-clause-breaks
-returns-clause-breaks g c = λ damage ends committed file is ext states.
+returns-clause-breaks g c = λ damage ends committed file is shape states.
     let last = c.serve_pages-answered.result.store in
     let ended = c.serve_pages-answered.result.end in
     let script = g.I.Source.left c.args.input.now in
     let left = g.I.Source.left c.serve_pages-answered.new.input in
     let old = (g.H.Disk.beside c.args.store.host).tape in
     let stated = c.shape-extents.ensures.stated c.requires.going file is in
-    let along : IsSameShape c.in-Some.ext ext =
-    record { cap = sym (c.in-Some.ensures.shape.0 ∙ (sym stated.0 ∙ states.extents)); extent_pages = sym (c.in-Some.ensures.shape.1 ∙ (sym stated.1 ∙ states.extent_pages)) } in
+    let same = same_shape c.in-Some.shape shape (c.in-Some.ensures.0 ∙ (sym stated.0 ∙ states.extents)) (c.in-Some.ensures.1 ∙ (sym stated.1 ∙ states.extent_pages)) in
     let tells = ap is_some is in
     let now_told = told_by_test (g.H.Disk.file last.host) (c.serve_pages-answered.ensures.is_told ∙ tells) in
     let file_is = ap (λ host. g.H.Disk.file host) c.close.ensures.same ∙ now_told.1 in
     let breaks = c.serve_pages-answered.ensures.breaks damage (stop_of_end ended (session.Damaged damage) (sym c.end_of.ensures ∙ ends)) in
     let base = (c.close.ensures.base breaks.1.going now_told.0 file_is).1 in
-    let Behind : Option (List ℕ) → Type 0 = λ tape. (replies : RepliesTo script left old tape ended) × BreaksInFile ext replies.items damage now_told.0.bytes in
+    let Behind : Option (List ℕ) → Type 0 = λ tape. (replies : RepliesTo script left old tape ended) × BreaksInFile shape replies.items damage now_told.0.bytes in
     let behind = subst Behind (sym (ap (λ host. (g.H.Disk.beside host).tape) c.close.ensures.same))
-    (breaks.0, breaks_closed _ c.in-Some.ext ext breaks.0.items c.args.store last damage now_told.0.bytes along tells (c.serve_pages-answered.ensures.is_told ∙ tells) committed base breaks.1) in
+    (breaks.0, breaks_closed _ c.in-Some.shape shape breaks.0.items c.args.store last damage now_told.0.bytes same tells (c.serve_pages-answered.ensures.is_told ∙ tells) committed base breaks.1) in
     record { end_ = ended; result_is = c.end_of.ensures; replies = behind.0; after = now_told.0; file_is = file_is; breaks = behind.1 }

@@ -2,7 +2,7 @@
 use Rattle.std.proofs.Common.{◌≡◌, ℕ, List, Some, ap, inl, inr, refl, subst, ◌∙◌, arith}
 use Rattle.mdc_words.proofs.FaultsLemmas.{counts_fault_as, counts_fault_then}
 use Rattle.mdc_outside.specs.Disk.{File, IsImage}
-use Rattle.extent_map.specs.declared.extents.Extents.{Extents}
+use Rattle.store_api.specs.declared.shape.Shape.{Shape}
 use Rattle.table_trees.specs.ToldPages.{PageList}
 use Rattle.page_store.proofs.Judged.{served_formed}
 use Rattle.page_store.specs.Faults.{MayComeFirst}
@@ -20,7 +20,7 @@ use Rattle.file_verdict.proofs.judging.judge_file.Goals as goal
 
 -- the verdict on the pages of the file
 pages_judged : (g : Over) (c : goal.After-judge_store g) (before : File) → g.H.Disk.file c.args.host ≡ Some before
-    → (ext : Extents) × StatesExtents before.bytes ext × IsVerdictOnPages ext (pages_in before.bytes) c.judge_store.result.verdict
+    → (shape : Shape) × StatesExtents before.bytes shape × IsVerdictOnPages shape (pages_in before.bytes) c.judge_store.result.verdict
 pages_judged g c before is =
     let opened = c.in-Ok.ensures in
     let after = opened.opens.told before is in

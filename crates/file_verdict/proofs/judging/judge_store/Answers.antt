@@ -17,9 +17,9 @@ pub returns-clause-judges : goal.returns-clause-judges
 returns-clause-judges g c = λ file is.
     let stated = c.shape-extents.ensures.stated c.requires.going file is in
     let tells = ap is_some is in (
-      c.in-Some.ext,
-      record { extents = stated.0 ∙ sym c.in-Some.ensures.shape.0; extent_pages = stated.1 ∙ sym c.in-Some.ensures.shape.1 },
-      found_on_pages c.in-Some.ext _ c.check-verdict.result c.verdict_of.result c.verdict_of.ensures (IfOk-weaker c.check-verdict.result _ _ (λ verdict of. of tells) c.check-verdict.ensures.verdict),
+      c.in-Some.shape,
+      record { extents = stated.0 ∙ sym c.in-Some.ensures.0; extent_pages = stated.1 ∙ sym c.in-Some.ensures.1 },
+      found_on_pages c.in-Some.shape _ c.check-verdict.result c.verdict_of.result c.verdict_of.ensures (IfOk-weaker c.check-verdict.result _ _ (λ verdict of. of tells) c.check-verdict.ensures.verdict),
     )
 
 pub returns-clause-leaves : goal.returns-clause-leaves

@@ -17,12 +17,12 @@ invariant-walk g l = record {
   reached : l.from ≤ l.next;
   same : (g.P.Pages.state l.pages).work ≡ (g.P.Pages.state l.fn.pages).work;
   going : (g.P.Pages.state l.pages).ended ≡ false;
-  runs : RunsOverPages g.P.Pages NoPage (IsTableTreePage g.P.Pages l.ext l.fn.pages l.def) (BreaksTable g.P.Pages l.ext l.fn.pages l.def) l.fn.pages l.pages None;
-  passed : (owners : List Kind) (forests : TableForests) (row : Row) → StandsTable g.P.Pages l.ext l.fn.pages l.def owners forests
+  runs : RunsOverPages g.P.Pages NoPage (IsTableTreePage g.P.Pages l.fn.shape l.fn.pages l.def) (BreaksTable g.P.Pages l.fn.shape l.fn.pages l.def) l.fn.pages l.pages None;
+  passed : (owners : List Kind) (forests : TableForests) (row : Row) → StandsTable g.P.Pages l.fn.shape l.fn.pages l.def owners forests
       → IsTrue (fits_all l.def.columns row.values) → l.key ≡ cell_key_of l.def row.values
-      → (block : ℕ) → l.from ≤ block → block < l.next → HasRoomFor l.def row (slice_index_or (spots_of g.P.Pages l.ext l.fn.pages l.def owners forests) block OtherBlock) → ⊥;
+      → (block : ℕ) → l.from ≤ block → block < l.next → HasRoomFor l.def row (slice_index_or (spots_of g.P.Pages l.fn.shape l.fn.pages l.def owners forests) block OtherBlock) → ⊥;
 }
 
 -- how many blocks may come
 abbrev pub decreases-walk : goal.decreases-walk
-decreases-walk g l = l.ext.cap - l.next
+decreases-walk g l = l.fn.shape.extents - l.next

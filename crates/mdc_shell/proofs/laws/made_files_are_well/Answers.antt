@@ -5,5 +5,5 @@ returns c = λ extents extent_pages file shape fresh.
     let made = c.made_is_well.ensures in
     let well = made.well extents extent_pages file.bytes shape fresh.bytes in (
       made.each extents extent_pages file shape fresh,
-      record { ext = well.ext; states = well.states; stands = made.stands extents extent_pages file.bytes shape fresh.bytes well.ext well.states },
+      record { shape = well.shape; states = well.states; stands = made.stands extents extent_pages file.bytes shape fresh.bytes well.shape well.states },
     )

@@ -4,8 +4,8 @@ use Rattle.mdc_shell.proofs.laws.nothing_is_run.Goals as goal
 
 pub returns-clause-well : goal.returns-clause-well
 returns-clause-well c = λ file said script stop before well.
-    let found = c.sound_pages_stand.ensures well.ext _ well.served.sound in
-    (nothing_run well.ext _ found.0 said script stop before well.served found.1).0
+    let found = c.sound_pages_stand.ensures well.shape _ well.served.sound in
+    (nothing_run well.shape _ found.0 said script stop before well.served found.1).0
 
 pub returns-clause-scratch : goal.returns-clause-scratch
 returns-clause-scratch c = λ said script stop before.

@@ -14,7 +14,7 @@ returns-in-Ok-clause-runs g c = λ before said is told empty.
     let made = c.in-Ok.ensures.made after.0 after.1 in
     let well = (c.made_files_are_well.ensures 4096 4 after.0 refl made.0).0 in
     let run = c.run_attached.ensures.runs after.0 said after.1 tape (well after.0.bytes (sound_image _ after.0 (g.met.H.Disk.sound c.make_at.new.disk) after.1)) in
-    let on_scratch = c.scratch_runs.ensures after.0 run.run.ext said _ _ _ run.end_ made.0 made.1 run.run.states_extents run.run.run in
+    let on_scratch = c.scratch_runs.ensures after.0 run.run.shape said _ _ _ run.end_ made.0 made.1 run.run.states_extents run.run.run in
     runs_scratch-ended said _ _ _ _ _ c.run_attached.result.status.0 on_scratch (lies c.run_attached.result.host).0 run.status_is
 
 pub returns-in-Ok-clause-full : goal.returns-in-Ok-clause-full

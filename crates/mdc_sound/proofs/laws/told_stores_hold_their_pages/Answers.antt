@@ -5,4 +5,4 @@ pub returns-clause-trees : goal.returns-clause-trees
 returns-clause-trees g c = λ told place t. (tree_of_told g.P.Pages c.args.pages.now told place t, told_of_tree g.P.Pages c.args.pages.now told place t)
 
 pub returns-clause-map : goal.returns-clause-map
-returns-clause-map g c = λ told ext owners. (map_of_told g.P.Pages c.args.pages.now told ext owners, told_of_map g.P.Pages c.args.pages.now told ext owners)
+returns-clause-map g c = λ told shape owners. (map_of_told g.P.Pages c.args.pages.now told shape owners, told_of_map g.P.Pages c.args.pages.now told shape owners)

@@ -12,7 +12,7 @@ use Rattle.mdc_table.proofs.placing.place_by_search.Goals.{In_ok-line}
 use Rattle.mdc_table.proofs.placing.place_by_search.Goals as goal
 
 -- what all exits behind the search see of it
-searched : (g : Over) (c : In_ok-line g) → SearchesRoom g.P.Pages c.args.ext.now c.args.pages.now c.find_room.new.pages c.args.def.now c.args.row.now c.args.rooms.now c.args.key.now c.in_ok-line.field-0
+searched : (g : Over) (c : In_ok-line g) → SearchesRoom g.P.Pages c.args.shape c.args.pages.now c.find_room.new.pages c.args.def.now c.args.row.now c.args.rooms.now c.args.key.now c.in_ok-line.field-0
 searched g c =
     let def = c.args.def.now in
     let row = c.args.row.now in
@@ -24,14 +24,14 @@ searched g c =
       same = c.find_room.ensures.same;
       run = c.in_ok-line.ensures.runs;
       finds = λ owners forests st.
-          subst (λ n. FindsRoom def (spots_of g.P.Pages c.args.ext.now c.args.pages.now def owners forests) forests.map row n c.in_ok-line.field-0) noted_from
+          subst (λ n. FindsRoom def (spots_of g.P.Pages c.args.shape c.args.pages.now def owners forests) forests.map row n c.in_ok-line.field-0) noted_from
           (c.in_ok-line.ensures.finds owners forests row st c.requires.fits.values c.requires.key);
     }
 
 pub returns-in_err-line-clause-runs : goal.returns-in_err-line-clause-runs
 returns-in_err-line-clause-runs g c =
     runs_exit_as store_part_of c.from_residual.result c.from_residual.ensures.1
-    (runs_in_space c.args.ext.now c.args.def.now {fault = Some c.in_err-line.field-0.0} c.in_err-line.ensures.runs)
+    (runs_in_space c.args.shape c.args.def.now {fault = Some c.in_err-line.field-0.0} c.in_err-line.ensures.runs)
 
 -- ---- no block has room
 
@@ -39,7 +39,7 @@ pub returns-in_err-block-clause-full : goal.returns-in_err-block-clause-full
 returns-in_err-block-clause-full g c =
     let begun = c.in_err-block.ensures in
     if_err_by c.from_residual-in_err-block.result c.in_err-block.field-0.0 _ c.from_residual-in_err-block.ensures.1
-    (next_full (searched g (goal.at.returns-in_err-block-clause-full g c).In_ok-line) c.in_default.is c.begin_block.new.ext c.begin_block.new.pages c.in_err-block.field-0.0 begun.full begun.runs_full)
+    (next_full (searched g (goal.at.returns-in_err-block-clause-full g c).In_ok-line) c.in_default.is c.args.notes.now c.begin_block.new.pages c.in_err-block.field-0.0 begun.full begun.runs_full)
 
 pub returns-in_err-block-clause-runs : goal.returns-in_err-block-clause-runs
 returns-in_err-block-clause-runs g c =
@@ -48,15 +48,15 @@ returns-in_err-block-clause-runs g c =
 
 pub returns-in_default-clause-places : goal.returns-in_default-clause-places
 returns-in_default-clause-places g c =
-    next_placed (searched g (goal.at.returns-in_default-clause-places g c).In_ok-line) c.in_default.is c.begin_block.new.ext c.begin_block.new.pages c.note.new.self c.in_ok-block.block c.in_ok-block.ensures.begins c.note.ensures
+    next_placed (searched g (goal.at.returns-in_default-clause-places g c).In_ok-line) c.in_default.is c.args.notes.now c.begin_block.new.notes c.begin_block.new.pages c.note.new.self c.in_ok-block.block c.in_ok-block.ensures.begins c.note.ensures
 
 pub returns-in_default-clause-makes : goal.returns-in_default-clause-makes
 returns-in_default-clause-makes g c =
-    next_makes (searched g (goal.at.returns-in_default-clause-makes g c).In_ok-line) c.begin_block.new.pages c.in_ok-block.block c.in_ok-block.ensures.makes
+    next_makes (searched g (goal.at.returns-in_default-clause-makes g c).In_ok-line) c.args.notes.now c.begin_block.new.pages c.in_ok-block.block c.in_ok-block.ensures.makes
 
 pub returns-in_default-clause-stay : goal.returns-in_default-clause-stay
 returns-in_default-clause-stay g c =
-    next_stays (searched g (goal.at.returns-in_default-clause-stay g c).In_ok-line) c.begin_block.new.pages c.in_ok-block.block c.in_ok-block.ensures.stay
+    next_stays (searched g (goal.at.returns-in_default-clause-stay g c).In_ok-line) c.args.notes.now c.begin_block.new.pages c.in_ok-block.block c.in_ok-block.ensures.stay
 
 pub returns-in_default-clause-runs : goal.returns-in_default-clause-runs
 returns-in_default-clause-runs g c = next_run (searched g (goal.at.returns-in_default-clause-runs g c).In_ok-line) c.in_ok-block.ensures.runs
@@ -71,17 +71,17 @@ returns-in_err-put_in_block-clause-runs g c =
 pub returns-clause-places : goal.returns-clause-places
 returns-clause-places g c =
     let put = c.in_ok-put_in_block.ensures in
-    block_placed (searched g (goal.at.returns-clause-places g c).In_ok-line) c.in-Some.line c.in-Some.is c.put_in_block.new.pages c.note-2.new.self c.in_ok-put_in_block.field-0 put.block put.fills c.note-2.ensures
+    block_placed (searched g (goal.at.returns-clause-places g c).In_ok-line) c.in-Some.line c.in-Some.is c.args.notes.now c.put_in_block.new.pages c.note-2.new.self c.in_ok-put_in_block.field-0 put.block (put.fills c.args.notes.now) c.note-2.ensures
 
 pub returns-clause-makes : goal.returns-clause-makes
 returns-clause-makes g c =
     let put = c.in_ok-put_in_block.ensures in
-    block_makes (searched g (goal.at.returns-clause-makes g c).In_ok-line) c.in-Some.line c.in-Some.is c.put_in_block.new.pages c.in_ok-put_in_block.field-0.block put.block put.makes
+    block_makes (searched g (goal.at.returns-clause-makes g c).In_ok-line) c.in-Some.line c.in-Some.is c.args.notes.now c.put_in_block.new.pages c.in_ok-put_in_block.field-0.block put.block put.makes
 
 pub returns-clause-stay : goal.returns-clause-stay
 returns-clause-stay g c =
     let put = c.in_ok-put_in_block.ensures in
-    block_stays (searched g (goal.at.returns-clause-stay g c).In_ok-line) c.in-Some.line c.in-Some.is c.put_in_block.new.pages c.in_ok-put_in_block.field-0.block put.block put.runs.touches
+    block_stays (searched g (goal.at.returns-clause-stay g c).In_ok-line) c.in-Some.line c.in-Some.is c.args.notes.now c.put_in_block.new.pages c.in_ok-put_in_block.field-0.block put.block put.runs.touches
 
 pub returns-clause-runs : goal.returns-clause-runs
 returns-clause-runs g c = block_run (searched g (goal.at.returns-clause-runs g c).In_ok-line) c.in-Some.line c.in-Some.is c.in_ok-put_in_block.ensures.runs

@@ -10,4 +10,4 @@ returns-clause-of_tree g c =
     c.list.ensures.listed
 
 pub returns-clause-runs : goal.returns-clause-runs
-returns-clause-runs g c = runs_on_map c.args.ext.now c.args.def.now c.at.result.tree c.at.ensures c.at.result.seven c.list.ensures.runs
+returns-clause-runs g c = runs_on_map c.args.shape c.args.def.now c.at.result.tree c.at.ensures c.at.result.seven c.list.ensures.runs

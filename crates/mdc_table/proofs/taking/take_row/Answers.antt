@@ -4,34 +4,34 @@ use Rattle.free_space.specs.RoomNotes.{room_of}
 use Rattle.free_space.proofs.TableRunsLemmas.{runs_broken}
 use Rattle.mdc_table.proofs.KeptBlocksLemmas.{keeps_in_block, runs_of_block}
 use Rattle.mdc_table.proofs.TakingRowsLemmas.{not_this_row_there, row_taken, row_taken_of_several}
-use Rattle.mdc_table.proofs.taking.take_row.Goals.{then-rid-ext-via-then-rid-ext, then-rid-ext-via-else-rid-ext+then-from-slots}
+use Rattle.mdc_table.proofs.taking.take_row.Goals.{then-rid-shape-via-then-rid-shape, then-rid-shape-via-else-rid-shape+then-from-slots}
 use Rattle.mdc_table.proofs.taking.take_row.Goals as goal
 
-pub returns-then-rid-ext-clause-runs : goal.returns-then-rid-ext-clause-runs
-returns-then-rid-ext-clause-runs g c =
+pub returns-then-rid-shape-clause-runs : goal.returns-then-rid-shape-clause-runs
+returns-then-rid-shape-clause-runs g c =
     runs_broken c.unmapped.result c.unmapped.ensures runs_none
-    (not_this_row_there c.args.ext.now c.args.pages.now c.args.def.now c.args.rid c.args.row.now (elim c.then-rid-ext.branch [
-      | then-rid-ext-via-then-rid-ext w ↦ inl w.if-rid-ext.true
-      | then-rid-ext-via-else-rid-ext+then-from-slots w ↦ inr (omega (arith, w.if-from-slots.true, w.from.ensures, c.block_slots-slots.ensures))
+    (not_this_row_there c.args.shape c.args.pages.now c.args.def.now c.args.rid c.args.row.now (elim c.then-rid-shape.branch [
+      | then-rid-shape-via-then-rid-shape w ↦ inl w.if-rid-shape.true
+      | then-rid-shape-via-else-rid-shape+then-from-slots w ↦ inr (omega (arith, w.if-from-slots.true, w.from.ensures, c.block_slots-slots.ensures))
     ]))
 
 pub returns-in_err-take_row-clause-stay : goal.returns-in_err-take_row-clause-stay
 returns-in_err-take_row-clause-stay g c owners forests ready =
-    keeps_in_block c.args.ext.now c.args.pages.now c.args.pages.now c.take_row.new.pages c.args.def.now owners forests refl refl ready.stands c.args.rid.block c.in_err-take_row.ensures.runs.touches
+    keeps_in_block c.args.shape c.args.pages.now c.args.pages.now c.take_row.new.pages c.args.def.now owners forests refl refl ready.stands c.args.rid.block c.in_err-take_row.ensures.runs.touches
 
 pub returns-in_err-take_row-clause-runs : goal.returns-in_err-take_row-clause-runs
 returns-in_err-take_row-clause-runs g c =
-    runs_exit c.from_residual.result c.from_residual.ensures.1 (runs_of_block c.args.ext.now c.args.def.now {fault = Some c.in_err-take_row.field-0.0} c.args.rid.block c.in_err-take_row.ensures.runs)
+    runs_exit c.from_residual.result c.from_residual.ensures.1 (runs_of_block c.args.shape c.args.def.now {fault = Some c.in_err-take_row.field-0.0} c.args.rid.block c.in_err-take_row.ensures.runs)
 
 pub returns-then-left-slots-clause-takes : goal.returns-then-left-slots-clause-takes
 returns-then-left-slots-clause-takes g c owners forests ready has =
     let left = c.in_ok-take_row.field-0 in
-    row_taken_of_several c.args.ext.now c.take_row.new.ext c.args.pages.now c.take_row.new.pages c.args.def.now c.args.rid c.args.row.now owners forests (room_of c.args.rooms.now) left ready
+    row_taken_of_several c.args.shape c.args.notes.now c.take_row.new.notes c.args.pages.now c.take_row.new.pages c.args.def.now c.args.rid c.args.row.now owners forests (room_of c.args.rooms.now) left ready
     (c.in_ok-take_row.ensures.takes owners forests ready.stands has) (c.in_ok-take_row.ensures.left owners forests ready.stands) (omega arith) (omega (arith, c.block_slots-slots.ensures))
 
 pub returns-clause-takes : goal.returns-clause-takes
 returns-clause-takes g c owners forests ready has =
-    row_taken c.args.ext.now c.take_row.new.ext c.args.pages.now c.take_row.new.pages c.args.def.now c.args.rid c.args.row.now owners forests (room_of c.args.rooms.now) (room_of c.lower_note.new.rooms) ready
+    row_taken c.args.shape c.args.notes.now c.take_row.new.notes c.args.pages.now c.take_row.new.pages c.args.def.now c.args.rid c.args.row.now owners forests (room_of c.args.rooms.now) (room_of c.lower_note.new.rooms) ready
     (c.in_ok-take_row.ensures.takes owners forests ready.stands has) c.lower_note.ensures.lowers
 
 pub returns-then-left-slots-clause-leaves : goal.returns-then-left-slots-clause-leaves
@@ -50,17 +50,17 @@ returns-clause-makes g c owners forests ready slots lies = c.in_ok-take_row.ensu
 
 pub returns-then-left-slots-clause-stay : goal.returns-then-left-slots-clause-stay
 returns-then-left-slots-clause-stay g c owners forests ready =
-    keeps_in_block c.args.ext.now c.args.pages.now c.args.pages.now c.take_row.new.pages c.args.def.now owners forests refl refl ready.stands c.args.rid.block c.in_ok-take_row.ensures.runs.touches
+    keeps_in_block c.args.shape c.args.pages.now c.args.pages.now c.take_row.new.pages c.args.def.now owners forests refl refl ready.stands c.args.rid.block c.in_ok-take_row.ensures.runs.touches
 
 pub returns-clause-stay : goal.returns-clause-stay
 returns-clause-stay g c owners forests ready =
-    keeps_in_block c.args.ext.now c.args.pages.now c.args.pages.now c.take_row.new.pages c.args.def.now owners forests refl refl ready.stands c.args.rid.block c.in_ok-take_row.ensures.runs.touches
+    keeps_in_block c.args.shape c.args.pages.now c.args.pages.now c.take_row.new.pages c.args.def.now owners forests refl refl ready.stands c.args.rid.block c.in_ok-take_row.ensures.runs.touches
 
 pub returns-then-left-slots-clause-runs : goal.returns-then-left-slots-clause-runs
-returns-then-left-slots-clause-runs g c = runs_of_block c.args.ext.now c.args.def.now {fault = None} c.args.rid.block c.in_ok-take_row.ensures.runs
+returns-then-left-slots-clause-runs g c = runs_of_block c.args.shape c.args.def.now {fault = None} c.args.rid.block c.in_ok-take_row.ensures.runs
 
 pub returns-clause-runs : goal.returns-clause-runs
-returns-clause-runs g c = runs_of_block c.args.ext.now c.args.def.now {fault = None} c.args.rid.block c.in_ok-take_row.ensures.runs
+returns-clause-runs g c = runs_of_block c.args.shape c.args.def.now {fault = None} c.args.rid.block c.in_ok-take_row.ensures.runs
 
 pub returns-then-left-slots-clause-seen : goal.returns-then-left-slots-clause-seen
 returns-then-left-slots-clause-seen g c = c.in_ok-take_row.ensures.seen

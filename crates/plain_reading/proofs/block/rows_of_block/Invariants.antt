@@ -16,9 +16,9 @@ use Rattle.plain_reading.proofs.block.rows_of_block.Given as goal
 abbrev pub invariant-loop-place : goal.invariant-loop-place
 invariant-loop-place g l = record {
   rows : IsTrue (g.P.Pages.state l.fn.pages).is_told
-      → l.rows.items ≡ l.fn.rows.items ++ rows_in_slots (flat_map (λ j. rows_of l.def.columns (block_page l.ext (g.P.Pages.state l.fn.pages).work l.block j)) (range_with_len 0 l.place));
-  judged : IsTrue (g.P.Pages.state l.fn.pages).is_told → (j : ℕ) → j < l.place → IsBlockPageSound l.ext (g.P.Pages.state l.fn.pages).work l.def l.block j;
+      → l.rows.items ≡ l.fn.rows.items ++ rows_in_slots (flat_map (λ j. rows_of l.def.columns (block_page l.fn.shape (g.P.Pages.state l.fn.pages).work l.block j)) (range_with_len 0 l.place));
+  judged : IsTrue (g.P.Pages.state l.fn.pages).is_told → (j : ℕ) → j < l.place → IsBlockPageSound l.fn.shape (g.P.Pages.state l.fn.pages).work l.def l.block j;
   same : (g.P.Pages.state l.pages).work ≡ (g.P.Pages.state l.fn.pages).work;
   going : (g.P.Pages.state l.pages).ended ≡ false;
-  runs : RunsOverPages g.P.Pages NoPage (IsInBlock l.ext l.block) (BreaksBlock l.ext (g.P.Pages.state l.fn.pages) l.def l.block) l.fn.pages l.pages None;
+  runs : RunsOverPages g.P.Pages NoPage (IsInBlock l.fn.shape l.block) (BreaksBlock l.fn.shape (g.P.Pages.state l.fn.pages) l.def l.block) l.fn.pages l.pages None;
 }

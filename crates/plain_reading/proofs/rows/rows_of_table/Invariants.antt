@@ -11,9 +11,9 @@ use Rattle.plain_reading.proofs.rows.rows_of_table.Given as goal
 abbrev pub invariant-loop-block : goal.invariant-loop-block
 invariant-loop-block g l = record {
   rows : IsTrue (g.P.Pages.state l.fn.pages).is_told
-      → l.rows.items ≡ map (λ placed. placed.row) (flat_map (rows_in_block l.ext (g.P.Pages.state l.fn.pages).work l.def) (take l.block-index l.block-items));
-  judged : IsTrue (g.P.Pages.state l.fn.pages).is_told → (i : ℕ) → i < l.block-index → HasRowPages l.ext (g.P.Pages.state l.fn.pages).work l.def (get_or l.block-items i 0);
+      → l.rows.items ≡ map (λ placed. placed.row) (flat_map (rows_in_block l.fn.shape (g.P.Pages.state l.fn.pages).work l.def) (take l.block-index l.block-items));
+  judged : IsTrue (g.P.Pages.state l.fn.pages).is_told → (i : ℕ) → i < l.block-index → HasRowPages l.fn.shape (g.P.Pages.state l.fn.pages).work l.def (get_or l.block-items i 0);
   same : (g.P.Pages.state l.pages).work ≡ (g.P.Pages.state l.fn.pages).work;
   going : (g.P.Pages.state l.pages).ended ≡ false;
-  runs : RunsOverPages g.P.Pages NoPage (IsRowsPage l.ext (g.P.Pages.state l.fn.pages) l.def) (BreaksTableRows l.ext (g.P.Pages.state l.fn.pages) l.def) l.fn.pages l.pages None;
+  runs : RunsOverPages g.P.Pages NoPage (IsRowsPage l.fn.shape (g.P.Pages.state l.fn.pages) l.def) (BreaksTableRows l.fn.shape (g.P.Pages.state l.fn.pages) l.def) l.fn.pages l.pages None;
 }

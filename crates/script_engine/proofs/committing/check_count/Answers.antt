@@ -15,18 +15,18 @@ miscount g c =
 
 pub returns-then-count-eq0-clause-exact : goal.returns-then-count-eq0-clause-exact
 returns-then-count-eq0-clause-exact g c =
-    exact_judged g.S.Pages c.args.tables.now.ext (record { page = 0; rule = 1 }) c.stop_at.result c.args.store.now c.args.store.now c.stop_at.new.pages
+    exact_judged g.S.Pages c.args.tables.now.shape (record { page = 0; rule = 1 }) c.stop_at.result c.args.store.now c.args.store.now c.stop_at.new.pages
     (no_pages g.S.Pages (record { page = 0; rule = 1 }) c.args.store.now (sym c.count-count.ensures ∙ c.if-count-eq0.true)) c.stop_at.ensures.judges
 
 pub returns-then-stated_count-count-clause-counts : goal.returns-then-stated_count-count-clause-counts
 returns-then-stated_count-count-clause-counts g c =
     let stop = c.stop_at-then-stated_count-count in
-    counts_judged g.S.Pages c.args.tables.now.ext (record { page = 0; rule = 1 }) stop.result c.args.store.now c.fetch.new.self stop.new.pages (miscount g c) stop.ensures.judges
+    counts_judged g.S.Pages c.args.tables.now.shape (record { page = 0; rule = 1 }) stop.result c.args.store.now c.fetch.new.self stop.new.pages (miscount g c) stop.ensures.judges
 
 pub returns-then-stated_count-count-clause-exact : goal.returns-then-stated_count-count-clause-exact
 returns-then-stated_count-count-clause-exact g c =
     let stop = c.stop_at-then-stated_count-count in
-    exact_judged g.S.Pages c.args.tables.now.ext (record { page = 0; rule = 1 }) stop.result c.args.store.now c.fetch.new.self stop.new.pages (miscount g c) stop.ensures.judges
+    exact_judged g.S.Pages c.args.tables.now.shape (record { page = 0; rule = 1 }) stop.result c.args.store.now c.fetch.new.self stop.new.pages (miscount g c) stop.ensures.judges
 
 pub returns-clause-counts : goal.returns-clause-counts
 returns-clause-counts g c =

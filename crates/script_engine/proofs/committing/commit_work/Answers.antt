@@ -13,4 +13,4 @@ returns-in_err-prepare-clause-rests g c =
 
 pub returns-in_err-check_count-clause-exact : goal.returns-in_err-check_count-clause-exact
 returns-in_err-check_count-clause-exact g c =
-    exact_passed g.S.Pages c.args.tables.now.ext c.from_residual.result c.in_err-check_count.field-0.0 c.check_count.new.store c.from_residual.ensures.1 c.in_err-check_count.ensures.exact
+    exact_passed g.S.Pages c.args.tables.now.shape c.from_residual.result c.in_err-check_count.field-0.0 c.check_count.new.store c.from_residual.ensures.1 c.in_err-check_count.ensures.exact

@@ -3,6 +3,6 @@ use Rattle.script_engine.proofs.damage.load_exactly.Goals as goal
 
 pub returns-in-Err-Damaged : goal.returns-in-Err-Damaged
 returns-in-Err-Damaged g c = record {
-  loads = load_judged g.P.Pages c.args.ext.now c.args.pages.now c.load_catalog.new.pages c.stop_at.new.pages c.in-Err-Damaged.met c.in-Err-Damaged.field-0 c.stop_at.result c.in-Err-Damaged.field-0-is c.in-Err-Damaged.ensures.runs
+  loads = load_judged g.P.Pages c.args.shape c.args.pages.now c.load_catalog.new.pages c.stop_at.new.pages c.in-Err-Damaged.met c.in-Err-Damaged.field-0 c.stop_at.result c.in-Err-Damaged.field-0-is c.in-Err-Damaged.ensures.runs
       c.in-Err-Damaged.ensures.same c.stop_at.ensures.judges;
 }

@@ -1,11 +1,12 @@
-use Rattle.std.proofs.Common.{Err, ap, ◌∙◌}
-use Rattle.script_engine.proofs.BreakingLemmas.{exact_along}
+use Rattle.std.proofs.Common.{Err, ap, subst, ◌∙◌}
+use Rattle.store_api.specs.declared.shape.Shape.{Shape}
+use Rattle.script_engine.specs.Breaking.{NamesExactly}
 use Rattle.script_engine.proofs.RetryingLemmas.{tries_again}
 use Rattle.script_engine.proofs.damage.try_exactly.Goals as goal
 
 pub returns-in-Err-Damaged-clause-exact : goal.returns-in-Err-Damaged-clause-exact
 returns-in-Err-Damaged-clause-exact g c =
-    exact_along g.P.Pages c.args.tables.now.ext c.try_statement.new.tables.ext c.try_again.result c.try_again.new.pages c.try_statement.ensures.tries.shape c.try_again.ensures.exact
+    subst (λ (shape : Shape). NamesExactly g.P.Pages shape c.try_again.result c.try_again.new.pages) c.try_statement.ensures.tries.shape c.try_again.ensures.exact
 
 pub returns-in-Err-Damaged-clause-tries : goal.returns-in-Err-Damaged-clause-tries
 returns-in-Err-Damaged-clause-tries g c =

@@ -1,3 +1,4 @@
+use Rattle.std.proofs.Common.{refl}
 use Rattle.store_api.proofs.RunsOverPagesLemmas.{runs_exit_as, runs_wider}
 use Rattle.extent_map.specs.Damages.{store_part_of}
 use Rattle.entry_tree.proofs.ClaimsLemmas.{if_err_by}
@@ -31,7 +32,7 @@ returns-clause-does g c ready =
       adds = c.in_ok-place.ensures.adds;
       stands_for = c.in_ok-place.ensures.stands_for;
       told = c.in_ok-place.ensures.runs.works.steady.is_told;
-      shape = c.in_ok-place.ensures.shape;
+      shape = refl;
       touches = c.in_ok-place.ensures.runs.touches;
       rooms = c.forget_table.ensures.forgotten;
       other_rooms = c.forget_table.ensures.others;
@@ -39,7 +40,7 @@ returns-clause-does g c ready =
 
 pub returns-clause-keeps : goal.returns-clause-keeps
 returns-clause-keeps g c = record {
-  shape = c.in_ok-place.ensures.shape;
+  shape = refl;
   served = served_more c.args.tables.now.catalog c.add_table.new.catalog c.in_ok-place.place c.args.def c.in_ok-place.ensures.entered.0 c.requires.served c.requires.free c.requires.plain
       c.in_ok-place.ensures.entered.1 c.in_ok-place.ensures.limits;
   kept = tt;

@@ -23,14 +23,14 @@ returns-clause-does g c ready =
       drops = c.in_ok-drop_table.ensures.drops;
       stands_for = c.in_ok-drop_table.ensures.stands_for;
       told = c.in_ok-drop_table.ensures.runs.works.steady.is_told;
-      shape = c.in_ok-drop_table.ensures.shape;
+      shape = refl;
       touches = c.in_ok-drop_table.ensures.runs.touches;
       rooms = refl;
     }) ready
 
 pub returns-clause-keeps : goal.returns-clause-keeps
 returns-clause-keeps g c = record {
-  shape = c.in_ok-drop_table.ensures.shape;
+  shape = refl;
   served = served_less c.args.tables.now.catalog c.drop_table.new.catalog c.args.table c.requires.served c.in_ok-drop_table.ensures.left c.in_ok-drop_table.ensures.limits;
   kept = tt;
 }

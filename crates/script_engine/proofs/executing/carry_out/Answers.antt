@@ -1,6 +1,5 @@
 use Rattle.std.proofs.Common.{refl, rules}
 use Rattle.store_api.proofs.RunsOverPagesLemmas.{runs_none}
-use Rattle.entry_tree.proofs.ClaimsLemmas.{shape_none}
 use Rattle.script_engine.proofs.ExecutingLemmas.{IsIdle, does_nothing}
 use Rattle.script_engine.proofs.FetchesForQueryLemmas.{fetches_none}
 use Rattle.script_engine.proofs.executing.carry_out.Goals as goal
@@ -13,7 +12,7 @@ returns g c =
       refused = λ refusal e. cc;
       full = tt;
       reads = λ e. refl;
-      fetches = fetches_none g.P.Pages c.args.tables.now.ext c.args.tables.now.catalog c.args.pages.now c.args.bound;
-      keeps = record { shape = shape_none c.args.tables.now.ext; served = c.requires.served; kept = tt };
+      fetches = fetches_none g.P.Pages c.args.tables.now.shape c.args.tables.now.catalog c.args.pages.now c.args.bound;
+      keeps = record { shape = refl; served = c.requires.served; kept = tt };
       runs = runs_none;
     }

@@ -32,9 +32,9 @@ returns-in-Some-clause-reads g c =
     reads_as_bound c.args.tables.now.catalog c.args.stmt.now (bound.Insert c.in-Some.whole.table c.in-Some.whole.rows) whole (λ e. absurd cc)
 
 pub returns-in_err-whole-clause-fetches : goal.returns-in_err-whole-clause-fetches
-returns-in_err-whole-clause-fetches g c = fetches_none g.P.Pages c.args.tables.now.ext c.args.tables.now.catalog c.args.pages.now _
+returns-in_err-whole-clause-fetches g c = fetches_none g.P.Pages c.args.tables.now.shape c.args.tables.now.catalog c.args.pages.now _
 
 pub returns-in-Some-clause-fetches : goal.returns-in-Some-clause-fetches
 returns-in-Some-clause-fetches g c =
     let whole = rw c.in-Some.is at c.in_ok-whole.ensures.bound in
-    subst (FetchesForQuery g.P.Pages c.args.tables.now.ext c.args.pages.now c.insert.new.pages c.args.tables.now.catalog) whole.is tt
+    subst (FetchesForQuery g.P.Pages c.args.tables.now.shape c.args.pages.now c.insert.new.pages c.args.tables.now.catalog) whole.is tt

@@ -43,14 +43,14 @@ pub returns-in-Err-Memory-clause-runs : goal.returns-in-Err-Memory-clause-runs
 returns-in-Err-Memory-clause-runs g c = runs_memory runs_none
 
 pub returns-then-not-built-clause-fetches : goal.returns-then-not-built-clause-fetches
-returns-then-not-built-clause-fetches g c = fetches_none g.P.Pages c.args.tables.now.ext c.args.tables.now.catalog c.args.pages.now _
+returns-then-not-built-clause-fetches g c = fetches_none g.P.Pages c.args.tables.now.shape c.args.tables.now.catalog c.args.pages.now _
 
 pub returns-in-Err-Refused-clause-fetches : goal.returns-in-Err-Refused-clause-fetches
-returns-in-Err-Refused-clause-fetches g c = fetches_none g.P.Pages c.args.tables.now.ext c.args.tables.now.catalog c.args.pages.now _
+returns-in-Err-Refused-clause-fetches g c = fetches_none g.P.Pages c.args.tables.now.shape c.args.tables.now.catalog c.args.pages.now _
 
 pub returns-in-Err-Memory-clause-fetches : goal.returns-in-Err-Memory-clause-fetches
-returns-in-Err-Memory-clause-fetches g c = fetches_none g.P.Pages c.args.tables.now.ext c.args.tables.now.catalog c.args.pages.now _
+returns-in-Err-Memory-clause-fetches g c = fetches_none g.P.Pages c.args.tables.now.shape c.args.tables.now.catalog c.args.pages.now _
 
 pub returns-in-Ok-clause-fetches : goal.returns-in-Ok-clause-fetches
 returns-in-Ok-clause-fetches g c =
-    subst (FetchesForQuery g.P.Pages c.args.tables.now.ext c.args.pages.now c.carry_out.new.pages c.args.tables.now.catalog) c.in-Ok.ensures.bound.1 c.carry_out.ensures.fetches
+    subst (FetchesForQuery g.P.Pages c.args.tables.now.shape c.args.pages.now c.carry_out.new.pages c.args.tables.now.catalog) c.in-Ok.ensures.bound.1 c.carry_out.ensures.fetches

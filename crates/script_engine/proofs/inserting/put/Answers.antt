@@ -1,11 +1,10 @@
-use Rattle.std.proofs.Common.{ap, length, refl, sym, subst}
+use Rattle.std.proofs.Common.{◌∙◌, ap, length, refl, sym, subst}
 use Rattle.std.specs.Prelude.{IsSome}
 use Rattle.store_api.proofs.RunsOverPagesLemmas.{runs_then}
 use Rattle.entry_tree.proofs.ClaimsLemmas.{if_err_by}
 use Rattle.script_engine.proofs.InsertedLemmas.{full_insert, inserted, lacks_never, may_number_back, numbered_back, stands_on}
 use Rattle.script_engine.proofs.PuttingTuplesLemmas.{numbers_left, of_that, there_is}
 use Rattle.script_engine.proofs.ServedDefsLemmas.{served_below, served_on}
-use Rattle.extent_map.specs.Owners.{IsSameShape}
 use Rattle.script_engine.specs.Ready.{AreServed}
 use Rattle.script_engine.specs.declared.tables.Tables.{Tables}
 use Rattle.script_engine.proofs.inserting.put.Goals as goal
@@ -47,6 +46,7 @@ returns-in-Ok-clause-does g c ready =
       unsaid = of_that _ there.0 _ there.1 c.requires.unsaid;
       inserts = c.in_ok-put_rows.ensures.inserts there.0 there.1;
       catalog = c.in_ok-put_rows.ensures.numbers there.0 there.1;
+      shape = c.in_ok-put_rows.ensures.shape;
       rooms = c.in_ok-put_rows.ensures.rooms;
       told_mid = c.in_ok-put_rows.ensures.runs.works.steady.is_told;
       told_new = c.in-Ok.ensures.runs.works.steady.is_told;
@@ -76,7 +76,7 @@ returns-in-Err-clause-keeps g c =
     let there = there_is _ _ c.requires.there in
     let back = numbered_back c.args.tables.now.catalog c.put_rows.new.tables.catalog c.args.table there.0 (length c.args.tuples) c.requires.served there.1
     (c.in_ok-put_rows.ensures.numbers there.0 there.1) c.len-count.result c.number_back.new.tables.catalog c.len-count.ensures c.number_back.ensures.numbers in
-    record { shape = subst (IsSameShape c.args.tables.now.ext) (sym (ap (λ (t : Tables). t.ext) c.number_back.ensures.same)) c.in_ok-put_rows.ensures.shape; served = subst AreServed (sym back) c.requires.served; kept = back }
+    record { shape = ap (λ (t : Tables). t.shape) c.number_back.ensures.same ∙ c.in_ok-put_rows.ensures.shape; served = subst AreServed (sym back) c.requires.served; kept = back }
 
 pub returns-in-Err-clause-runs : goal.returns-in-Err-clause-runs
 returns-in-Err-clause-runs g c =

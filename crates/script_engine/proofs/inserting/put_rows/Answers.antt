@@ -43,15 +43,15 @@ returns-clause-inserts g c def at =
     let low = table_below c.args.tables.now.catalog c.args.tables.now.rooms.by_table c.args.table def c.requires.served at long in
     let same : c.in-Some.def ≡ def = same_Some c.in-Some.def def (c.in-Some.ensures.taken ∙ at) in
     rooms_as (λ (room room_now : Entry → RoomNote).
-    OnOk c.insert_rows-result.result ((owners : List Kind) (forests : TableForests) → IsReadyBetween g.P.Pages c.args.tables.now.ext room c.args.pages.now def owners forests
-    → ChangesRowsOf g.P.Pages c.args.tables.now.ext c.insert_rows-result.new.ext room_now c.args.pages.now c.insert_rows-result.new.pages def (numbered_on def (length c.args.tuples)) owners forests
-    (λ was space is. PutsRowsBy def (block_slot_count c.args.tables.now.ext def) was (numbered def.next c.args.tuples) space is) (appended c.args.tuples)))
+    OnOk c.insert_rows-result.result ((owners : List Kind) (forests : TableForests) → IsReadyBetween g.P.Pages c.args.tables.now.shape c.args.tables.now.notes room c.args.pages.now def owners forests
+    → ChangesRowsOf g.P.Pages c.args.tables.now.shape c.args.tables.now.notes c.insert_rows-result.new.notes room_now c.args.pages.now c.insert_rows-result.new.pages def (numbered_on def (length c.args.tuples)) owners forests
+    (λ was space is. PutsRowsBy def (block_slot_count c.args.tables.now.shape def) was (numbered def.next c.args.tuples) space is) (appended c.args.tuples)))
     (room_lent c.args.tables.now.rooms.by_table c.args.table c.index-tables-table.result low) (room_left c.args.tables.now.rooms.by_table c.args.table c.insert_rows-result.new.rooms low)
     (becomes c.insert_rows-result.result c.in-Some.def c.insert_rows-result.new.def (length c.args.tuples) c.insert_rows-result.ensures.next
     (λ d now. (owners : List Kind) (forests : TableForests)
-    → IsReadyBetween g.P.Pages c.args.tables.now.ext (room_of (get_or c.args.tables.now.rooms.by_table c.args.table c.index-tables-table.result)) c.args.pages.now d owners forests
-    → ChangesRowsOf g.P.Pages c.args.tables.now.ext c.insert_rows-result.new.ext (room_of c.insert_rows-result.new.rooms) c.args.pages.now c.insert_rows-result.new.pages d now owners forests
-    (λ was space is. PutsRowsBy d (block_slot_count c.args.tables.now.ext d) was (numbered d.next c.args.tuples) space is) (appended c.args.tuples))
+    → IsReadyBetween g.P.Pages c.args.tables.now.shape c.args.tables.now.notes (room_of (get_or c.args.tables.now.rooms.by_table c.args.table c.index-tables-table.result)) c.args.pages.now d owners forests
+    → ChangesRowsOf g.P.Pages c.args.tables.now.shape c.args.tables.now.notes c.insert_rows-result.new.notes (room_of c.insert_rows-result.new.rooms) c.args.pages.now c.insert_rows-result.new.pages d now owners forests
+    (λ was space is. PutsRowsBy d (block_slot_count c.args.tables.now.shape d) was (numbered d.next c.args.tuples) space is) (appended c.args.tuples))
     def same c.insert_rows-result.ensures.inserts)
 
 pub returns-clause-numbers : goal.returns-clause-numbers
@@ -75,5 +75,5 @@ returns-clause-runs g c =
     let low = table_below c.args.tables.now.catalog c.args.tables.now.rooms.by_table c.args.table c.in-Some.def c.requires.served at long in
     let between = ready_between g.P.Pages c.args.pages.now c.args.tables.now c.args.table c.in-Some.def c.requires.served ready at in
     breaks.broken ready.view.owners between.0
-    (subst (λ (room : Entry → RoomNote). IsReadyBetween g.P.Pages c.args.tables.now.ext room c.args.pages.now c.in-Some.def ready.view.owners between.0)
+    (subst (λ (room : Entry → RoomNote). IsReadyBetween g.P.Pages c.args.tables.now.shape c.args.tables.now.notes room c.args.pages.now c.in-Some.def ready.view.owners between.0)
     (room_lent c.args.tables.now.rooms.by_table c.args.table c.index-tables-table.result low) between.1) tt)

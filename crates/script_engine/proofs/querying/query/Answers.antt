@@ -40,15 +40,15 @@ returns-in-Err-Overflow-clause-does g c ready =
 
 pub returns-in-Ok-clause-fetches : goal.returns-in-Ok-clause-fetches
 returns-in-Ok-clause-fetches g c =
-    fetches_query g.P.Pages c.args.tables.now.ext c.args.tables.now.catalog c.args.pages.now c.answer.new.pages c.args.select.now c.in-Some.def.now c.in-Some.ensures c.in-Ok.ensures.runs.brings
+    fetches_query g.P.Pages c.args.tables.now.shape c.args.tables.now.catalog c.args.pages.now c.answer.new.pages c.args.select.now c.in-Some.def.now c.in-Some.ensures c.in-Ok.ensures.runs.brings
 
 pub returns-in-Err-Overflow-clause-fetches : goal.returns-in-Err-Overflow-clause-fetches
 returns-in-Err-Overflow-clause-fetches g c =
-    fetches_query g.P.Pages c.args.tables.now.ext c.args.tables.now.catalog c.args.pages.now c.answer.new.pages c.args.select.now c.in-Some.def.now c.in-Some.ensures c.in-Err-Overflow.ensures.runs.brings
+    fetches_query g.P.Pages c.args.tables.now.shape c.args.tables.now.catalog c.args.pages.now c.answer.new.pages c.args.select.now c.in-Some.def.now c.in-Some.ensures c.in-Err-Overflow.ensures.runs.brings
 
 pub returns-in-Err-Store-clause-fetches : goal.returns-in-Err-Store-clause-fetches
 returns-in-Err-Store-clause-fetches g c =
-    fetches_query g.P.Pages c.args.tables.now.ext c.args.tables.now.catalog c.args.pages.now c.answer.new.pages c.args.select.now c.in-Some.def.now c.in-Some.ensures c.in-Err-Store.ensures.runs.brings
+    fetches_query g.P.Pages c.args.tables.now.shape c.args.tables.now.catalog c.args.pages.now c.answer.new.pages c.args.select.now c.in-Some.def.now c.in-Some.ensures c.in-Err-Store.ensures.runs.brings
 
 pub returns-in-Ok-clause-runs : goal.returns-in-Ok-clause-runs
 returns-in-Ok-clause-runs g c =

@@ -11,7 +11,7 @@ returns-in_err-hits-clause-runs g c =
 pub returns-in-Some-clause-runs : goal.returns-in-Some-clause-runs
 returns-in-Some-clause-runs g c =
     runs_damage (runs_wider c.in_ok-hits.ensures.runs (λ p there none. none) (λ p of. tt) (λ damage breaks. breaks.broken))
-    (unfit_breaks g.P.Pages c.args.ext.now c.args.pages.now c.args.def.now c.args.pred.now c.in_ok-hits.hits.items c.unfit_row.result c.in_ok-hits.ensures.finds
+    (unfit_breaks g.P.Pages c.args.shape c.args.pages.now c.args.def.now c.args.pred.now c.in_ok-hits.hits.items c.unfit_row.result c.in_ok-hits.ensures.finds
     (fit_of c.args.def.now.columns c.as_slice.result.now c.in_ok-hits.hits.items c.as_slice-2.result.now false c.as_slice.ensures c.as_slice-2.ensures.value c.in-Some.ensures))
 
 pub returns-clause-fit : goal.returns-clause-fit

@@ -116,7 +116,7 @@ returns-clause-does g c ready =
     first_of-nothing _ (said_of columns c.as_slice.result.now c.args.sets.now hits c.as_slice-2.result.now None c.as_slice.ensures c.as_slice-2.ensures.value c.in_default-first_misfit_of_hits.ensures) in
     update_does g.P.Pages c.args.pages.now c.find_fitting.new.pages c.change_rows.new.pages c.args.tables.now _ c.args.table c.in-Some.def.now c.args.sets.now c.args.pred.now hits c.as_slice-3.result.now c.requires.served
     c.in-Some.ensures lent c.in_ok-hits.ensures.runs.works.steady.is_told c.find_fitting.ensures.same c.in_ok-hits.ensures.finds (ap (map turned_row) c.as_slice-3.ensures.value ∙ c.in-Ok.ensures) _ left nothing
-    (c.len.ensures ∙ sym c.as_slice-3.ensures.len) c.in_ok-change_rows.ensures.changes refl (rooms_beside c.args.tables.now.rooms.by_table c.args.table c.change_rows.new.rooms) ready
+    (c.len.ensures ∙ sym c.as_slice-3.ensures.len) c.in_ok-change_rows.ensures.changes refl refl (rooms_beside c.args.tables.now.rooms.by_table c.args.table c.change_rows.new.rooms) ready
 
 pub returns-clause-runs : goal.returns-clause-runs
 returns-clause-runs g c =

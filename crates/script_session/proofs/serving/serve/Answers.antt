@@ -14,7 +14,6 @@ use Rattle.script_session.specs.declared.stop.SessionStop.TheVariants.{Damaged, 
 use Rattle.script_session.proofs.AskedEndsLemmas.{takes_asked_done, takes_asked_reading, takes_asked_turning, takes_unasked}
 use Rattle.script_session.proofs.AskingLemmas.{IsAsked, asked_next, given_first, given_next}
 use Rattle.script_session.proofs.DamagedLemmas.{opened_behind-append}
-use Rattle.script_session.proofs.GoingLemmas.{same_shape, shape_then}
 use Rattle.script_session.proofs.HandedLemmas.{handed}
 use Rattle.script_session.proofs.ReplyingLemmas.{replied_first, replied_more, replies_broken, replies_done, replies_reading, replies_turning, replies_unasked}
 use Rattle.script_session.proofs.ServingLemmas.{answered_first, answered_more, exit_done, exit_first, exit_reading, exit_turning}
@@ -59,7 +58,7 @@ loop-reply-init g c = record {
   fits = omega (arith, ap (λ (reader : Holding). reader.count) c.in_ok-statements.ensures.held);
   opened = refl;
   committed = λ all. all;
-  shape = same_shape c.args.engine.now.tables.ext;
+  shape = refl;
   reads = refl;
   unsaid = refl;
   device = refl;
@@ -88,7 +87,7 @@ loop-reply-preserved g c =
       fits = elim asks.within [ inl fits ↦ fits | inr e ↦ absurd (cc) ];
       opened = turns.opens ∙ (ap (λ was. opened_by_item (item_of read) was) was.opened ∙ sym (opened_behind-append was.items (item_of read ∷ []) c.args.engine.now.is_open));
       committed = λ all. turns.keeps (was.committed all);
-      shape = shape_then was.shape turns.shape;
+      shape = turns.shape ∙ was.shape;
       reads = elim asks.no_fault [ inl e ↦ absurd (cc) | inr still ↦ still ∙ was.reads ];
       unsaid = turns.unsaid.still (λ e. cc) ∙ was.unsaid;
       device = turns.device.still (λ e. cc) ∙ was.device;

@@ -1,7 +1,6 @@
 use Rattle.std.proofs.Common.{◌≡◌, ◌≤◌, List}
 use Rattle.mdc_ast.specs.Reading.{Item}
 use Rattle.sql_reader.specs.Holding.{work_left}
-use Rattle.extent_map.specs.Owners.{IsSameShape}
 use Rattle.script_engine.specs.Leaving.{IsAllCommitted}
 use Rattle.script_engine.specs.Serving.{IsReadyEngine, MayCall, held_by}
 use Rattle.mdc_words.specs.Time.{OverTime}
@@ -27,7 +26,7 @@ invariant-loop-reply g l =
       fits : l.statements.count ≤ 67108864;
       opened : l.engine.is_open ≡ opened_behind items l.fn.engine.is_open;
       committed : IsAllCommitted (held_by g.S.Pages l.fn.engine) → IsAllCommitted (held_by g.S.Pages l.engine);
-      shape : IsSameShape l.fn.engine.tables.ext l.engine.tables.ext;
+      shape : l.engine.tables.shape ≡ l.fn.engine.tables.shape;
       reads : g.I.Source.read_faults l.input ≡ g.I.Source.read_faults l.fn.input;
       unsaid : g.S.Pages.say_faults l.engine.store ≡ g.S.Pages.say_faults l.fn.engine.store;
       device : g.S.Pages.disk_faults l.engine.store ≡ g.S.Pages.disk_faults l.fn.engine.store;

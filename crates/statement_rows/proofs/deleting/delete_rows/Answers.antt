@@ -2,7 +2,6 @@ use Rattle.std.proofs.Common.{◌≡◌, ◌+◌, ◌∙◌, ◌∷◌, None, So
 use Rattle.std.proofs.lemmas.List.{drop_all}
 use Rattle.std.proofs.lemmas.List.Elements.{All-get_or}
 use Rattle.store_api.proofs.RunsOverPagesLemmas.{runs_exit, runs_none}
-use Rattle.entry_tree.proofs.ClaimsLemmas.{shape_none, shape_then}
 use Rattle.block_rows.specs.HeldRows.{HasReadValues}
 use Rattle.block_rows.specs.declared.hit.Hit.{Hit}
 use Rattle.free_space.specs.RoomNotes.{room_of}
@@ -13,9 +12,8 @@ use Rattle.statement_rows.proofs.deleting.delete_rows.Goals as goal
 
 pub loop-hit-init : goal.loop-hit-init
 loop-hit-init g c = record {
-  deletes = λ owners forests ready has. deletes_none g.P.Pages c.args.ext.now (room_of c.args.rooms.now) c.args.pages.now c.args.def.now c.args.hits.now owners forests ready has;
+  deletes = λ owners forests ready has. deletes_none g.P.Pages c.args.shape c.args.notes.now (room_of c.args.rooms.now) c.args.pages.now c.args.def.now c.args.hits.now owners forests ready has;
   count = refl;
-  shape = shape_none c.args.ext.now;
   runs = runs_none;
 }
 
@@ -31,8 +29,8 @@ returns-in_err-delete_row-clause-runs g c =
     let split : drop c.loop-hit.hit-index c.args.hits.now ≡ c.hit-item.result ∷ drop (c.loop-hit.hit-index + 1) c.args.hits.now =
     rest_at c.args.hits.now c.loop-hit.hit-index c.hit-item.result c.loop-hit-test.true c.hit-item.is in
     runs_exit c.from_residual.result c.from_residual.ensures.1
-    (row_out_run g.P.Pages c.args.ext.now c.loop-hit.ext (room_of c.args.rooms.now) (room_of c.loop-hit.rooms) c.args.pages.now c.loop-hit.pages c.args.def.now c.args.hits.now
-    (drop c.loop-hit.hit-index c.args.hits.now) c.hit-item.result (drop (c.loop-hit.hit-index + 1) c.args.hits.now) split so_far.deletes c.delete_row.new.pages (Some c.in_err-delete_row.field-0.0) so_far.shape so_far.runs
+    (row_out_run g.P.Pages c.args.shape c.args.notes.now c.loop-hit.notes (room_of c.args.rooms.now) (room_of c.loop-hit.rooms) c.args.pages.now c.loop-hit.pages c.args.def.now c.args.hits.now
+    (drop c.loop-hit.hit-index c.args.hits.now) c.hit-item.result (drop (c.loop-hit.hit-index + 1) c.args.hits.now) split so_far.deletes c.delete_row.new.pages (Some c.in_err-delete_row.field-0.0) so_far.runs
     c.in_err-delete_row.ensures.runs)
 
 pub loop-hit-preserved : goal.loop-hit-preserved
@@ -42,17 +40,16 @@ loop-hit-preserved g c =
     let split : drop c.loop-hit.hit-index c.args.hits.now ≡ c.hit-item.result ∷ drop (c.loop-hit.hit-index + 1) c.args.hits.now =
     rest_at c.args.hits.now c.loop-hit.hit-index c.hit-item.result c.loop-hit-test.true c.hit-item.is in
     record {
-      deletes = row_out g.P.Pages c.args.ext.now c.loop-hit.ext (room_of c.args.rooms.now) (room_of c.loop-hit.rooms) c.args.pages.now c.loop-hit.pages c.args.def.now c.args.hits.now
-          (drop c.loop-hit.hit-index c.args.hits.now) c.hit-item.result (drop (c.loop-hit.hit-index + 1) c.args.hits.now) split so_far.deletes c.delete_row.new.ext (room_of c.delete_row.new.rooms) c.delete_row.new.pages
+      deletes = row_out g.P.Pages c.args.shape c.args.notes.now c.loop-hit.notes (room_of c.args.rooms.now) (room_of c.loop-hit.rooms) c.args.pages.now c.loop-hit.pages c.args.def.now c.args.hits.now
+          (drop c.loop-hit.hit-index c.args.hits.now) c.hit-item.result (drop (c.loop-hit.hit-index + 1) c.args.hits.now) split so_far.deletes c.delete_row.new.notes (room_of c.delete_row.new.rooms) c.delete_row.new.pages
           said.deletes said.makes said.sound said.stands_for said.runs.works said.runs.touches;
       count = said.count ∙ so_far.count;
-      shape = shape_then c.args.ext.now c.loop-hit.ext c.delete_row.new.ext so_far.shape said.shape;
-      runs = row_out_run g.P.Pages c.args.ext.now c.loop-hit.ext (room_of c.args.rooms.now) (room_of c.loop-hit.rooms) c.args.pages.now c.loop-hit.pages c.args.def.now c.args.hits.now
-          (drop c.loop-hit.hit-index c.args.hits.now) c.hit-item.result (drop (c.loop-hit.hit-index + 1) c.args.hits.now) split so_far.deletes c.delete_row.new.pages None so_far.shape so_far.runs said.runs;
+      runs = row_out_run g.P.Pages c.args.shape c.args.notes.now c.loop-hit.notes (room_of c.args.rooms.now) (room_of c.loop-hit.rooms) c.args.pages.now c.loop-hit.pages c.args.def.now c.args.hits.now
+          (drop c.loop-hit.hit-index c.args.hits.now) c.hit-item.result (drop (c.loop-hit.hit-index + 1) c.args.hits.now) split so_far.deletes c.delete_row.new.pages None so_far.runs said.runs;
     }
 
 pub returns-clause-deletes : goal.returns-clause-deletes
 returns-clause-deletes g c owners forests ready has =
-    deletes_all g.P.Pages c.args.ext.now c.loop-hit.ext (room_of c.loop-hit.rooms) c.args.pages.now c.loop-hit.pages c.args.def.now c.args.hits.now owners forests
-    (subst (λ rest. DeletesOn g.P.Pages c.args.ext.now c.loop-hit.ext (room_of c.loop-hit.rooms) c.args.pages.now c.loop-hit.pages c.args.def.now c.args.hits.now rest owners forests)
+    deletes_all g.P.Pages c.args.shape c.args.notes.now c.loop-hit.notes (room_of c.loop-hit.rooms) c.args.pages.now c.loop-hit.pages c.args.def.now c.args.hits.now owners forests
+    (subst (λ rest. DeletesOn g.P.Pages c.args.shape c.args.notes.now c.loop-hit.notes (room_of c.loop-hit.rooms) c.args.pages.now c.loop-hit.pages c.args.def.now c.args.hits.now rest owners forests)
     (drop_all c.loop-hit.hit-index c.args.hits.now (omega (arith, c.loop-hit-test.false))) (c.loop-hit.invariant.deletes owners forests ready has))

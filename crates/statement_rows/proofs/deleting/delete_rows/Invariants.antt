@@ -1,6 +1,5 @@
 use Rattle.std.proofs.Common.{◌≡◌, List, None, length, map, drop}
 use Rattle.store_api.specs.RunsOverPages.{RunsOverPages}
-use Rattle.extent_map.specs.Owners.{IsSameShape}
 use Rattle.extent_map.specs.declared.kind.Kind.{Kind}
 use Rattle.block_rows.specs.HeldRows.{placed_row}
 use Rattle.mdc_sound.specs.StandingTable.{TableForests}
@@ -12,11 +11,10 @@ use Rattle.statement_rows.proofs.deleting.delete_rows.Given as goal
 -- the first rows were deleted
 abbrev pub invariant-loop-hit : goal.invariant-loop-hit
 invariant-loop-hit g l = record {
-  deletes : (owners : List Kind) (forests : TableForests) → IsReadyBetween g.P.Pages l.fn.ext (room_of l.fn.rooms) l.fn.pages l.fn.def owners forests
-      → HasTheseRows g.P.Pages l.fn.ext l.fn.pages l.fn.def (map placed_row l.fn.hits) owners forests
-      → DeletesOn g.P.Pages l.fn.ext l.ext (room_of l.rooms) l.fn.pages l.pages l.fn.def l.fn.hits (drop l.hit-index l.fn.hits) owners forests;
+  deletes : (owners : List Kind) (forests : TableForests) → IsReadyBetween g.P.Pages l.fn.shape l.fn.notes (room_of l.fn.rooms) l.fn.pages l.fn.def owners forests
+      → HasTheseRows g.P.Pages l.fn.shape l.fn.pages l.fn.def (map placed_row l.fn.hits) owners forests
+      → DeletesOn g.P.Pages l.fn.shape l.fn.notes l.notes (room_of l.rooms) l.fn.pages l.pages l.fn.def l.fn.hits (drop l.hit-index l.fn.hits) owners forests;
   count : length (g.P.Pages.state l.pages).work ≡ length (g.P.Pages.state l.fn.pages).work;
-  shape : IsSameShape l.fn.ext l.ext;
-  runs : RunsOverPages g.P.Pages AnyPage AnyPage (BreaksReady g.P.Pages l.fn.ext (room_of l.fn.rooms) l.fn.pages l.fn.def (HasTheseRows g.P.Pages l.fn.ext l.fn.pages l.fn.def (map placed_row l.fn.hits)))
+  runs : RunsOverPages g.P.Pages AnyPage AnyPage (BreaksReady g.P.Pages l.fn.shape l.fn.notes (room_of l.fn.rooms) l.fn.pages l.fn.def (HasTheseRows g.P.Pages l.fn.shape l.fn.pages l.fn.def (map placed_row l.fn.hits)))
       l.fn.pages l.pages None;
 }

@@ -46,8 +46,8 @@ returns-in_err-make_table-clause-full g c =
     let found = found_is c.args.catalog.now c.enter-place.new.self c.take.new.self c.enter-place.result c.args.def c.in-Some.def
     (record { lowest = c.enter-place.ensures.lowest; put = c.enter-place.ensures.entered; taken = c.in-Some.ensures.taken; left = c.in-Some.ensures.left }) in
     if_err_by c.from_residual.result c.in_err-make_table.field-0.0 _ c.from_residual.ensures.1
-    (subst (λ (d : TableDef). IfFull c.in_err-make_table.field-0.0 (λ cap. (cap ≡ c.args.ext.now.cap) × ((owners : _) → HoldsMap g.P.Pages c.args.ext.now c.args.pages.now owners → AreRightNotes c.args.ext.now owners
-    → CreateRunsFull c.args.ext.now (g.P.Pages.state c.args.pages.now).work d))) found c.in_err-make_table.ensures.full)
+    (subst (λ (d : TableDef). IfFull c.in_err-make_table.field-0.0 (λ cap. (cap ≡ c.args.shape.extents) × ((owners : _) → HoldsMap g.P.Pages c.args.shape c.args.pages.now owners → AreRightNotes c.args.shape c.args.notes.now owners
+    → CreateRunsFull c.args.shape (g.P.Pages.state c.args.pages.now).work d))) found c.in_err-make_table.ensures.full)
 
 pub returns-in_err-make_table-clause-runs : goal.returns-in_err-make_table-clause-runs
 returns-in_err-make_table-clause-runs g c =
@@ -85,9 +85,9 @@ returns-clause-stored g c owners held stored =
     let made = c.in_ok-make_table.ensures in
     stored_kept c.args.catalog.now c.enter-place.new.self c.take.new.self c.enter-place.result c.args.def c.in-Some.def
     (record { lowest = c.enter-place.ensures.lowest; put = c.enter-place.ensures.entered; taken = c.in-Some.ensures.taken; left = c.in-Some.ensures.left })
-    c.make_table.new.def c.put.new.self made.rooted c.put.ensures g.P.Pages c.args.ext.now c.args.pages.now c.make_table.new.pages owners held
-    (subst (λ t. Touches g.P.Pages (IsMakingPage g.P.Pages c.args.ext.now c.args.pages.now t) c.args.pages.now c.make_table.new.pages) number made.runs.touches) c.requires.limits made.roots stored
-    (subst (λ t. table_page_at (g.P.Pages.state c.make_table.new.pages).work t ≡ table_page c.make_table.new.def) number (made.writes (map_tells g.P.Pages c.args.ext.now c.args.pages.now owners held)))
+    c.make_table.new.def c.put.new.self made.rooted c.put.ensures g.P.Pages c.args.shape c.args.pages.now c.make_table.new.pages owners held
+    (subst (λ t. Touches g.P.Pages (IsMakingPage g.P.Pages c.args.shape c.args.pages.now t) c.args.pages.now c.make_table.new.pages) number made.runs.touches) c.requires.limits made.roots stored
+    (subst (λ t. table_page_at (g.P.Pages.state c.make_table.new.pages).work t ≡ table_page c.make_table.new.def) number (made.writes (map_tells g.P.Pages c.args.shape c.args.pages.now owners held)))
 
 pub returns-clause-adds : goal.returns-clause-adds
 returns-clause-adds g c told stored view keeps =
@@ -95,8 +95,8 @@ returns-clause-adds g c told stored view keeps =
     (record { lowest = c.enter-place.ensures.lowest; put = c.enter-place.ensures.entered; taken = c.in-Some.ensures.taken; left = c.in-Some.ensures.left }) in
     let pages = (g.P.Pages.state c.args.pages.now).work in
     let zeros = subst (λ (d : TableDef). table_page_at pages d.number ≡ zero_page) (sym found) (empty_place_zero pages c.args.catalog.now c.enter-place.result stored c.enter-place.ensures.lowest).1 in
-    let free = subst (λ (d : TableDef). IsNameFree view d.name) (sym found) (name_free c.args.ext.now pages view c.args.catalog.now c.args.def.name keeps stored c.requires.free) in
-    subst (λ place. IfSome place (λ now. AddsTable c.args.ext.now c.make_table.new.ext pages (g.P.Pages.state c.make_table.new.pages).work now view))
+    let free = subst (λ (d : TableDef). IsNameFree view d.name) (sym found) (name_free c.args.shape pages view c.args.catalog.now c.args.def.name keeps stored c.requires.free) in
+    subst (λ place. IfSome place (λ now. AddsTable c.args.shape c.args.notes.now c.make_table.new.notes pages (g.P.Pages.state c.make_table.new.pages).work now view))
     (made_there c.args.catalog.now c.enter-place.new.self c.take.new.self c.enter-place.result c.args.def c.in-Some.def
     (record { lowest = c.enter-place.ensures.lowest; put = c.enter-place.ensures.entered; taken = c.in-Some.ensures.taken; left = c.in-Some.ensures.left })
     c.make_table.new.def c.put.new.self c.in_ok-make_table.ensures.rooted c.put.ensures) (c.in_ok-make_table.ensures.adds told view keeps zeros free)
@@ -107,12 +107,12 @@ returns-clause-stands_for g c told stored view keeps db were =
     (record { lowest = c.enter-place.ensures.lowest; put = c.enter-place.ensures.entered; taken = c.in-Some.ensures.taken; left = c.in-Some.ensures.left }) in
     let pages = (g.P.Pages.state c.args.pages.now).work in
     let zeros = subst (λ (d : TableDef). table_page_at pages d.number ≡ zero_page) (sym found) (empty_place_zero pages c.args.catalog.now c.enter-place.result stored c.enter-place.ensures.lowest).1 in
-    let free = subst (λ (d : TableDef). IsNameFree view d.name) (sym found) (name_free c.args.ext.now pages view c.args.catalog.now c.args.def.name keeps stored c.requires.free) in
-    subst (λ place. IfSome place (λ now. PagesStandFor c.make_table.new.ext (g.P.Pages.state c.make_table.new.pages).work (with_place db c.enter-place.result (Some (plain_empty now)))))
+    let free = subst (λ (d : TableDef). IsNameFree view d.name) (sym found) (name_free c.args.shape pages view c.args.catalog.now c.args.def.name keeps stored c.requires.free) in
+    subst (λ place. IfSome place (λ now. PagesStandFor c.args.shape (g.P.Pages.state c.make_table.new.pages).work (with_place db c.enter-place.result (Some (plain_empty now)))))
     (made_there c.args.catalog.now c.enter-place.new.self c.take.new.self c.enter-place.result c.args.def c.in-Some.def
     (record { lowest = c.enter-place.ensures.lowest; put = c.enter-place.ensures.entered; taken = c.in-Some.ensures.taken; left = c.in-Some.ensures.left })
     c.make_table.new.def c.put.new.self c.in_ok-make_table.ensures.rooted c.put.ensures)
-    (subst (λ (d : TableDef). PagesStandFor c.make_table.new.ext (g.P.Pages.state c.make_table.new.pages).work (with_place db d.number (Some (plain_empty c.make_table.new.def)))) found
+    (subst (λ (d : TableDef). PagesStandFor c.args.shape (g.P.Pages.state c.make_table.new.pages).work (with_place db d.number (Some (plain_empty c.make_table.new.def)))) found
     (c.in_ok-make_table.ensures.stands_for told view keeps zeros free db were))
 
 pub returns-clause-runs : goal.returns-clause-runs

@@ -23,7 +23,7 @@ returns-in_err-write_def-clause-runs g c =
     let start = runs_wider c.in_ok-roots.ensures.runs (λ p there space. inr space) (λ p space. space) (λ damage breaks. breaks) in
     runs_exit_as store_part_of c.from_residual-in_err-write_def.result c.from_residual-in_err-write_def.ensures.1
     (runs_then start c.in_err-write_def.ensures.runs (λ p there is. inl is) (λ p none. absurd none)
-    (λ damage lacks. lacks_breaks g.P.Pages c.args.ext.now c.args.pages.now c.make_trees.new.pages c.args.def.now.number damage c.requires.place c.in_ok-roots.ensures.runs.works.no_shorter lacks))
+    (λ damage lacks. lacks_breaks g.P.Pages c.args.shape c.args.pages.now c.make_trees.new.pages c.args.def.now.number damage c.requires.place c.in_ok-roots.ensures.runs.works.no_shorter lacks))
 
 pub returns-clause-writes : goal.returns-clause-writes
 returns-clause-writes g c told =
@@ -36,7 +36,7 @@ pub returns-clause-adds : goal.returns-clause-adds
 returns-clause-adds g c told view keeps zeros free =
     let def = rooted c.args.def.now c.in_ok-roots.roots in
     let made = c.in_ok-roots.ensures in
-    table_added g.P.Pages c.args.ext.now c.make_trees.new.ext c.args.pages.now c.make_trees.new.pages c.write_def.new.pages def view (record {
+    table_added g.P.Pages c.args.shape c.args.notes.now c.make_trees.new.notes c.args.pages.now c.make_trees.new.pages c.write_def.new.pages def view (record {
       told = told;
       keeps = keeps;
       zeros = zeros;
@@ -44,7 +44,6 @@ returns-clause-adds g c told view keeps zeros free =
       low = c.requires.place;
       limits = table_def_of_new c.args.def.now.number c.args.def.now c.in_ok-roots.roots refl c.requires.limits made.roots;
       no_indexes = c.requires.limits.no_indexes;
-      shape = made.shape;
       longer = made.runs.works.no_shorter;
       touched = made.runs.touches;
       made = made.makes;
@@ -55,7 +54,7 @@ pub returns-clause-stands_for : goal.returns-clause-stands_for
 returns-clause-stands_for g c told view keeps zeros free =
     let def = rooted c.args.def.now c.in_ok-roots.roots in
     let made = c.in_ok-roots.ensures in
-    table_stands_for g.P.Pages c.args.ext.now c.make_trees.new.ext c.args.pages.now c.make_trees.new.pages c.write_def.new.pages def view (record {
+    table_stands_for g.P.Pages c.args.shape c.args.notes.now c.make_trees.new.notes c.args.pages.now c.make_trees.new.pages c.write_def.new.pages def view (record {
       told = told;
       keeps = keeps;
       zeros = zeros;
@@ -63,7 +62,6 @@ returns-clause-stands_for g c told view keeps zeros free =
       low = c.requires.place;
       limits = table_def_of_new c.args.def.now.number c.args.def.now c.in_ok-roots.roots refl c.requires.limits made.roots;
       no_indexes = c.requires.limits.no_indexes;
-      shape = made.shape;
       longer = made.runs.works.no_shorter;
       touched = made.runs.touches;
       made = made.makes;
@@ -74,4 +72,4 @@ pub returns-clause-runs : goal.returns-clause-runs
 returns-clause-runs g c =
     let start = runs_wider c.in_ok-roots.ensures.runs (λ p there space. inr space) (λ p space. space) (λ damage breaks. breaks) in
     runs_then start c.in_ok-write_def.ensures.runs (λ p there is. inl is) (λ p none. absurd none)
-    (λ damage lacks. lacks_breaks g.P.Pages c.args.ext.now c.args.pages.now c.make_trees.new.pages c.args.def.now.number damage c.requires.place c.in_ok-roots.ensures.runs.works.no_shorter lacks)
+    (λ damage lacks. lacks_breaks g.P.Pages c.args.shape c.args.pages.now c.make_trees.new.pages c.args.def.now.number damage c.requires.place c.in_ok-roots.ensures.runs.works.no_shorter lacks)

@@ -15,7 +15,7 @@ pub returns-clause-stored : goal.returns-clause-stored
 returns-clause-stored g c told stored =
     subst (AreStored (g.P.Pages.state c.unmake_table.new.pages).work) (sym c.leave.ensures)
     (stored_but (g.P.Pages.state c.args.pages.now).work (g.P.Pages.state c.unmake_table.new.pages).work c.args.catalog.now c.args.table None stored
-    (λ u few apart. others_untouched g.P.Pages c.args.ext.now c.args.pages.now c.unmake_table.new.pages c.args.table u told c.in_ok-unmake_table.ensures.runs.touches c.unmake_table.ensures.count few apart)
+    (λ u few apart. others_untouched g.P.Pages c.args.shape c.args.pages.now c.unmake_table.new.pages c.args.table u told c.in_ok-unmake_table.ensures.runs.touches c.unmake_table.ensures.count few apart)
     (c.in_ok-unmake_table.ensures.clears told (stored_at (g.P.Pages.state c.args.pages.now).work c.args.catalog.now c.args.table c.in-Some.def.now stored c.in-Some.ensures)))
 
 pub returns-clause-drops : goal.returns-clause-drops

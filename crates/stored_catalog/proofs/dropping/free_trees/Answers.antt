@@ -1,7 +1,6 @@
 use Rattle.std.proofs.Common.{◌≡◌, ◌∙◌, ◌+◌, suc, [], None, Some, drop, ap, arith, sym, subst}
 use Rattle.std.specs.Prelude.{slice_get}
 use Rattle.store_api.proofs.RunsOverPagesLemmas.{runs_exit, runs_none}
-use Rattle.entry_tree.proofs.ClaimsLemmas.{shape_none, shape_then}
 use Rattle.table_trees.specs.TableTrees.{place_of_tree, tree_places}
 use Rattle.mdc_sound.proofs.DefinitionTreesLemmas.{has_block_indexes}
 use Rattle.stored_catalog.proofs.FreedTreesLemmas.{FreesSome, frees_all, frees_more, frees_none}
@@ -11,19 +10,18 @@ use Rattle.stored_catalog.proofs.dropping.free_trees.Goals as goal
 pub returns-in_err-free_all-clause-runs : goal.returns-in_err-free_all-clause-runs
 returns-in_err-free_all-clause-runs g c =
     runs_exit c.from_residual.result c.from_residual.ensures.1
-    (freeing_run g.P.Pages c.args.ext.now c.args.ext.now c.args.pages.now c.args.pages.now c.args.def.now 0 c.block_map_tree.result (ap Some (sym c.block_map_tree.ensures)) (shape_none c.args.ext.now)
-    (λ owners trees st. frees_none g.P.Pages c.args.ext.now c.args.pages.now owners (tree_places c.args.def.now) trees st) runs_none c.in_err-free_all.ensures.runs)
+    (freeing_run g.P.Pages c.args.shape c.args.notes.now c.args.notes.now c.args.pages.now c.args.pages.now c.args.def.now 0 c.block_map_tree.result (ap Some (sym c.block_map_tree.ensures))
+    (λ owners trees st. frees_none g.P.Pages c.args.shape c.args.notes.now c.args.pages.now owners (tree_places c.args.def.now) trees st) runs_none c.in_err-free_all.ensures.runs)
 
 pub loop-index-init : goal.loop-index-init
 loop-index-init g c = record {
   frees = λ owners trees st.
-      frees_more g.P.Pages c.args.ext.now c.args.ext.now c.args.pages.now owners trees (tree_places c.args.def.now) 0 c.block_map_tree.result (ap Some (sym c.block_map_tree.ensures)) (shape_none c.args.ext.now)
-      (frees_none g.P.Pages c.args.ext.now c.args.pages.now owners (tree_places c.args.def.now) trees st) c.free_all.new.ext c.free_all.new.pages c.free_all.ensures.shape
+      frees_more g.P.Pages c.args.shape c.args.notes.now c.args.notes.now c.args.pages.now owners trees (tree_places c.args.def.now) 0 c.block_map_tree.result (ap Some (sym c.block_map_tree.ensures))
+      (frees_none g.P.Pages c.args.shape c.args.notes.now c.args.pages.now owners (tree_places c.args.def.now) trees st) c.free_all.new.notes c.free_all.new.pages
       c.in_ok-free_all.ensures.freed c.in_ok-free_all.ensures.runs.works.steady.is_told c.in_ok-free_all.ensures.runs.touches;
-  shape = c.free_all.ensures.shape;
   count = c.free_all.ensures.count;
-  runs = freeing_run g.P.Pages c.args.ext.now c.args.ext.now c.args.pages.now c.args.pages.now c.args.def.now 0 c.block_map_tree.result (ap Some (sym c.block_map_tree.ensures)) (shape_none c.args.ext.now)
-      (λ owners trees st. frees_none g.P.Pages c.args.ext.now c.args.pages.now owners (tree_places c.args.def.now) trees st) {fault = None} runs_none c.in_ok-free_all.ensures.runs;
+  runs = freeing_run g.P.Pages c.args.shape c.args.notes.now c.args.notes.now c.args.pages.now c.args.pages.now c.args.def.now 0 c.block_map_tree.result (ap Some (sym c.block_map_tree.ensures))
+      (λ owners trees st. frees_none g.P.Pages c.args.shape c.args.notes.now c.args.pages.now owners (tree_places c.args.def.now) trees st) {fault = None} runs_none c.in_ok-free_all.ensures.runs;
 }
 
 pub block_index_tree-requires-clause-indexes : goal.block_index_tree-requires-clause-indexes
@@ -32,8 +30,8 @@ block_index_tree-requires-clause-indexes g c = has_block_indexes c.args.def.now.
 pub returns-in_err-free_all-2-clause-runs : goal.returns-in_err-free_all-2-clause-runs
 returns-in_err-free_all-2-clause-runs g c =
     runs_exit c.from_residual-in_err-free_all-2.result c.from_residual-in_err-free_all-2.ensures.1
-    (freeing_run g.P.Pages c.args.ext.now c.loop-index.ext c.args.pages.now c.loop-index.pages c.args.def.now (suc c.loop-index.index) c.block_index_tree.result
-    (index_at c.args.def.now c.loop-index.index c.block_index_tree.result c.block_index_tree.ensures) c.loop-index.invariant.shape c.loop-index.invariant.frees c.loop-index.invariant.runs
+    (freeing_run g.P.Pages c.args.shape c.args.notes.now c.loop-index.notes c.args.pages.now c.loop-index.pages c.args.def.now (suc c.loop-index.index) c.block_index_tree.result
+    (index_at c.args.def.now c.loop-index.index c.block_index_tree.result c.block_index_tree.ensures) c.loop-index.invariant.frees c.loop-index.invariant.runs
     c.in_err-free_all-2.ensures.runs)
 
 pub loop-index-preserved : goal.loop-index-preserved
@@ -43,13 +41,12 @@ loop-index-preserved g c =
     let next : suc (suc c.loop-index.index) ≡ suc (c.loop-index.index + 1) = omega arith in
     record {
       frees = λ owners trees st.
-          subst (λ n. FreesSome g.P.Pages c.args.ext.now c.free_all-in-loop-index.new.ext c.free_all-in-loop-index.new.pages owners trees (drop n (tree_places c.args.def.now))) next
-          (frees_more g.P.Pages c.args.ext.now c.loop-index.ext c.loop-index.pages owners trees (tree_places c.args.def.now) (suc c.loop-index.index) c.block_index_tree.result at c.loop-index.invariant.shape
-          (c.loop-index.invariant.frees owners trees st) c.free_all-in-loop-index.new.ext c.free_all-in-loop-index.new.pages c.free_all-in-loop-index.ensures.shape
+          subst (λ n. FreesSome g.P.Pages c.args.shape c.args.notes.now c.free_all-in-loop-index.new.notes c.free_all-in-loop-index.new.pages owners trees (drop n (tree_places c.args.def.now))) next
+          (frees_more g.P.Pages c.args.shape c.args.notes.now c.loop-index.notes c.loop-index.pages owners trees (tree_places c.args.def.now) (suc c.loop-index.index) c.block_index_tree.result at
+          (c.loop-index.invariant.frees owners trees st) c.free_all-in-loop-index.new.notes c.free_all-in-loop-index.new.pages
           c.in_ok-free_all-2.ensures.freed c.in_ok-free_all-2.ensures.runs.works.steady.is_told c.in_ok-free_all-2.ensures.runs.touches);
-      shape = shape_then _ _ _ c.loop-index.invariant.shape c.free_all-in-loop-index.ensures.shape;
       count = c.free_all-in-loop-index.ensures.count ∙ c.loop-index.invariant.count;
-      runs = freeing_run g.P.Pages c.args.ext.now c.loop-index.ext c.args.pages.now c.loop-index.pages c.args.def.now (suc c.loop-index.index) c.block_index_tree.result at c.loop-index.invariant.shape
+      runs = freeing_run g.P.Pages c.args.shape c.args.notes.now c.loop-index.notes c.args.pages.now c.loop-index.pages c.args.def.now (suc c.loop-index.index) c.block_index_tree.result at
           c.loop-index.invariant.frees {fault = None} c.loop-index.invariant.runs c.in_ok-free_all-2.ensures.runs;
     }
 
@@ -58,5 +55,5 @@ returns-clause-frees g c owners trees st =
     let none : drop (suc c.loop-index.index) (tree_places c.args.def.now) ≡ [] =
     no_more_places c.args.def.now c.loop-index.index (has_block_indexes c.args.def.now.number c.args.def.now c.requires.defined) c.requires.no_indexes
     (omega (arith, c.loop-index-test.false, c.len-index-end.ensures)) in
-    frees_all g.P.Pages c.args.ext.now c.loop-index.ext c.loop-index.pages owners trees
-    (subst (FreesSome g.P.Pages c.args.ext.now c.loop-index.ext c.loop-index.pages owners trees) none (c.loop-index.invariant.frees owners trees st))
+    frees_all g.P.Pages c.args.shape c.args.notes.now c.loop-index.notes c.loop-index.pages owners trees
+    (subst (FreesSome g.P.Pages c.args.shape c.args.notes.now c.loop-index.notes c.loop-index.pages owners trees) none (c.loop-index.invariant.frees owners trees st))

@@ -7,29 +7,29 @@ use Rattle.table_blocks.proofs.filling.put_if_room.Goals.{In-Some}
 use Rattle.table_blocks.proofs.filling.put_if_room.Goals as goal
 
 -- where the block has room, its line counts the row
-counted : (g : Over) (c : In-Some g) → CountsRow g.P.Pages c.args.ext.now c.args.pages.now c.count_row.new.pages c.args.def.now c.args.block c.at-map.result.tree c.in-Some._had
+counted : (g : Over) (c : In-Some g) → CountsRow g.P.Pages c.args.shape c.args.pages.now c.count_row.new.pages c.args.def.now c.args.block c.at-map.result.tree c.in-Some._had
 counted g c =
     let map = c.at-map.result in
     let row = c.in_ok-_had.ensures in
-    counts_row c.args.ext.now c.args.pages.now c.count_row.new.pages c.args.def.now c.args.block c.requires.defined c.requires.within map.tree c.at-map.ensures map.seven c.from.result (c.from.ensures ∙ c.capacity.ensures.value)
+    counts_row c.args.shape c.args.pages.now c.count_row.new.pages c.args.def.now c.args.block c.requires.defined c.requires.within map.tree c.at-map.ensures map.seven c.from.result (c.from.ensures ∙ c.capacity.ensures.value)
     c.in_ok-_had.field-0 c.in-Some._had c.in-Some.is (omega arith) row.room row.there row.more row.count row.runs
 
 pub returns-in_err-_had-clause-runs : goal.returns-in_err-_had-clause-runs
 returns-in_err-_had-clause-runs g c =
     let map = c.at-map.result in
     runs_exit c.from_residual.result c.from_residual.ensures.1
-    (runs_on_map c.args.ext.now c.args.pages.now c.args.def.now c.requires.defined map.tree c.at-map.ensures map.seven c.args.block c.in_err-_had.ensures.runs)
+    (runs_on_map c.args.shape c.args.pages.now c.args.def.now c.requires.defined map.tree c.at-map.ensures map.seven c.args.block c.in_err-_had.ensures.runs)
 
 pub returns-in_default-clause-no_room : goal.returns-in_default-clause-no_room
 returns-in_default-clause-no_room g c same =
     let map = c.at-map.result in
-    full_room c.args.ext.now c.args.pages.now c.args.def.now c.args.block c.requires.defined map.tree c.at-map.ensures map.seven c.from.result (c.from.ensures ∙ c.capacity.ensures.value)
+    full_room c.args.shape c.args.pages.now c.args.def.now c.args.block c.requires.defined map.tree c.at-map.ensures map.seven c.from.result (c.from.ensures ∙ c.capacity.ensures.value)
     c.in_ok-_had.field-0 c.in_default.is c.in_ok-_had.ensures.full c.args.row.now
 
 pub returns-in_default-clause-runs : goal.returns-in_default-clause-runs
 returns-in_default-clause-runs g c =
     let map = c.at-map.result in
-    runs_on_map c.args.ext.now c.args.pages.now c.args.def.now c.requires.defined map.tree c.at-map.ensures map.seven c.args.block c.in_ok-_had.ensures.runs
+    runs_on_map c.args.shape c.args.pages.now c.args.def.now c.requires.defined map.tree c.at-map.ensures map.seven c.args.block c.in_ok-_had.ensures.runs
 
 pub returns-in_err-slot-clause-runs : goal.returns-in_err-slot-clause-runs
 returns-in_err-slot-clause-runs g c =

@@ -8,32 +8,32 @@ use Rattle.table_blocks.proofs.filling.put_in_block.Goals as goal
 
 pub returns-in_default-clause-runs : goal.returns-in_default-clause-runs
 returns-in_default-clause-runs g c =
-    runs_broken {damage = miscount c.args.ext.now c.args.line.block} c.miscounted.result c.miscounted.ensures runs_none
-    (overfull c.args.ext.now c.args.pages.now c.args.def.now c.args.line c.requires.defined c.requires.within (omega arith) c.args.row.now (omega arith))
+    runs_broken {damage = miscount c.args.shape c.args.line.block} c.miscounted.result c.miscounted.ensures runs_none
+    (overfull c.args.shape c.args.pages.now c.args.def.now c.args.line c.requires.defined c.requires.within (omega arith) c.args.row.now (omega arith))
 
 pub returns-in_err-replace-clause-runs : goal.returns-in_err-replace-clause-runs
 returns-in_err-replace-clause-runs g c =
     let map = c.at-map.result in
     runs_exit c.from_residual.result c.from_residual.ensures.1
-    (runs_line c.args.ext.now c.args.pages.now c.args.def.now c.args.line c.requires.defined c.requires.within (omega arith) map.tree c.at-map.ensures map.seven c.args.row.now c.in_err-replace.ensures.runs)
+    (runs_line c.args.shape c.args.pages.now c.args.def.now c.args.line c.requires.defined c.requires.within (omega arith) map.tree c.at-map.ensures map.seven c.args.row.now c.in_err-replace.ensures.runs)
 
 pub returns-in_err-slot-clause-runs : goal.returns-in_err-slot-clause-runs
 returns-in_err-slot-clause-runs g c =
     let map = c.at-map.result in
     let replaced = c.in_ok-replace.ensures in
-    let ext = c.args.ext.now in
+    let shape = c.args.shape in
     let s = c.args.pages.now in
     let def = c.args.def.now in
     runs_exit c.from_residual-in_err-slot.result c.from_residual-in_err-slot.ensures.1
-    (runs_rows ext s def c.args.line c.requires.defined c.requires.within (omega arith) map.tree c.at-map.ensures map.seven c.replace.new.pages c.in-Some.rows replaced.there replaced.changes
-    replaced.count replaced.runs (HasRoomAt g.P.Pages ext s def c.args.line c.args.row.now)
-    (λ owners forests st at. (opens ext s def c.args.line c.requires.defined c.requires.within (omega arith) c.args.row.now owners forests st at).0) c.put_counted.new.pages c.in_err-slot.ensures.runs)
+    (runs_rows shape s def c.args.line c.requires.defined c.requires.within (omega arith) map.tree c.at-map.ensures map.seven c.replace.new.pages c.in-Some.rows replaced.there replaced.changes
+    replaced.count replaced.runs (HasRoomAt g.P.Pages shape s def c.args.line c.args.row.now)
+    (λ owners forests st at. (opens shape s def c.args.line c.requires.defined c.requires.within (omega arith) c.args.row.now owners forests st at).0) c.put_counted.new.pages c.in_err-slot.ensures.runs)
 
 pub returns-clause-fills : goal.returns-clause-fills
 returns-clause-fills g c =
     let map = c.at-map.result in
     let replaced = c.in_ok-replace.ensures in
-    fills c.args.ext.now c.args.pages.now c.args.def.now c.args.line c.requires.defined c.requires.within (omega arith) map.tree c.at-map.ensures map.seven
+    fills c.args.shape c.args.pages.now c.args.def.now c.args.line c.requires.defined c.requires.within (omega arith) map.tree c.at-map.ensures map.seven
     c.replace.new.pages c.in-Some.rows replaced.there replaced.changes replaced.count replaced.runs c.args.row.now c.put_counted.new.pages c.in_ok-slot.slot c.in-Some.ensures.1 c.requires.fits
     c.in_ok-slot.ensures.runs c.in_ok-slot.ensures.count c.in_ok-slot.ensures.puts
 
@@ -41,16 +41,16 @@ pub returns-clause-runs : goal.returns-clause-runs
 returns-clause-runs g c =
     let map = c.at-map.result in
     let replaced = c.in_ok-replace.ensures in
-    let ext = c.args.ext.now in
+    let shape = c.args.shape in
     let s = c.args.pages.now in
     let def = c.args.def.now in
-    runs_rows ext s def c.args.line c.requires.defined c.requires.within (omega arith) map.tree c.at-map.ensures map.seven c.replace.new.pages c.in-Some.rows replaced.there replaced.changes
-    replaced.count replaced.runs (HasRoomAt g.P.Pages ext s def c.args.line c.args.row.now)
-    (λ owners forests st at. (opens ext s def c.args.line c.requires.defined c.requires.within (omega arith) c.args.row.now owners forests st at).0) c.put_counted.new.pages c.in_ok-slot.ensures.runs
+    runs_rows shape s def c.args.line c.requires.defined c.requires.within (omega arith) map.tree c.at-map.ensures map.seven c.replace.new.pages c.in-Some.rows replaced.there replaced.changes
+    replaced.count replaced.runs (HasRoomAt g.P.Pages shape s def c.args.line c.args.row.now)
+    (λ owners forests st at. (opens shape s def c.args.line c.requires.defined c.requires.within (omega arith) c.args.row.now owners forests st at).0) c.put_counted.new.pages c.in_ok-slot.ensures.runs
 
 pub returns-clause-makes : goal.returns-clause-makes
 returns-clause-makes g c =
     let map = c.at-map.result in
     let replaced = c.in_ok-replace.ensures in
-    filling_space c.args.ext.now c.args.pages.now c.args.def.now c.args.line c.requires.defined c.requires.within (omega arith) map.tree c.at-map.ensures map.seven
+    filling_space c.args.shape c.args.pages.now c.args.def.now c.args.line c.requires.defined c.requires.within (omega arith) map.tree c.at-map.ensures map.seven
     c.replace.new.pages c.in-Some.rows replaced.there replaced.changes replaced.count replaced.runs c.args.row.now c.put_counted.new.pages c.in-Some.ensures.1 c.requires.used c.in_ok-slot.ensures.runs c.in_ok-slot.ensures.count

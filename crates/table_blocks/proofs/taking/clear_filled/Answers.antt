@@ -14,16 +14,16 @@ pub returns-in_err-clear_slot-clause-runs : goal.returns-in_err-clear_slot-claus
 returns-in_err-clear_slot-clause-runs g c =
     let slot = c.args.rid.slot in
     runs_exit c.from_residual.result c.from_residual.ensures.1
-    (runs_such c.args.ext.now c.args.pages.now c.args.def.now c.args.rid.block (λ (slots : List (Option Row)). (row : Row) × (slice_index_or slots slot None ≡ Some row)) (λ p is. is) c.requires.within
+    (runs_such c.args.shape c.args.pages.now c.args.def.now c.args.rid.block (λ (slots : List (Option Row)). (row : Row) × (slice_index_or slots slot None ≡ Some row)) (λ p is. is) c.requires.within
     c.in_err-clear_slot.ensures.runs)
 
 pub returns-then-not-branch-clause-runs : goal.returns-then-not-branch-clause-runs
 returns-then-not-branch-clause-runs g c =
     let slot = c.args.rid.slot in
     runs_broken c.miscounted.result c.miscounted.ensures
-    (runs_such c.args.ext.now c.args.pages.now c.args.def.now c.args.rid.block (λ (slots : List (Option Row)). (row : Row) × (slice_index_or slots slot None ≡ Some row)) (λ p is. is) c.requires.within
+    (runs_such c.args.shape c.args.pages.now c.args.def.now c.args.rid.block (λ (slots : List (Option Row)). (row : Row) × (slice_index_or slots slot None ≡ Some row)) (λ p is. is) c.requires.within
     c.in_ok-clear_slot.ensures.runs)
-    (empty_there c.args.ext.now c.args.pages.now c.args.def.now c.args.rid.block slot
+    (empty_there c.args.shape c.args.pages.now c.args.def.now c.args.rid.block slot
     (λ slots held. subst (IsFilledSlot slots slot) c.if-not-branch.true (c.in_ok-clear_slot.ensures.clears slots held).was))
 
 pub returns-clause-clears : goal.returns-clause-clears
@@ -32,9 +32,9 @@ returns-clause-clears g c slots held = (c.in_ok-clear_slot.ensures.clears slots 
 pub returns-clause-runs : goal.returns-clause-runs
 returns-clause-runs g c =
     let slot = c.args.rid.slot in
-    runs_such c.args.ext.now c.args.pages.now c.args.def.now c.args.rid.block (λ (slots : List (Option Row)). (row : Row) × (slice_index_or slots slot None ≡ Some row)) (λ p is. is) c.requires.within
+    runs_such c.args.shape c.args.pages.now c.args.def.now c.args.rid.block (λ (slots : List (Option Row)). (row : Row) × (slice_index_or slots slot None ≡ Some row)) (λ p is. is) c.requires.within
     c.in_ok-clear_slot.ensures.runs
 
 pub returns-clause-seen : goal.returns-clause-seen
 returns-clause-seen g c = λ told.
-    row_seen (SeesSlot c.args.ext.now (pages_of g.P.Pages c.args.pages.now) c.args.def.now c.args.rid) c.in_ok-clear_slot.field-0 c.if-not-branch.false (c.in_ok-clear_slot.ensures.seen told)
+    row_seen (SeesSlot c.args.shape (pages_of g.P.Pages c.args.pages.now) c.args.def.now c.args.rid) c.in_ok-clear_slot.field-0 c.if-not-branch.false (c.in_ok-clear_slot.ensures.seen told)

@@ -23,8 +23,8 @@ pub returns-in_err-had-clause-runs : goal.returns-in_err-had-clause-runs
 returns-in_err-had-clause-runs g c =
     let map = c.at-map.result in
     runs_exit c.from_residual.result c.from_residual.ensures.1
-    (runs_expected c.args.ext.now c.args.pages.now c.args.def.now (HasThisRow g.P.Pages c.args.ext.now c.args.pages.now c.args.def.now c.args.rid c.args.row.now) {fault = Some c.in_err-had.field-0.0}
-    (runs_on_map c.args.ext.now c.args.pages.now c.args.def.now c.requires.defined map.tree c.at-map.ensures map.seven c.args.rid.block c.in_err-had.ensures.runs))
+    (runs_expected c.args.shape c.args.pages.now c.args.def.now (HasThisRow g.P.Pages c.args.shape c.args.pages.now c.args.def.now c.args.rid c.args.row.now) {fault = Some c.in_err-had.field-0.0}
+    (runs_on_map c.args.shape c.args.pages.now c.args.def.now c.requires.defined map.tree c.at-map.ensures map.seven c.args.rid.block c.in_err-had.ensures.runs))
 
 -- ---- other rows are left in the block
 
@@ -33,7 +33,7 @@ returns-in_err-clear_filled-clause-runs g c =
     let map = c.at-map.result in
     let counted = c.in_ok-had.ensures in
     runs_exit c.from_residual-in_err-clear_filled.result c.from_residual-in_err-clear_filled.ensures.1
-    (runs_fewer c.args.ext.now c.args.pages.now c.discount_row.new.pages c.args.def.now c.args.rid c.requires.defined c.requires.within map.tree c.at-map.ensures map.seven c.in_ok-had.field-0 c.in-Some.had c.in-Some.is (omega arith) counted.some
+    (runs_fewer c.args.shape c.args.pages.now c.discount_row.new.pages c.args.def.now c.args.rid c.requires.defined c.requires.within map.tree c.at-map.ensures map.seven c.in_ok-had.field-0 c.in-Some.had c.in-Some.is (omega arith) counted.some
     counted.there counted.fewer counted.count counted.runs c.args.row.now c.clear_filled.new.pages c.in_err-clear_filled.ensures.runs)
 
 pub returns-in-Some-clause-takes : goal.returns-in-Some-clause-takes
@@ -41,14 +41,14 @@ returns-in-Some-clause-takes g c =
     let map = c.at-map.result in
     let counted = c.in_ok-had.ensures in
     let cleared = c.in_ok-clear_filled.ensures in
-    empties_fewer c.args.ext.now c.args.pages.now c.discount_row.new.pages c.args.def.now c.args.rid c.requires.defined c.requires.within map.tree c.at-map.ensures map.seven c.in_ok-had.field-0 c.in-Some.had c.in-Some.is (omega arith) counted.some
-    counted.there counted.fewer counted.count counted.runs c.clear_filled.new.pages cleared.runs.touches cleared.runs.works.steady.is_told cleared.count cleared.clears c.args.row.now
+    empties_fewer c.args.shape c.args.pages.now c.discount_row.new.pages c.args.def.now c.args.rid c.requires.defined c.requires.within map.tree c.at-map.ensures map.seven c.in_ok-had.field-0 c.in-Some.had c.in-Some.is (omega arith) counted.some
+    counted.there counted.fewer counted.count counted.runs c.clear_filled.new.pages cleared.runs.touches cleared.runs.works.steady.is_told cleared.count c.args.notes.now cleared.clears c.args.row.now
 
 pub returns-in-Some-clause-left : goal.returns-in-Some-clause-left
 returns-in-Some-clause-left g c =
     let map = c.at-map.result in
     let counted = c.in_ok-had.ensures in
-    left_counted c.args.ext.now c.args.pages.now c.discount_row.new.pages c.args.def.now c.args.rid c.requires.defined c.requires.within map.tree c.at-map.ensures map.seven c.in_ok-had.field-0 c.in-Some.had c.in-Some.is (omega arith) counted.some
+    left_counted c.args.shape c.args.pages.now c.discount_row.new.pages c.args.def.now c.args.rid c.requires.defined c.requires.within map.tree c.at-map.ensures map.seven c.in_ok-had.field-0 c.in-Some.had c.in-Some.is (omega arith) counted.some
     counted.there counted.fewer counted.count counted.runs c.args.row.now
 
 pub returns-in-Some-clause-makes : goal.returns-in-Some-clause-makes
@@ -56,13 +56,13 @@ returns-in-Some-clause-makes g c =
     let map = c.at-map.result in
     let counted = c.in_ok-had.ensures in
     let cleared = c.in_ok-clear_filled.ensures in
-    fewer_space c.args.ext.now c.args.pages.now c.discount_row.new.pages c.args.def.now c.args.rid c.requires.defined c.requires.within map.tree c.at-map.ensures map.seven c.in_ok-had.field-0 c.in-Some.had c.in-Some.is (omega arith) counted.some
+    fewer_space c.args.shape c.args.pages.now c.discount_row.new.pages c.args.def.now c.args.rid c.requires.defined c.requires.within map.tree c.at-map.ensures map.seven c.in_ok-had.field-0 c.in-Some.had c.in-Some.is (omega arith) counted.some
     counted.there counted.fewer counted.count counted.runs c.clear_filled.new.pages cleared.runs.touches cleared.runs.works.steady.is_told cleared.count c.args.row.now
 
 pub returns-in-Some-clause-seen : goal.returns-in-Some-clause-seen
 returns-in-Some-clause-seen g c = λ told apart.
     let map = c.at-map.result in
-    let ext = c.args.ext.now in
+    let shape = c.args.shape in
     let s = c.args.pages.now in
     let def = c.args.def.now in
     let counted = c.in_ok-had.ensures in
@@ -72,8 +72,8 @@ returns-in-Some-clause-seen g c = λ told apart.
       row.0,
       record {
         used = used_by_line s def map.tree c.at-map.ensures map.seven c.args.rid.block (used_row c.args.rid.block c.in-Some.had) small refl refl there;
-        slot = seen_before g.P.Pages ext s c.discount_row.new.pages def c.args.rid (Some row.0) c.requires.within c.requires.slot told counted.count counted.runs.touches
-            (tree_apart s def map.tree c.at-map.ensures map.seven ext c.args.rid.block apart) row.1;
+        slot = seen_before g.P.Pages shape s c.discount_row.new.pages def c.args.rid (Some row.0) c.requires.within c.requires.slot told counted.count counted.runs.touches
+            (tree_apart s def map.tree c.at-map.ensures map.seven shape c.args.rid.block apart) row.1;
       },
     )
 
@@ -81,7 +81,7 @@ pub returns-in-Some-clause-runs : goal.returns-in-Some-clause-runs
 returns-in-Some-clause-runs g c =
     let map = c.at-map.result in
     let counted = c.in_ok-had.ensures in
-    runs_fewer c.args.ext.now c.args.pages.now c.discount_row.new.pages c.args.def.now c.args.rid c.requires.defined c.requires.within map.tree c.at-map.ensures map.seven c.in_ok-had.field-0 c.in-Some.had c.in-Some.is (omega arith) counted.some
+    runs_fewer c.args.shape c.args.pages.now c.discount_row.new.pages c.args.def.now c.args.rid c.requires.defined c.requires.within map.tree c.at-map.ensures map.seven c.in_ok-had.field-0 c.in-Some.had c.in-Some.is (omega arith) counted.some
     counted.there counted.fewer counted.count counted.runs c.args.row.now c.clear_filled.new.pages c.in_ok-clear_filled.ensures.runs
 
 -- ---- it was the last one
@@ -91,38 +91,38 @@ same : (g : Over) (c : In_default g) → (g.P.Pages.state c.discount_row.new.pag
 same g c = subst (λ (o : Option ℕ). IfNone o ((g.P.Pages.state c.discount_row.new.pages).work ≡ (g.P.Pages.state c.args.pages.now).work)) c.in_default.is c.in_ok-had.ensures.kept
 
 -- so the block's line says that one is there
-sees : (g : Over) (c : In_ok-line g) → SeesLast g.P.Pages c.args.ext.now c.args.pages.now c.line_of_used.new.pages c.args.def.now c.args.rid c.at-map.result.tree c.in_ok-line.line
+sees : (g : Over) (c : In_ok-line g) → SeesLast g.P.Pages c.args.shape c.args.pages.now c.line_of_used.new.pages c.args.def.now c.args.rid c.at-map.result.tree c.in_ok-line.line
 sees g c =
     let map = c.at-map.result in
     let counted = c.in_ok-had.ensures in
     let line = c.in_ok-line.line in
     let seen = c.in_ok-line.ensures in
     let kept = subst (λ (o : Option ℕ). IfNone o ((g.P.Pages.state c.discount_row.new.pages).work ≡ (g.P.Pages.state c.args.pages.now).work)) c.in_default.is counted.kept in
-    sees_last c.args.ext.now c.args.pages.now c.args.def.now c.requires.defined c.args.rid c.requires.within map.tree c.at-map.ensures map.seven c.discount_row.new.pages c.in_ok-had.field-0 c.in_default.is counted.last counted.runs
+    sees_last c.args.shape c.args.pages.now c.args.def.now c.requires.defined c.args.rid c.requires.within map.tree c.at-map.ensures map.seven c.discount_row.new.pages c.in_ok-had.field-0 c.in_default.is counted.last counted.runs
     kept c.line_of_used.new.pages line (omega arith) seen.there seen.named seen.used c.line_of_used.ensures.same seen.runs
 
 pub returns-in_err-line-clause-runs : goal.returns-in_err-line-clause-runs
 returns-in_err-line-clause-runs g c =
-    let ext = c.args.ext.now in
+    let shape = c.args.shape in
     let s = c.args.pages.now in
     let def = c.args.def.now in
     let map = c.at-map.result in
     let kept = same g (goal.at.returns-in_err-line-clause-runs g c).In_default in
     runs_exit c.from_residual-in_err-line.result c.from_residual-in_err-line.ensures.1
-    (runs_this_row ext s def c.requires.defined c.args.rid c.requires.within c.args.row.now
-    (runs_of_table ext s def c.requires.defined c.args.rid c.requires.within map.tree c.at-map.ensures map.seven
-    (runs_looking ext s def c.requires.defined c.args.rid c.requires.within map.tree c.at-map.ensures map.seven c.discount_row.new.pages c.in_ok-had.ensures.runs kept c.in_err-line.ensures.runs)))
+    (runs_this_row shape s def c.requires.defined c.args.rid c.requires.within c.args.row.now
+    (runs_of_table shape s def c.requires.defined c.args.rid c.requires.within map.tree c.at-map.ensures map.seven
+    (runs_looking shape s def c.requires.defined c.args.rid c.requires.within map.tree c.at-map.ensures map.seven c.discount_row.new.pages c.in_ok-had.ensures.runs kept c.in_err-line.ensures.runs)))
 
 pub returns-in_err-clear_filled-2-clause-runs : goal.returns-in_err-clear_filled-2-clause-runs
 returns-in_err-clear_filled-2-clause-runs g c =
-    let ext = c.args.ext.now in
+    let shape = c.args.shape in
     let s = c.args.pages.now in
     let def = c.args.def.now in
     let map = c.at-map.result in
     let last = sees g (goal.at.returns-in_err-clear_filled-2-clause-runs g c).In_ok-line in
     runs_exit c.from_residual-in_err-clear_filled-2.result c.from_residual-in_err-clear_filled-2.ensures.1
-    (runs_on_slot ext s def c.requires.defined c.args.rid c.requires.within c.in_ok-line.line.rows last.few last.there c.args.row.now last.as_was
-    (runs_of_table ext s def c.requires.defined c.args.rid c.requires.within map.tree c.at-map.ensures map.seven last.looking) c.in_err-clear_filled-2.ensures.runs)
+    (runs_on_slot shape s def c.requires.defined c.args.rid c.requires.within c.in_ok-line.line.rows last.few last.there c.args.row.now last.as_was
+    (runs_of_table shape s def c.requires.defined c.args.rid c.requires.within map.tree c.at-map.ensures map.seven last.looking) c.in_err-clear_filled-2.ensures.runs)
 
 -- the cell of the row
 cell : (g : Over) (c : In_ok-cell g) → IsKeyedCell c.args.def.now c.in_ok-cell.cell c.args.row.now.values
@@ -133,16 +133,16 @@ cell_of-requires g c = record { keys = cell_keys c.args.def.now c.args.row.now c
 
 pub returns-in_err-cell-clause-runs : goal.returns-in_err-cell-clause-runs
 returns-in_err-cell-clause-runs g c =
-    let ext = c.args.ext.now in
+    let shape = c.args.shape in
     let s = c.args.pages.now in
     let def = c.args.def.now in
     let map = c.at-map.result in
     let last = sees g (goal.at.returns-in_err-cell-clause-runs g c).In_ok-line in
     runs_exit c.from_residual-in_err-cell.result c.from_residual-in_err-cell.ensures.1
-    (subst (λ fault. RunsOverPages g.P.Pages (IsBlockOrMapPage g.P.Pages ext s def c.args.rid.block) (IsBlockOrMapPage g.P.Pages ext s def c.args.rid.block)
-    (BreaksExpected g.P.Pages ext s def (HasThisRow g.P.Pages ext s def c.args.rid c.args.row.now)) s c.clear_filled-2.new.pages (Some fault)) (sym c.in_err-cell.ensures.memory)
-    (runs_memory (runs_on_slot ext s def c.requires.defined c.args.rid c.requires.within c.in_ok-line.line.rows last.few last.there c.args.row.now last.as_was
-    (runs_of_table ext s def c.requires.defined c.args.rid c.requires.within map.tree c.at-map.ensures map.seven last.looking) c.in_ok-clear_filled-2.ensures.runs)))
+    (subst (λ fault. RunsOverPages g.P.Pages (IsBlockOrMapPage g.P.Pages shape s def c.args.rid.block) (IsBlockOrMapPage g.P.Pages shape s def c.args.rid.block)
+    (BreaksExpected g.P.Pages shape s def (HasThisRow g.P.Pages shape s def c.args.rid c.args.row.now)) s c.clear_filled-2.new.pages (Some fault)) (sym c.in_err-cell.ensures.memory)
+    (runs_memory (runs_on_slot shape s def c.requires.defined c.args.rid c.requires.within c.in_ok-line.line.rows last.few last.there c.args.row.now last.as_was
+    (runs_of_table shape s def c.requires.defined c.args.rid c.requires.within map.tree c.at-map.ensures map.seven last.looking) c.in_ok-clear_filled-2.ensures.runs)))
 
 pub returns-in_err-release_block-clause-runs : goal.returns-in_err-release_block-clause-runs
 returns-in_err-release_block-clause-runs g c =
@@ -152,7 +152,7 @@ returns-in_err-release_block-clause-runs g c =
     let last = sees g at.In_ok-line in
     let cleared = c.in_ok-clear_filled-2.ensures in
     runs_exit c.from_residual-in_err-release_block.result c.from_residual-in_err-release_block.ensures.1
-    (runs_last c.args.ext.now c.args.pages.now c.args.def.now c.requires.defined c.args.rid c.requires.within line.rows last.few last.there map.tree c.at-map.ensures map.seven c.args.row.now c.line_of_used.new.pages c.clear_filled-2.new.pages
+    (runs_last c.args.shape c.args.pages.now c.args.def.now c.requires.defined c.args.rid c.requires.within line.rows last.few last.there map.tree c.at-map.ensures map.seven c.args.row.now c.line_of_used.new.pages c.clear_filled-2.new.pages
     last.looking last.as_was cleared.runs cleared.count c.in_ok-cell.cell (cell g at.In_ok-cell) line last.is c.in_err-release_block.ensures.runs)
 
 pub returns-clause-takes : goal.returns-clause-takes
@@ -162,8 +162,8 @@ returns-clause-takes g c owners forests st has =
     let at = goal.at.returns-clause-takes g c in
     let last = sees g at.In_ok-line in
     let cleared = c.in_ok-clear_filled-2.ensures in
-    empties_last c.args.ext.now c.args.pages.now c.args.def.now c.requires.defined c.args.rid c.requires.within line.rows last.few last.there map.tree c.at-map.ensures map.seven c.args.row.now c.line_of_used.new.pages c.clear_filled-2.new.pages
-    last.looking last.as_was cleared.runs cleared.count c.in_ok-cell.cell (cell g at.In_ok-cell) line last.is c.release_block.new.ext c.release_block.new.pages c.in_ok-release_block.ensures.releases owners forests st has (last.last owners forests st)
+    empties_last c.args.shape c.args.pages.now c.args.def.now c.requires.defined c.args.rid c.requires.within line.rows last.few last.there map.tree c.at-map.ensures map.seven c.args.row.now c.line_of_used.new.pages c.clear_filled-2.new.pages
+    last.looking last.as_was cleared.runs cleared.count c.in_ok-cell.cell (cell g at.In_ok-cell) c.args.notes.now line last.is c.release_block.new.notes c.release_block.new.pages c.in_ok-release_block.ensures.releases owners forests st has (last.last owners forests st)
 
 pub returns-clause-seen : goal.returns-clause-seen
 returns-clause-seen g c = λ told apart.
@@ -179,13 +179,13 @@ returns-clause-seen g c = λ told apart.
       row.0,
       record {
         used = used_by_line s def map.tree c.at-map.ensures map.seven c.args.rid.block c.in_ok-line.line small line.named line.used (λ t held. line.there t (held_same first (same g at.In_default) held));
-        slot = seen_same g.P.Pages c.args.ext.now s c.line_of_used.new.pages def c.args.rid (Some row.0) last.as_was row.1;
+        slot = seen_same g.P.Pages c.args.shape s c.line_of_used.new.pages def c.args.rid (Some row.0) last.as_was row.1;
       },
     )
 
 pub returns-clause-left : goal.returns-clause-left
 returns-clause-left g c =
-    none_left c.args.ext.now c.args.pages.now c.args.def.now c.requires.defined c.args.rid c.requires.within c.at-map.result.tree c.line_of_used.new.pages c.in_ok-line.line
+    none_left c.args.shape c.args.pages.now c.args.def.now c.requires.defined c.args.rid c.requires.within c.at-map.result.tree c.line_of_used.new.pages c.in_ok-line.line
     (sees g (goal.at.returns-clause-left g c).In_ok-line) c.args.row.now
 
 pub returns-clause-makes : goal.returns-clause-makes
@@ -194,7 +194,7 @@ returns-clause-makes g c owners forests st =
     let line = c.in_ok-line.line in
     let last = sees g (goal.at.returns-clause-makes g c).In_ok-line in
     let cleared = c.in_ok-clear_filled-2.ensures in
-    last_space c.args.ext.now c.args.pages.now c.args.def.now c.requires.defined c.args.rid c.requires.within line.rows last.few last.there map.tree c.at-map.ensures map.seven c.args.row.now c.in_ok-cell.cell c.in_ok-cell.ensures.cell
+    last_space c.args.shape c.args.pages.now c.args.def.now c.requires.defined c.args.rid c.requires.within line.rows last.few last.there map.tree c.at-map.ensures map.seven c.args.row.now c.in_ok-cell.cell c.in_ok-cell.ensures.cell
     c.line_of_used.new.pages c.clear_filled-2.new.pages last.looking last.as_was cleared.runs cleared.count line last.is c.release_block.new.pages c.in_ok-release_block.ensures.makes owners forests st (last.last owners forests st)
 
 pub returns-clause-runs : goal.returns-clause-runs
@@ -204,5 +204,5 @@ returns-clause-runs g c =
     let at = goal.at.returns-clause-runs g c in
     let last = sees g at.In_ok-line in
     let cleared = c.in_ok-clear_filled-2.ensures in
-    runs_last c.args.ext.now c.args.pages.now c.args.def.now c.requires.defined c.args.rid c.requires.within line.rows last.few last.there map.tree c.at-map.ensures map.seven c.args.row.now c.line_of_used.new.pages c.clear_filled-2.new.pages
+    runs_last c.args.shape c.args.pages.now c.args.def.now c.requires.defined c.args.rid c.requires.within line.rows last.few last.there map.tree c.at-map.ensures map.seven c.args.row.now c.line_of_used.new.pages c.clear_filled-2.new.pages
     last.looking last.as_was cleared.runs cleared.count c.in_ok-cell.cell (cell g at.In_ok-cell) line last.is c.in_ok-release_block.ensures.runs

@@ -25,7 +25,7 @@ pub returns-in_err-lines_of_hits-clause-answers : goal.returns-in_err-lines_of_h
 returns-in_err-lines_of_hits-clause-answers g c = λ owners forests rows st are.
     let here : copies c.as_slice.result.now ≡ rows =
     ap copies c.as_slice.ensures.value
-    ∙ hits_are g.P.Pages c.args.ext.now c.args.pages.now c.args.def.now c.args.select.now.pred c.in_ok-hits.hits.items forests rows (c.in_ok-hits.ensures.finds owners forests st) are in
+    ∙ hits_are g.P.Pages c.args.shape c.args.pages.now c.args.def.now c.args.select.now.pred c.in_ok-hits.hits.items forests rows (c.in_ok-hits.ensures.finds owners forests st) are in
     fails c.args.def.now.columns c.args.select.now rows c.from_residual-in_err-lines_of_hits.result (copies c.as_slice.result.now) c.in_err-lines_of_hits.field-0.0 c.from_residual-in_err-lines_of_hits.ensures.1
     (ap (λ (rs : List Row). made_lines (shape_of c.args.select.now) (values_of rs)) here) (c.in_err-lines_of_hits.ensures (subst Rise (sym here) are.rise))
 
@@ -37,5 +37,5 @@ pub returns-clause-answers : goal.returns-clause-answers
 returns-clause-answers g c = λ owners forests rows st are.
     let here : copies c.as_slice.result.now ≡ rows =
     ap copies c.as_slice.ensures.value
-    ∙ hits_are g.P.Pages c.args.ext.now c.args.pages.now c.args.def.now c.args.select.now.pred c.in_ok-hits.hits.items forests rows (c.in_ok-hits.ensures.finds owners forests st) are in
+    ∙ hits_are g.P.Pages c.args.shape c.args.pages.now c.args.def.now c.args.select.now.pred c.in_ok-hits.hits.items forests rows (c.in_ok-hits.ensures.finds owners forests st) are in
     subst (λ (rs : List Row). GivesLines c.args.def.now.columns (shape_of c.args.select.now) rs c.in_ok-lines_of_hits.field-0) here (c.in_ok-lines_of_hits.ensures (subst Rise (sym here) are.rise))

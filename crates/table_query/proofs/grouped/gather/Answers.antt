@@ -18,12 +18,12 @@ use Rattle.table_query.proofs.grouped.gather.Goals as goal
 use Rattle.table_query.proofs.grouped.gather.Goals.{In_ok-scan_rows}
 
 -- the lines stand for the rows of the query
-stand : (g : Over) (c : In_ok-scan_rows g) (owners : List Kind) (forests : TableForests) (rows : List Row) → StandsTable g.P.Pages c.args.ext.now c.args.pages.now c.args.def.now owners forests
-    → AreQueryRows g.P.Pages c.args.ext.now c.args.pages.now c.args.def.now c.args.select.now.pred forests rows → StandForRows c.args.def.now.columns c.args.select.now rows c.scan_rows.new.sink.lines
+stand : (g : Over) (c : In_ok-scan_rows g) (owners : List Kind) (forests : TableForests) (rows : List Row) → StandsTable g.P.Pages c.args.shape c.args.pages.now c.args.def.now owners forests
+    → AreQueryRows g.P.Pages c.args.shape c.args.pages.now c.args.def.now c.args.select.now.pred forests rows → StandForRows c.args.def.now.columns c.args.select.now rows c.scan_rows.new.sink.lines
 stand g c owners forests rows st are =
     let gives = c.in_ok-scan_rows.ensures.gives owners forests st in
     let given : List Row = map (λ (one : PlacedRow). one.row) gives.rows in
-    stand_for_rows g.P.Pages c.args.ext.now c.args.pages.now c.args.def.now c.args.select.now forests gives.rows rows c.scan_rows.new.sink.lines c.requires.shares gives.found
+    stand_for_rows g.P.Pages c.args.shape c.args.pages.now c.args.def.now c.args.select.now forests gives.rows rows c.scan_rows.new.sink.lines c.requires.shares gives.found
     (subst (λ (select : BoundSelect). HasLinesOf c.args.def.now.columns select given c.scan_rows.new.sink.lines) c.requires.select
     (subst (λ (columns : List ColumnDef). HasLinesOf columns g.Q.Asked.select given c.scan_rows.new.sink.lines) c.requires.columns (gives.given [] c.in_ok-rows.ensures.none)))
     are

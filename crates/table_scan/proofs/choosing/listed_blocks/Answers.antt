@@ -11,8 +11,8 @@ returns-in-Some-clause-lists g c =
 
 pub returns-in-Some-clause-chosen : goal.returns-in-Some-clause-chosen
 returns-in-Some-clause-chosen g c =
-    subst (λ pred. IfOk c.listed_by_cell.result (λ listed. (owners : List Kind) (forests : TableForests) → StandsTable g.P.Pages c.args.ext.now c.args.pages.now c.args.def.now owners forests
-    → HaveQualifying g.P.Pages c.args.ext.now c.args.pages.now c.args.def.now pred (blocks_listed listed.items) forests))
+    subst (λ pred. IfOk c.listed_by_cell.result (λ listed. (owners : List Kind) (forests : TableForests) → StandsTable g.P.Pages c.args.shape c.args.pages.now c.args.def.now owners forests
+    → HaveQualifying g.P.Pages c.args.shape c.args.pages.now c.args.def.now pred (blocks_listed listed.items) forests))
     (sym c.in-Some.is) c.listed_by_cell.ensures.chosen
 
 pub returns-in-None-clause-lists : goal.returns-in-None-clause-lists
@@ -21,6 +21,6 @@ returns-in-None-clause-lists g c =
 
 pub returns-in-None-clause-chosen : goal.returns-in-None-clause-chosen
 returns-in-None-clause-chosen g c =
-    subst (λ pred. IfOk c.listed_by_map.result (λ listed. (owners : List Kind) (forests : TableForests) → StandsTable g.P.Pages c.args.ext.now c.args.pages.now c.args.def.now owners forests
-    → HaveQualifying g.P.Pages c.args.ext.now c.args.pages.now c.args.def.now pred (blocks_listed listed.items) forests))
+    subst (λ pred. IfOk c.listed_by_map.result (λ listed. (owners : List Kind) (forests : TableForests) → StandsTable g.P.Pages c.args.shape c.args.pages.now c.args.def.now owners forests
+    → HaveQualifying g.P.Pages c.args.shape c.args.pages.now c.args.def.now pred (blocks_listed listed.items) forests))
     (sym c.in-None.is) c.listed_by_map.ensures.chosen

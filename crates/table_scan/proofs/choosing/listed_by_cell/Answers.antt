@@ -40,26 +40,26 @@ chooses g c are = subst (λ l. ChoosesBlocks c.args.def.now c.args.pred.now c.as
 
 -- their blocks have all rows that qualify
 have : (g : Over) (c : In-Ok g) {items : List ChosenEntry} → items ≡ c.in-Ok.chosen.items → (owners : List Kind) (forests : TableForests)
-    → StandsTable g.P.Pages c.args.ext.now c.args.pages.now c.args.def.now owners forests
-    → HaveQualifying g.P.Pages c.args.ext.now c.args.pages.now c.args.def.now (Some c.args.pred.now) (blocks_chosen items) forests
+    → StandsTable g.P.Pages c.args.shape c.args.pages.now c.args.def.now owners forests
+    → HaveQualifying g.P.Pages c.args.shape c.args.pages.now c.args.def.now (Some c.args.pred.now) (blocks_chosen items) forests
 have g c {items} are owners forests st =
-    have_qualifying g.P.Pages c.args.ext.now c.args.pages.now c.args.def.now owners forests st (has_block_indexes c.args.def.now.number c.args.def.now c.requires.defined).composite.key.there
-    (omega (arith, few_extents c.args.ext.now)) c.args.pred.now c.as_slice-entries.result.now (blocks_chosen items) (read_all g c forests.composite st.trees.held.1.0) (chooses g c are)
+    have_qualifying g.P.Pages c.args.shape c.args.pages.now c.args.def.now owners forests st (has_block_indexes c.args.def.now.number c.args.def.now c.requires.defined).composite.key.there
+    (omega (arith, few_extents c.args.shape)) c.args.pred.now c.as_slice-entries.result.now (blocks_chosen items) (read_all g c forests.composite st.trees.held.1.0) (chooses g c are)
 
 -- so each is Used
 used : (g : Over) (c : In-Ok g) {items : List ChosenEntry} → items ≡ c.in-Ok.chosen.items → (i : ℕ) → i < length items → (owners : List Kind) (forests : TableForests)
-    → StandsTable g.P.Pages c.args.ext.now c.args.pages.now c.args.def.now owners forests → Contains (used_blocks forests.map) (get_or items i (record { block = 0; at = 0 })).block
+    → StandsTable g.P.Pages c.args.shape c.args.pages.now c.args.def.now owners forests → Contains (used_blocks forests.map) (get_or items i (record { block = 0; at = 0 })).block
 used g c {items} are i low owners forests st =
     let one : ChosenEntry = get_or items i (record { block = 0; at = 0 }) in
     subst (Contains (used_blocks forests.map)) (element_at (λ (one : ChosenEntry). one.block) items i one 0 low (get_or_default items i (record { block = 0; at = 0 }) one low))
-    (is_chosen c.args.ext.now c.args.pages.now c.args.def.now (Some c.args.pred.now) (blocks_chosen items) forests i (have g c are owners forests st) (omega (arith, low, length-map items (λ (one : ChosenEntry). one.block)))).used
+    (is_chosen c.args.shape c.args.pages.now c.args.def.now (Some c.args.pred.now) (blocks_chosen items) forests i (have g c are owners forests st) (omega (arith, low, length-map items (λ (one : ChosenEntry). one.block)))).used
 
 pub cells-requires-clause-parts : goal.cells-requires-clause-parts
 cells-requires-clause-parts g c = (has_block_indexes c.args.def.now.number c.args.def.now c.requires.defined).composite
 
 pub returns-in_err-found-clause-runs : goal.returns-in_err-found-clause-runs
 returns-in_err-found-clause-runs g c =
-    runs_exit c.from_residual.result c.from_residual.ensures.1 (runs_cells c.args.ext.now c.args.def.now {fault = Some c.in_err-found.field-0.0} c.in_err-found.ensures.runs)
+    runs_exit c.from_residual.result c.from_residual.ensures.1 (runs_cells c.args.shape c.args.def.now {fault = Some c.in_err-found.field-0.0} c.in_err-found.ensures.runs)
 
 pub loop-one-init : goal.loop-one-init
 loop-one-init g c = record {
@@ -67,7 +67,7 @@ loop-one-init g c = record {
   of_entries = subst (AllByRecursion (IsOfEntry c.args.def.now c.args.pred.now c.as_slice-entries.result.now)) (sym c.new-listed.ensures.items) tt;
   same = c.cells.ensures.same;
   going = c.in_ok-found.ensures.runs.works.steady.ended ∙ c.requires.going;
-  runs = runs_cells c.args.ext.now c.args.def.now {fault = None} c.in_ok-found.ensures.runs;
+  runs = runs_cells c.args.shape c.args.def.now {fault = None} c.in_ok-found.ensures.runs;
 }
 
 pub listed_block-requires-clause-choice : goal.listed_block-requires-clause-choice
@@ -81,15 +81,15 @@ returns-in_err-block-clause-runs g c =
     let so = c.loop-one.invariant in
     let is_used = used g (goal.at.returns-in_err-block-clause-runs g c).In-Ok c.as_slice-one-items.ensures.value c.loop-one.one-index c.loop-one-test.true in
     runs_exit c.from_residual-in_err-block.result c.from_residual-in_err-block.ensures.1
-    (runs_line c.args.def.now {fault = Some c.in_err-block.field-0.0} c.args.ext.now _ so.same is_used so.runs c.in_err-block.ensures.runs)
+    (runs_line c.args.def.now {fault = Some c.in_err-block.field-0.0} c.args.shape _ so.same is_used so.runs c.in_err-block.ensures.runs)
 
 pub returns-in_err-push_listed-clause-runs : goal.returns-in_err-push_listed-clause-runs
 returns-in_err-push_listed-clause-runs g c =
     let so = c.loop-one.invariant in
     let is_used = used g (goal.at.returns-in_err-push_listed-clause-runs g c).In-Ok c.as_slice-one-items.ensures.value c.loop-one.one-index c.loop-one-test.true in
-    let run = runs_line c.args.def.now {fault = None} c.args.ext.now _ so.same is_used so.runs c.in_ok-block.ensures.runs in
+    let run = runs_line c.args.def.now {fault = None} c.args.shape _ so.same is_used so.runs c.in_ok-block.ensures.runs in
     runs_exit c.from_residual-in_err-push_listed.result c.from_residual-in_err-push_listed.ensures.1
-    (subst (λ fault. RunsOverPages g.P.Pages NoPage (IsChoicePage g.P.Pages c.args.ext.now c.args.pages.now c.args.def.now) (BreaksTable g.P.Pages c.args.ext.now c.args.pages.now c.args.def.now) c.args.pages.now c.listed_block.new.pages (Some fault))
+    (subst (λ fault. RunsOverPages g.P.Pages NoPage (IsChoicePage g.P.Pages c.args.shape c.args.pages.now c.args.def.now) (BreaksTable g.P.Pages c.args.shape c.args.pages.now c.args.def.now) c.args.pages.now c.listed_block.new.pages (Some fault))
     (sym c.in_err-push_listed.ensures.memory) (runs_memory run))
 
 pub loop-one-preserved : goal.loop-one-preserved
@@ -111,7 +111,7 @@ loop-one-preserved g c =
           (c.in_ok-block.ensures.entry, tt));
       same = c.listed_block.ensures.same ∙ so.same;
       going = c.in_ok-block.ensures.runs.works.steady.ended ∙ so.going;
-      runs = runs_line c.args.def.now {fault = None} c.args.ext.now one.block so.same (used g (goal.at.loop-one-preserved g c).In-Ok c.as_slice-one-items.ensures.value i low) so.runs c.in_ok-block.ensures.runs;
+      runs = runs_line c.args.def.now {fault = None} c.args.shape one.block so.same (used g (goal.at.loop-one-preserved g c).In-Ok c.as_slice-one-items.ensures.value i low) so.runs c.in_ok-block.ensures.runs;
     }
 
 pub returns-clause-lists : goal.returns-clause-lists
@@ -125,12 +125,12 @@ pub returns-clause-chosen : goal.returns-clause-chosen
 returns-clause-chosen g c = λ owners forests st.
     let are : blocks_listed c.loop-one.listed.items ≡ blocks_chosen c.as_slice-one-items.result.now =
     c.loop-one.invariant.to.blocks_are ∙ ap blocks_chosen (take_all c.loop-one.one-index c.as_slice-one-items.result.now c.loop-one-test.false) in
-    subst (λ blocks. HaveQualifying g.P.Pages c.args.ext.now c.args.pages.now c.args.def.now (Some c.args.pred.now) blocks forests) (sym are)
+    subst (λ blocks. HaveQualifying g.P.Pages c.args.shape c.args.pages.now c.args.def.now (Some c.args.pred.now) blocks forests) (sym are)
     (have g (goal.at.returns-clause-chosen g c).In-Ok c.as_slice-one-items.ensures.value owners forests st)
 
 pub returns-clause-listed : goal.returns-clause-listed
 returns-clause-listed g c = λ owners forests st.
     let so = c.loop-one.invariant in
-    chosen_listed_so c.args.def.now c.args.ext.now c.args.pages.now c.args.pred.now c.as_slice-entries.result.now c.loop-one.listed.items owners forests st.trees.held.0
-    (listed_cell g.P.Pages c.args.ext.now c.args.pages.now c.args.def.now owners forests st (has_block_indexes c.args.def.now.number c.args.def.now c.requires.defined).composite.key.there
-    (omega (arith, few_extents c.args.ext.now)) c.as_slice-entries.result.now (read_all g (goal.at.returns-clause-listed g c).In-Ok forests.composite st.trees.held.1.0)) so.of_entries so.to.lines
+    chosen_listed_so c.args.def.now c.args.shape c.args.pages.now c.args.pred.now c.as_slice-entries.result.now c.loop-one.listed.items owners forests st.trees.held.0
+    (listed_cell g.P.Pages c.args.shape c.args.pages.now c.args.def.now owners forests st (has_block_indexes c.args.def.now.number c.args.def.now c.requires.defined).composite.key.there
+    (omega (arith, few_extents c.args.shape)) c.as_slice-entries.result.now (read_all g (goal.at.returns-clause-listed g c).In-Ok forests.composite st.trees.held.1.0)) so.of_entries so.to.lines

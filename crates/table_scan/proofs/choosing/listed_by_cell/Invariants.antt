@@ -15,5 +15,5 @@ invariant-loop-one g l = record {
   of_entries : AllByRecursion (IsOfEntry l.def l.pred l.entries) l.listed.items;
   same : (g.P.Pages.state l.pages).work ≡ (g.P.Pages.state l.fn.pages).work;
   going : (g.P.Pages.state l.pages).ended ≡ false;
-  runs : RunsOverPages g.P.Pages NoPage (IsChoicePage g.P.Pages l.ext l.fn.pages l.def) (BreaksTable g.P.Pages l.ext l.fn.pages l.def) l.fn.pages l.pages None;
+  runs : RunsOverPages g.P.Pages NoPage (IsChoicePage g.P.Pages l.fn.shape l.fn.pages l.def) (BreaksTable g.P.Pages l.fn.shape l.fn.pages l.def) l.fn.pages l.pages None;
 }

@@ -17,13 +17,13 @@ pub returns-clause-finds : goal.returns-clause-finds
 returns-clause-finds g c = λ owners forests st.
     let gives = c.in_ok-scan_rows.ensures.gives owners forests st in
     finds_rows gives.rows c.scan_rows.new.sink.items c.sort_unstable_by_key.new.self.items (gives.given [] (ap (map placed_row) c.new-hits.ensures.items)) c.sort_unstable_by_key.ensures.permutation (rises g c)
-    c.args.ext.now c.args.pages.now c.args.def.now c.args.pred.now forests gives.found
+    c.args.shape c.args.pages.now c.args.def.now c.args.pred.now forests gives.found
 
 pub returns-clause-seen : goal.returns-clause-seen
 returns-clause-seen g c = λ told.
     let scanned = c.in_ok-scan_rows.ensures.seen told in
     has_seen_table scanned.rows c.scan_rows.new.sink.items c.sort_unstable_by_key.new.self.items (scanned.given [] (ap (map placed_row) c.new-hits.ensures.items)) c.sort_unstable_by_key.ensures.permutation (rises g c)
-    c.args.ext.now c.args.pages.now c.args.def.now c.args.pred.now scanned.seen
+    c.args.shape c.args.pages.now c.args.def.now c.args.pred.now scanned.seen
 
 pub returns-clause-keyed : goal.returns-clause-keyed
 returns-clause-keyed g c =

@@ -12,9 +12,9 @@ use Rattle.table_scan.proofs.finding.scan_rows.Goals.{In_ok-listed}
 use Rattle.table_scan.proofs.finding.scan_rows.Goals as goal
 
 -- the blocks that are gone over
-goes_over : (g : Over) (c : In_ok-listed g) {items : List ListedBlock} → items ≡ c.in_ok-listed.listed.items → GoesOver g.P.Pages c.args.ext.now c.args.pages.now c.args.def.now c.args.pred.now items
+goes_over : (g : Over) (c : In_ok-listed g) {items : List ListedBlock} → items ≡ c.in_ok-listed.listed.items → GoesOver g.P.Pages c.args.shape c.args.pages.now c.args.def.now c.args.pred.now items
 goes_over g c are =
-    subst (GoesOver g.P.Pages c.args.ext.now c.args.pages.now c.args.def.now c.args.pred.now) (sym are)
+    subst (GoesOver g.P.Pages c.args.shape c.args.pages.now c.args.def.now c.args.pred.now) (sym are)
     (record { lists = c.in_ok-listed.ensures.lists; chosen = c.in_ok-listed.ensures.chosen; so = c.in_ok-listed.ensures.listed })
 
 pub returns-in_default-clause-once : goal.returns-in_default-clause-once
@@ -31,14 +31,14 @@ returns-in_err-listed-clause-once g c = scans_none c.in_err-listed.ensures.runs.
 
 pub loop-one-init : goal.loop-one-init
 loop-one-init g c = record {
-  scans = λ told. scans_to_none c.args.ext.now (pages_of g.P.Pages c.args.pages.now) c.args.def.now c.args.pred.now c.args.sink.now;
+  scans = λ told. scans_to_none c.args.shape (pages_of g.P.Pages c.args.pages.now) c.args.def.now c.args.pred.now c.args.sink.now;
   fits = c.requires.fits;
   left = subst (IsLeftOf c.args.def.now c.args.pred.now) (sym c.in-Ok-new.ensures.pred) c.in-Ok.ensures;
   width = c.in-Ok-new.ensures.width ∙ c.len.ensures;
   same = c.listed_blocks.ensures.same;
   going = c.in_ok-listed.ensures.runs.works.steady.ended ∙ c.requires.going;
   once = scans_none c.in_ok-listed.ensures.runs.brings;
-  runs = runs_choice c.args.ext.now c.args.def.now c.in_ok-listed.ensures.runs;
+  runs = runs_choice c.args.shape c.args.def.now c.in_ok-listed.ensures.runs;
 }
 
 pub scan_listed_block-requires-clause-judged : goal.scan_listed_block-requires-clause-judged

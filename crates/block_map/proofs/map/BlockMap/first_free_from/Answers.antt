@@ -8,7 +8,7 @@ use Rattle.entry_tree.proofs.ReadLeafLemmas.{holds_still}
 use Rattle.block_map.specs.BlockMaps.{AnyMap}
 use Rattle.block_map.specs.MapLines.{map_entry}
 use Rattle.block_map.specs.MapRows.{state_number}
-use Rattle.block_map.specs.Walking.{GivesNext, IsWalking}
+use Rattle.block_map.specs.Walking.{GivesNext, IsWalking, RisesTo}
 use Rattle.block_map.specs.declared.row.BlockRow.{BlockRow}
 use Rattle.block_map.specs.declared.state.BlockState.TheVariants.{Free}
 use Rattle.block_map.proofs.MapRunsLemmas.{runs_map_on}
@@ -35,7 +35,7 @@ returns-in_default-clause-runs g c =
 pub returns-then-eq-clause-found : goal.returns-then-eq-clause-found
 returns-then-eq-clause-found g c t h w =
     let inv = c.rows.invariant in
-    let rises = subst (λ (o : Option BlockRow). IfSome o (λ row. (c.rows.walk.lowest ≤ row.block) × (c.next.new.self.lowest ≡ row.block + 1) × (row.block < 2 ^ 32))) c.in-Some.is c.in_ok-row.ensures.rises in
+    let rises = subst (λ (o : Option BlockRow). IfSome o (RisesTo c.rows.walk c.next.new.self)) c.in-Some.is c.in_ok-row.ensures.rises in
     let free : state_number c.in-Some.row.state ≡ 0 = first_of (search rules, grind (arith, common_steps)) in
     seeking_finds t c.args.from c.rows.walk c.next.new.self c.in-Some.row (omega (arith, c.ranges.from.fits)) w (Fits-entries None None [] t h.is_tree.fits) (inv.seeking t h)
     (subst (λ (o : Option BlockRow). GivesNext (leaf_entries t) c.rows.walk c.next.new.self o) c.in-Some.is (c.in_ok-row.ensures.gives t (holds_still inv.runs.works.steady inv.same h))) rises.2 free
@@ -48,7 +48,7 @@ returns-then-eq-clause-runs g c =
 pub rows-preserved : goal.rows-preserved
 rows-preserved g c =
     let inv = c.rows.invariant in
-    let rises = subst (λ (o : Option BlockRow). IfSome o (λ row. (c.rows.walk.lowest ≤ row.block) × (c.next.new.self.lowest ≡ row.block + 1) × (row.block < 2 ^ 32))) c.in-Some.is c.in_ok-row.ensures.rises in
+    let rises = subst (λ (o : Option BlockRow). IfSome o (RisesTo c.rows.walk c.next.new.self)) c.in-Some.is c.in_ok-row.ensures.rises in
     let other : (state_number c.in-Some.row.state == 0) ≡ false = same_states c.in-Some.row.state Free ∙ sym c.eq.ensures ∙ c.if-eq.false in
     record {
       fits = c.in_ok-row.ensures.fits;

@@ -31,8 +31,8 @@ pub returns-in_err-take_out-clause-runs : goal.returns-in_err-take_out-clause-ru
 returns-in_err-take_out-clause-runs g c =
     let told = c.in_ok-spot.ensures.runs.works.steady.is_told in
     let same = c.leaf_spot.ensures.same in
-    let start : RunsOverPages g.P.Pages (IsTreeOrMapPage g.P.Pages c.args.ext.now c.args.pages.now c.args.self.now) (IsTreeOrMapPage g.P.Pages c.args.ext.now c.args.pages.now c.args.self.now)
-    (BreaksTreeOrReturn g.P.Pages c.args.ext.now c.args.pages.now c.args.self.now) c.args.pages.now c.leaf_spot.new.pages None =
+    let start : RunsOverPages g.P.Pages (IsTreeOrMapPage g.P.Pages c.args.shape c.args.pages.now c.args.self.now) (IsTreeOrMapPage g.P.Pages c.args.shape c.args.pages.now c.args.self.now)
+    (BreaksTreeOrReturn g.P.Pages c.args.shape c.args.pages.now c.args.self.now) c.args.pages.now c.leaf_spot.new.pages None =
     runs_wider (runs_on c.in_ok-spot.ensures.runs) (λ p there none. absurd none) (λ p is. tree_page is) (λ damage b. b) in
     runs_exit c.from_residual-in_err-take_out.result c.from_residual-in_err-take_out.ensures.1
     (runs_then start c.in_err-take_out.ensures.runs (λ p there is. page_same told same is) (λ p is. page_same told same is) (λ damage b. breaks_same told same b))
@@ -47,7 +47,7 @@ pub returns-clause-runs : goal.returns-clause-runs
 returns-clause-runs g c =
     let told = c.in_ok-spot.ensures.runs.works.steady.is_told in
     let same = c.leaf_spot.ensures.same in
-    let start : RunsOverPages g.P.Pages (IsTreeOrMapPage g.P.Pages c.args.ext.now c.args.pages.now c.args.self.now) (IsTreeOrMapPage g.P.Pages c.args.ext.now c.args.pages.now c.args.self.now)
-    (BreaksTreeOrReturn g.P.Pages c.args.ext.now c.args.pages.now c.args.self.now) c.args.pages.now c.leaf_spot.new.pages None =
+    let start : RunsOverPages g.P.Pages (IsTreeOrMapPage g.P.Pages c.args.shape c.args.pages.now c.args.self.now) (IsTreeOrMapPage g.P.Pages c.args.shape c.args.pages.now c.args.self.now)
+    (BreaksTreeOrReturn g.P.Pages c.args.shape c.args.pages.now c.args.self.now) c.args.pages.now c.leaf_spot.new.pages None =
     runs_wider (runs_on c.in_ok-spot.ensures.runs) (λ p there none. absurd none) (λ p is. tree_page is) (λ damage b. b) in
     runs_then start c.in_ok-take_out.ensures.runs (λ p there is. page_same told same is) (λ p is. page_same told same is) (λ damage b. breaks_same told same b)

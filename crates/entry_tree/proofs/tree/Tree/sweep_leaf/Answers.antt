@@ -24,8 +24,8 @@ pub returns-in_err-removed-clause-runs : goal.returns-in_err-removed-clause-runs
 returns-in_err-removed-clause-runs g c =
     let told = c.in_ok-spot.ensures.runs.works.steady.is_told in
     let same = c.first_leaf.ensures.same in
-    let start : RunsOverPages g.P.Pages (IsTreeOrMapPage g.P.Pages c.args.ext.now c.args.pages.now c.args.self.now) (IsTreeOrMapPage g.P.Pages c.args.ext.now c.args.pages.now c.args.self.now)
-    (BreaksTreeOrReturn g.P.Pages c.args.ext.now c.args.pages.now c.args.self.now) c.args.pages.now c.first_leaf.new.pages None =
+    let start : RunsOverPages g.P.Pages (IsTreeOrMapPage g.P.Pages c.args.shape c.args.pages.now c.args.self.now) (IsTreeOrMapPage g.P.Pages c.args.shape c.args.pages.now c.args.self.now)
+    (BreaksTreeOrReturn g.P.Pages c.args.shape c.args.pages.now c.args.self.now) c.args.pages.now c.first_leaf.new.pages None =
     runs_wider (runs_on c.in_ok-spot.ensures.runs) (λ p there none. absurd none) (λ p is. tree_page is) (λ damage b. b) in
     runs_exit c.from_residual-in_err-removed.result c.from_residual-in_err-removed.ensures.1
     (runs_then start c.in_err-removed.ensures.runs (λ p there is. page_same told same is) (λ p is. page_same told same is) (λ damage b. breaks_same told same b))
@@ -37,14 +37,14 @@ returns-clause-sweeps g c owners t st =
     let f = c.in_ok-spot.ensures.first t st.held in
     let r = c.in_ok-removed.ensures.prunes owners t (stands_same told same st)
     (spot_same (nodes_same c.args.self.now.width (g.P.Pages.state c.args.pages.now) (g.P.Pages.state c.first_leaf.new.pages) c.in_ok-spot.spot.page told same) f.spot) in
-    subst (λ (a : ℕ). SweepsLeaf g.P.Pages c.args.ext.now c.sweep_spot.new.ext c.sweep_spot.new.pages c.args.self.now owners t c.args.bound.now a c.args.blocks.now c.in_ok-removed.removed c.fence_bound.result) c.from.ensures
+    subst (λ (a : ℕ). SweepsLeaf g.P.Pages c.args.shape c.args.notes.now c.sweep_spot.new.notes c.sweep_spot.new.pages c.args.self.now owners t c.args.bound.now a c.args.blocks.now c.in_ok-removed.removed c.fence_bound.result) c.from.ensures
     (sweeps_first c.fence_bound.result f c.fence_bound.ensures r.0 r.1)
 
 pub returns-clause-runs : goal.returns-clause-runs
 returns-clause-runs g c =
     let told = c.in_ok-spot.ensures.runs.works.steady.is_told in
     let same = c.first_leaf.ensures.same in
-    let start : RunsOverPages g.P.Pages (IsTreeOrMapPage g.P.Pages c.args.ext.now c.args.pages.now c.args.self.now) (IsTreeOrMapPage g.P.Pages c.args.ext.now c.args.pages.now c.args.self.now)
-    (BreaksTreeOrReturn g.P.Pages c.args.ext.now c.args.pages.now c.args.self.now) c.args.pages.now c.first_leaf.new.pages None =
+    let start : RunsOverPages g.P.Pages (IsTreeOrMapPage g.P.Pages c.args.shape c.args.pages.now c.args.self.now) (IsTreeOrMapPage g.P.Pages c.args.shape c.args.pages.now c.args.self.now)
+    (BreaksTreeOrReturn g.P.Pages c.args.shape c.args.pages.now c.args.self.now) c.args.pages.now c.first_leaf.new.pages None =
     runs_wider (runs_on c.in_ok-spot.ensures.runs) (λ p there none. absurd none) (λ p is. tree_page is) (λ damage b. b) in
     runs_then start c.in_ok-removed.ensures.runs (λ p there is. page_same told same is) (λ p is. page_same told same is) (λ damage b. breaks_same told same b)

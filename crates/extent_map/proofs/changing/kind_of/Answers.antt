@@ -3,7 +3,7 @@ use Rattle.std.proofs.lemmas.Option.{same_Some}
 use Rattle.store_api.proofs.RunsOverPagesLemmas.{runs_damage}
 use Rattle.extent_map.proofs.DamagesLemmas.{breaks_entry, breaks_end}
 use Rattle.extent_map.proofs.HoldsMapLemmas.{owner_read, map_page_at}
-use Rattle.extent_map.proofs.extents.Extents.kind.Goals as goal
+use Rattle.extent_map.proofs.changing.kind_of.Goals as goal
 
 pub returns-in_default-clause-runs : goal.returns-in_default-clause-runs
 returns-in_default-clause-runs g c = runs_damage c.in_ok-bring_map_page.ensures.runs (breaks_entry c.args.e _ c.requires.below c.wrong_entry.ensures (λ owners told.
