@@ -1,0 +1,10 @@
+pub mod FoundRidsLemmas
+pub mod FullMapLemmas
+pub mod IndexesLemmas
+pub mod KeysLemmas
+pub mod OneIndexLemmas
+pub mod PlacesLemmas
+pub mod RangesLemmas
+pub mod RisingRidsLemmas
+pub mod SoundRowsLemmas
+pub mod UnderKeyLemmas
