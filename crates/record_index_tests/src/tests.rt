@@ -76,19 +76,15 @@ fn rows_are_found_and_leave(rt: HostRuntime) -> Result<(), Fail> {
     );
     assert_eq!(rt; no_day.as_slice(), [place(2, 9), place(3, 0)].as_slice());
     assert_eq!(rt;
-        twice,
-        Some(Damage {
-            page: root,
-            rule: 11
-        })
+        with_day.as_slice(),
+        [place(1, 1), place(2, 7), place(2, 8)].as_slice()
     );
-    assert_eq!(rt;
-        gone,
-        Some(Damage {
-            page: root,
-            rule: 11
-        })
-    );
+    let misplaced = Some(Damage {
+        page: root,
+        rule: 11,
+    });
+    assert_eq!(rt; twice, misplaced);
+    assert_eq!(rt; gone, misplaced);
     assert_eq!(rt; swept, 3);
     assert_eq!(rt; left.as_slice(), [place(3, 0)].as_slice());
     Ok(())
