@@ -15,9 +15,11 @@ use Rattle.store_api.proofs.RunsOverPagesLemmas.{runs_then, runs_wider}
 use Rattle.entry_tree.specs.Forest.{Forest}
 use Rattle.entry_tree.specs.HeldTrees.{BreaksTree, HoldsTree, IsTreePage}
 use Rattle.entry_tree.specs.declared.tree.Tree.{Tree}
+use Rattle.entry_tree.proofs.FindingLemmas.{found_still}
 use Rattle.entry_tree.proofs.ReadLeafLemmas.{breaks_still, holds_still, tree_page_still}
 use Rattle.block_map.specs.BlockMaps.{AnyMap, BreaksMapTree, HasRow, IsMapForm}
 use Rattle.block_map.specs.Counting.{FindsUsedRow, used_row}
+use Rattle.block_map.specs.FoundRows.{IsRowFound}
 use Rattle.block_map.specs.MapChanges.{ChangesRowTo}
 use Rattle.block_map.specs.MapLines.{map_line}
 use Rattle.block_map.specs.MapRows.{row_entry, state_number}
@@ -93,3 +95,7 @@ module _ {S : Type 0} {g : Ghosts S} where
   runs_counted tree first same second =
       let steady = first.works.steady in
       runs_then (runs_read first) second (λ p there is. tree_page_still p steady same is) (λ p is. tree_page_still p steady same is) (λ d b. inl (breaks_still d steady same b))
+
+-- a row that was found stands where it was as long as the pages are the same
+pub row_found_still : {S : Type 0} {g : Ghosts S} {old mid : S} {tree : Tree} (found : FoundRow) → Steady g old mid → (g.state mid).work ≡ (g.state old).work → IsRowFound g old tree found → IsRowFound g mid tree found
+row_found_still found steady same f = record { entry = f.entry; few = f.few; stands = found_still found.place steady same f.stands }

@@ -2,6 +2,7 @@
 use Rattle.std.specs.Prelude.{ℕ, ◌≡◌, ◌==◌, List, [], ◌∷◌, ◌++◌, map, filter, if◌then◌else◌}
 use Rattle.byteorder.specs.Endian.{big_bytes}
 use Rattle.mdc_words.specs.ByteOrder.{Entry}
+use Rattle.store_api.specs.Format.{Format, first_format}
 use Rattle.node_page.specs.Node.{number_within}
 use Rattle.entry_tree.specs.EntryBounds.{IsEntryOf}
 use Rattle.entry_tree.specs.Forest.{Forest, leaf_entries}
@@ -12,13 +13,21 @@ pub record MapLine : Type 0 where
   pub state : ℕ
   pub rows : ℕ
 
--- what the bytes of an entry say
+-- what the bytes of an entry say in a format
+abbrev pub map_line_in : Format → Entry → MapLine
+map_line_in format entry = record {
+  block = number_within format.block.from format.block.bytes entry;
+  state = number_within format.state.from format.state.bytes entry;
+  rows = number_within format.rows.from format.rows.bytes entry;
+}
+
+-- what they say in the format of the file
 abbrev pub map_line : Entry → MapLine
-map_line entry = record { block = number_within 0 4 entry; state = number_within 4 1 entry; rows = number_within 5 2 entry }
+map_line entry = map_line_in first_format entry
 
 -- the entry that says so: the block, its state, and how many rows it has
 abbrev pub map_entry : ℕ → ℕ → ℕ → Entry
-map_entry block state rows = big_bytes 4 block ++ state ∷ big_bytes 2 rows
+map_entry block state rows = big_bytes first_format.block.bytes block ++ state ∷ big_bytes first_format.rows.bytes rows
 
 -- the entry is written as the bytes of what it says, each of which is below 256
 pub record IsMapEntry (entry : Entry) : Type 0 where

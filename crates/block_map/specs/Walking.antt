@@ -1,6 +1,7 @@
 -- Where a walk over the rows of a block map stands.
 use Rattle.std.specs.Prelude.{◌≡◌, ◌⊎◌, ◌+◌, ◌<◌, ◌≤◌, ◌^◌, ℕ, List, [], ◌∷◌, ◌++◌, drop, Option, Some, None}
 use Rattle.mdc_words.specs.ByteOrder.{Entry}
+use Rattle.store_api.specs.Format.{first_format}
 use Rattle.entry_tree.specs.EntryBounds.{Bound}
 use Rattle.entry_tree.specs.Entries.{AreOfWidth}
 use Rattle.entry_tree.specs.Reading.{BoundFits, entries_from}
@@ -41,8 +42,8 @@ IsWalking all walk = (start : Entry) × IsWalkingFrom start all walk
 
 -- what a walk keeps has the width of an entry, and no block comes behind the last number
 pub record WalkFits (walk : Walk) : Type 0 where
-  pub entries : AreOfWidth 7 walk.leaf.entries
-  pub bound : BoundFits 7 walk.leaf.next
+  pub entries : AreOfWidth first_format.map_width walk.leaf.entries
+  pub bound : BoundFits first_format.map_width walk.leaf.next
   pub small : walk.lowest ≤ 2 ^ 32
 
 -- the next entry is that of a row, and what is left is the rest; or none is left

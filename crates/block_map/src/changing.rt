@@ -8,8 +8,7 @@ ghost use Rattle.block_map.specs.BlockMaps.{BreaksMapTree, HasRow, IsMapForm, Na
 ghost use Rattle.block_map.specs.FoundRows.{IsRowFound};
 ghost use Rattle.block_map.specs.MapChanges.{ChangesRowTo, SetsRow};
 
-use crate::looking::FoundRow;
-use crate::{BlockMap, BlockRow};
+use crate::{BlockMap, BlockRow, FoundRow};
 use store_api::{Pages, StoreFault};
 
 impl BlockMap {

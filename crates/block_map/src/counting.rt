@@ -1,39 +1,35 @@
 // A Used block has a row more, or a row less.
-ghost use Rattle.std.specs.Prelude.{◌≡◌, ◌+◌, ◌-◌, ◌<◌, ◌≤◌, ◌⊎◌, length, false, IfOk, IfNone, IfSome};
+ghost use Rattle.std.specs.Prelude.{◌≡◌, ◌+◌, ◌-◌, ◌<◌, ◌≤◌, ◌⊎◌, length, false, IfOk, IfNone, IfSome, OnOk};
 ghost use Rattle.store_api.specs.Causes.{fault_of};
 ghost use Rattle.store_api.specs.Frame.{NoPage};
 ghost use Rattle.store_api.specs.RunsOverPages.{RunsOverPages};
 ghost use Rattle.entry_tree.specs.Forest.{Forest};
 ghost use Rattle.entry_tree.specs.HeldTrees.{HoldsTree, IsTreePage};
 ghost use Rattle.block_map.specs.BlockMaps.{AnyMap, BreaksMapTree, HasRow, IsMapForm};
-ghost use Rattle.block_map.specs.Counting.{FindsUsed, IfUsed, used_row};
+ghost use Rattle.block_map.specs.Counting.{FindsUsed, FindsUsedRow, IfUsed, used_row};
+ghost use Rattle.block_map.specs.FoundRows.{IsRowFound};
 ghost use Rattle.block_map.specs.MapChanges.{ChangesRowTo};
 
-use crate::looking::FoundRow;
-use crate::{BlockMap, BlockRow, BlockState};
+use crate::{BlockMap, BlockRow, BlockState, FoundRow};
 use store_api::{Pages, StoreFault};
 
 impl BlockMap {
-    /// Counts a row more in a Used block with fewer rows than `most`, mostly in one descent, and answers how many it had. None where
-    /// there is no such block, or its number is the highest one, 65,535: then nothing is changed. It claims no page.
-    pub fn count_row<P: Pages>(
+    /// The row of a Used block with fewer rows than `most`, and where it stands. None where there is no such block, or its number
+    /// of rows is the highest one, 65,535.
+    pub fn find_room<P: Pages>(
         &self,
         pages: &mut P,
         block: u32,
         most: u32,
-    ) -> Result<Option<u16>, StoreFault>
+    ) -> Result<Option<FoundRow>, StoreFault>
         requires going { (P.state pages.old).ended ≡ false }
-        ensures there { IfOk result (λ counted. IfSome counted (λ had. (t : Forest) → HoldsTree P.Pages pages.old self.now.tree t → HasRow (used_row block had) t)) }
-        ensures more { IfOk result (λ counted. IfSome counted (λ had. (t : Forest) → HoldsTree P.Pages pages.old self.now.tree t → IsMapForm t
-            → ChangesRowTo P.Pages pages.new self.now.tree (used_row block had) (used_row block (had + 1)) t)) }
-        ensures room { IfOk result (λ counted. IfSome counted (λ had. had < most)) }
-        ensures few { IfOk result (λ counted. IfSome counted (λ had. had < 65535)) }
-        ensures full { IfOk result (λ counted. IfNone counted ((t : Forest) → HoldsTree P.Pages pages.old self.now.tree t → IsMapForm t
+        ensures finds { IfOk result (λ found. IfSome found (FindsUsedRow P.Pages pages.old pages.new self.now.tree block)) }
+        ensures room { IfOk result (λ found. IfSome found (λ found. found.row.rows < most)) }
+        ensures few { IfOk result (λ found. IfSome found (λ found. found.row.rows < 65535)) }
+        ensures full { IfOk result (λ found. IfNone found ((t : Forest) → HoldsTree P.Pages pages.old self.now.tree t → IsMapForm t
             → IfUsed block (λ rows. (most ≤ rows) ⊎ (rows ≡ 65535)) t)) }
-        ensures kept { IfOk result (λ counted. IfNone counted ((P.state pages.new).work ≡ (P.state pages.old).work)) }
-        ensures count { length (P.state pages.new).work ≡ length (P.state pages.old).work }
-        ensures runs { RunsOverPages P.Pages (IsTreePage P.Pages pages.old self.now.tree) (IsTreePage P.Pages pages.old self.now.tree)
-            (BreaksMapTree P.Pages pages.old self.now.tree AnyMap) pages.old pages.new (fault_of result) }
+        ensures same { (P.state pages.new).work ≡ (P.state pages.old).work }
+        ensures runs { RunsOverPages P.Pages NoPage (IsTreePage P.Pages pages.old self.now.tree) (BreaksMapTree P.Pages pages.old self.now.tree AnyMap) pages.old pages.new (fault_of result) }
     {
         let Some(found) = self.find_used(pages, block)? else {
             return Ok(None);
@@ -45,10 +41,26 @@ impl BlockMap {
         if had == u16::MAX {
             return Ok(None);
         }
+        Ok(Some(found))
+    }
+
+    /// Counts a row more in a Used block whose row was found, in pages that are as they were then, mostly without a search. It
+    /// claims no page.
+    pub fn count_found<P: Pages>(&self, pages: &mut P, found: &FoundRow) -> Result<(), StoreFault>
+        requires found { IsRowFound P.Pages pages.old self.now.tree found.now }
+        requires few { found.now.row.rows < 65535 }
+        requires going { (P.state pages.old).ended ≡ false }
+        ensures more { OnOk result ((t : Forest) → HoldsTree P.Pages pages.old self.now.tree t → IsMapForm t
+            → ChangesRowTo P.Pages pages.new self.now.tree found.now.row (used_row found.now.row.block (found.now.row.rows + 1)) t) }
+        ensures count { length (P.state pages.new).work ≡ length (P.state pages.old).work }
+        ensures runs { RunsOverPages P.Pages (IsTreePage P.Pages pages.old self.now.tree) (IsTreePage P.Pages pages.old self.now.tree)
+            (BreaksMapTree P.Pages pages.old self.now.tree AnyMap) pages.old pages.new (fault_of result) }
+    {
+        let block = found.row.block;
+        let had = found.row.rows;
         let state = BlockState::Used;
         let rows = had + 1;
-        self.replace_found(pages, &found, BlockRow { block, state, rows })?;
-        Ok(Some(had))
+        self.replace_found(pages, found, BlockRow { block, state, rows })
     }
 
     /// Counts a row less in a Used block with two rows or more, mostly in one descent, and answers how many it had. None where there is

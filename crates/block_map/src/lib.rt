@@ -20,6 +20,7 @@ mod row;
 mod state;
 mod walk;
 
+pub use looking::FoundRow;
 pub use map::BlockMap;
 pub use row::BlockRow;
 pub use state::BlockState;

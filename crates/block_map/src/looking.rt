@@ -15,8 +15,9 @@ use store_api::{Pages, StoreFault};
 
 /// A row that was found, and where its entry stands.
 #[derive(Drop)]
-pub(crate) struct FoundRow {
-    pub(crate) row: BlockRow,
+pub struct FoundRow {
+    /// The row.
+    pub row: BlockRow,
     pub(crate) place: FoundEntry,
 }
 

@@ -1,12 +1,12 @@
 // What a block map answers on a store in memory.
-ghost use Rattle.std.specs.Prelude.{◌≡◌, false, IfOk};
+ghost use Rattle.std.specs.Prelude.{◌≡◌, false, IfOk, OnOk};
 
 use crate::{Seen, fill, look_round, row};
-use block_map::BlockState;
+use block_map::{BlockMap, BlockState};
 use extent_map::SpaceNotes;
 use std::alloc::Global;
 use std::test::Fail;
-use store_api::{MemStore, Page, Pages, Shape, Store};
+use store_api::{MemStore, Page, Pages, Shape, Store, StoreFault};
 
 // A store of these pages.
 fn store_of(alloc: Global, pages: Vec<Page>) -> Result<MemStore, Fail>
@@ -69,6 +69,23 @@ fn changed<S: Store>(
     Ok(look_round(&map, store, 3, BlockState::Pending)?)
 }
 
+// Counts a row more in a Used block with fewer rows than `most`, and answers how many it had.
+fn count_if_room<S: Store>(
+    map: &BlockMap,
+    store: &mut S,
+    block: u32,
+    most: u32,
+) -> Result<Option<u16>, StoreFault>
+    requires going { (S.state store.old).ended ≡ false }
+    ensures going { OnOk result ((S.state store.new).ended ≡ false) }
+{
+    let Some(found) = map.find_room(store, block, most)? else {
+        return Ok(None);
+    };
+    map.count_found(store, &found)?;
+    Ok(Some(found.row.rows))
+}
+
 // What counting rows answers: up to three in block 5, which has two; one less there; and in block 9, which is Free.
 fn counted<S: Store>(
     alloc: Global,
@@ -80,10 +97,10 @@ fn counted<S: Store>(
 {
     let map = fill(alloc, shape, notes, store)?;
     map.set(store, row(5, BlockState::Used, 2))?;
-    let more = map.count_row(store, 5, 3)?;
-    let full = map.count_row(store, 5, 3)?;
+    let more = count_if_room(&map, store, 5, 3)?;
+    let full = count_if_room(&map, store, 5, 3)?;
     let fewer = map.discount_row(store, 5)?;
-    let free = map.count_row(store, 9, 3)?;
+    let free = count_if_room(&map, store, 9, 3)?;
     Ok([more, full, fewer, free])
 }
 

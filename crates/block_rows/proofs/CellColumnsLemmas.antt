@@ -43,7 +43,7 @@ row_width_of-next : (columns : List ColumnDef) (i : ℕ) (d : ColumnDef) → i <
 row_width_of-next columns i d low = let more : i + 1 ≡ suc i = omega arith in ap (λ n. row_width_of (take n columns)) more ∙ width_more columns i d low
 
 -- an element of a list that has one
-element_of : {X : Type 0} (xs : List X) (i : ℕ) → i < length xs → X
+pub element_of : {X : Type 0} (xs : List X) (i : ℕ) → i < length xs → X
 element_of [] i low = absurd (omega (arith, low))
 element_of (x ∷ xs) i low = x
 

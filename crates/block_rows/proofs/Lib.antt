@@ -7,4 +7,5 @@ pub mod PageRowsLemmas
 pub mod PartsLemmas
 pub mod PlacedRowsLemmas
 pub mod ReadValuesLemmas
+pub mod SeatsLemmas
 pub mod SeenPagesLemmas

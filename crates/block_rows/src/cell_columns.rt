@@ -263,7 +263,7 @@ fn has_value(
 
 /// Whether the bytes of a column are a value.
 #[tactic(auto, unfolding(row_page::specs::Row::column_value))]
-fn is_value(ty: ColType, bytes: &[u8], value: &Value) -> bool
+pub(crate) fn is_value(ty: ColType, bytes: &[u8], value: &Value) -> bool
     requires { length bytes.now ≡ width ty }
     ensures { IsTrue result ↔ value.now ≡ column_value ty bytes.now }
 {
@@ -275,7 +275,7 @@ fn is_value(ty: ColType, bytes: &[u8], value: &Value) -> bool
     }
 }
 
-fn is_null(value: &Value) -> bool
+pub(crate) fn is_null(value: &Value) -> bool
     ensures { IsTrue result ↔ value.now ≡ Value.Null }
 {
     matches!(value, Value::Null)

@@ -18,6 +18,7 @@ mod page_reading;
 mod places;
 mod reading;
 mod row_sink;
+mod seats;
 mod seen_rows;
 
 pub use cell_columns::CellColumns;
@@ -25,4 +26,5 @@ pub use changing::{clear_slot, put_first, put_slot, wipe_block};
 pub use hit::Hit;
 pub use reading::{row_in_slot, rows_of_block, scan_block};
 pub use row_sink::RowSink;
+pub use seats::find_seat;
 pub use seen_rows::SeenRows;

@@ -57,7 +57,11 @@ pub(crate) fn first_empty_in_page<P: Pages>(
 }
 
 /// The lowest empty slot in the bytes of page p. The bits of a page that states as many rows as it has slots aren't looked at.
-fn first_empty(shape: &RowShape<'_>, page: &Page, p: u32) -> Result<Option<u16>, StoreFault>
+pub(crate) fn first_empty(
+    shape: &RowShape<'_>,
+    page: &Page,
+    p: u32,
+) -> Result<Option<u16>, StoreFault>
     ensures lowest { IfOk result (λ slot. (slots : List (Option Row)) → IsRowPage shape.now.columns.now page.now slots → IsLowestEmpty slots slot) }
     ensures below { IfOk result (λ slot. IfSome slot (λ slot. slot < slot_count shape.now.columns.now)) }
     ensures refuses { IfErr result (IsFaultOfBytes shape.now.columns.now page.now p) }

@@ -1,1 +1,2 @@
+pub mod IndexPlaces
 pub mod Places

@@ -1,8 +1,10 @@
 // A catalog in memory.
 ghost use Rattle.std.specs.Prelude.{◌≡◌, ◌<◌, length, None, Some, IfOk, IfSome, IsSome, MatchOption, is_none};
-ghost use Rattle.mdc_ast.specs.Definitions.{def_at, def_named, empty_place, is_defined, no_tables, place_of, with_def, without_def};
+ghost use Rattle.std.specs.List.{position_from};
+ghost use Rattle.mdc_ast.specs.Definitions.{def_at, def_named, empty_place, is_defined, is_same, no_tables, place_of, with_def, without_def};
+ghost use Rattle.catalog.specs.IndexPlaces.{index_in, index_place_of};
 
-use mdc_ast::{Name, TableDef};
+use mdc_ast::{IndexDef, Name, TableDef};
 use mdc_values::Memory;
 use std::alloc::Global;
 use std::marker::Model;
@@ -70,6 +72,20 @@ impl Catalog {
         for place in 0..PLACES {
             if has_name(&self.places[place], name) {
                 return Some(place as u8);
+            }
+        }
+        None
+    }
+
+    /// Where the record index of that name is: the place of its table, and its own place among that table's. It is None exactly
+    /// where no table has one.
+    pub fn index(&self, name: &Name) -> Option<(u8, usize)>
+        ensures found { result ≡ index_place_of self.now name.now }
+        ensures place { IfSome result (λ found. found.0 < 16) }
+    {
+        for table in 0..PLACES {
+            if let Some(index) = index_in(&self.places[table], name) {
+                return Some((table as u8, index));
             }
         }
         None
@@ -144,4 +160,23 @@ fn has_name(place: &Option<TableDef>, name: &Name) -> bool
         Some(def) => def.name.0.bytes() == name.0.bytes(),
         None => false,
     }
+}
+
+// The place of the record index of that name among those of the table in a place.
+fn index_in(place: &Option<TableDef>, name: &Name) -> Option<usize>
+    ensures { result ≡ index_in name.now place.now }
+{
+    match place {
+        Some(def) => place_among(def.indexes.as_slice(), name),
+        None => None,
+    }
+}
+
+// The place of the record index of that name among these.
+fn place_among(indexes: &[IndexDef], name: &Name) -> Option<usize>
+    ensures { result ≡ position_from (λ index. is_same index.name name.now) 0 indexes.now }
+{
+    indexes
+        .iter()
+        .position(|index| index.name.0.bytes() == name.0.bytes())
 }

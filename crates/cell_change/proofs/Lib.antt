@@ -1,7 +1,17 @@
+pub mod BarePlacesLemmas
 pub mod ChangeRunsLemmas
 pub mod ChangedRowLemmas
 pub mod ChangedSpaceLemmas
+pub mod DeletingRowsLemmas
 pub mod KeptOthersLemmas
+pub mod MovedRunsLemmas
+pub mod NoIndexesLemmas
+pub mod OneTableLemmas
+pub mod PuttingRowsLemmas
+pub mod RewritingRowsLemmas
 pub mod RowChangesLemmas
+pub mod SeenRowsLemmas
+pub mod SoundRowsLemmas
+pub mod SpotStepsLemmas
 pub mod StandsForRowLemmas
 pub mod TableStepsLemmas

@@ -18,21 +18,21 @@ use Rattle.cell_change.specs.RowChanges.{ChangesOneRow, DeletesRow, InsertsRow, 
 use Rattle.mdc_sound.proofs.ChangedDatabaseLemmas.{database_with, database_with_more, database_without}
 use Rattle.cell_change.proofs.RowChangesLemmas.{numbers_here}
 
-module _ {S : Type 0} (g : Ghosts S) (shape : Shape) {before noted : SpaceNotes} (room_of : Entry → RoomNote) (old new : S) (def : TableDef) (owners : List Kind) (forests : TableForests) (st : StandsTable g shape old def owners forests)
+module _ {S : Type 0} (g : Ghosts S) (shape : Shape) {before noted : SpaceNotes} {room_of : Entry → RoomNote} (old new : S) (def : TableDef) (owners : List Kind) (forests : TableForests) (st : StandsTable g shape old def owners forests)
     (touched : Touches g (IsTableSpace g shape old def) old new) (longer : length (pages_of g old) ≤ length (pages_of g new)) (between : IsSoundBetweenChanges shape def (pages_of g old))
     (db : Database) (stands : PagesStandFor shape (with_table_page def (pages_of g old)) db) where
   -- a row more
   pub database_inserted : (row : Row) (rid : Rid) → InsertsRow g shape before noted room_of old new def row rid owners forests → row.number ≡ def.next → def.next + 1 < 18446744073709551616
       → PagesStandFor shape (with_table_page (with_next def (def.next + 1)) (pages_of g new)) (changed_at db def.number (appended (row.values ∷ [])))
   database_inserted row rid inserts number small =
-      database_with_more g shape old new def owners inserts.places.owners_now forests inserts.places.forests_now between.sound st inserts.places.changes touched longer
+      database_with_more g shape old new def owners inserts.owners_now forests inserts.forests_now between.sound st inserts.changes touched longer
       (numbers_here g shape old def owners forests between st) db stands (row_in_place rid row) number small inserts.rows
 
   -- a row less
   pub database_deleted : (row : Row) (rid : Rid) → DeletesRow g shape before noted room_of old new def row rid owners forests
       → PagesStandFor shape (with_table_page def (pages_of g new)) (changed_at db def.number (without_row row.number))
   database_deleted row rid deletes =
-      database_without g shape old new def owners deletes.takes.owners_now forests deletes.takes.forests_now between.sound st deletes.takes.changes touched longer
+      database_without g shape old new def owners deletes.owners_now forests deletes.forests_now between.sound st deletes.changes touched longer
       (numbers_here g shape old def owners forests between st) db stands (row_in_place rid row) deletes.rows
 
   -- a row that became another

@@ -7,7 +7,6 @@ use Rattle.std.specs.List.{AllZip, list_all}
 use Rattle.std.proofs.lemmas.Bool.{cases_eq, cases_lt, eq-eqb}
 use Rattle.std.proofs.lemmas.Nat.Bits.{bit_at-lt}
 use Rattle.std.proofs.lemmas.List.{get_or-set_other, get_or-set_same, get_or_past}
-use Rattle.mdc_words.specs.ByteOrder.{Entry}
 use Rattle.mdc_values.specs.declared.rid.Rid.{Rid}
 use Rattle.mdc_ast.specs.declared.definition.TableDef.{TableDef}
 use Rattle.mdc_ast.specs.declared.row.Row.{Row}
@@ -27,11 +26,10 @@ use Rattle.table_trees.specs.TreesBeside.{table_of_block}
 use Rattle.table_trees.proofs.KeptOwnersLemmas.{idle_no_block, used_no_block}
 use Rattle.table_trees.proofs.PageCountLemmas.{grows_pages_none, grows_pages_then}
 use Rattle.table_trees.specs.ToldPages.{PageList}
-use Rattle.mdc_sound.specs.Placing.{AfterClaims, AfterReturns, ChangesRow, PutsRow, Spot, TakesRow, block_slot_count, left_with, spot_of_kind, spot_of_state}
+use Rattle.mdc_sound.specs.Placing.{AfterClaims, AfterReturns, ChangesRow, PutsRow, Spot, SpotsAfterClaims, SpotsAfterReturns, TakesRow, block_slot_count, left_with, spot_of_kind, spot_of_state}
 use Rattle.mdc_sound.specs.Placing.Spot.{FreeExtent, IndexExtent, OtherBlock, FreeBlock, PendingBlock, UsedBlock}
-use Rattle.mdc_sound.specs.StandingTable.{ChangesTable, IsBlockPageOf, PlacesRow, RoomNote, StandsTable, TableForests, TakesRowOut, forests_in_order, pages_of, spots_of}
+use Rattle.mdc_sound.specs.StandingTable.{ChangesTable, IsBlockPageOf, StandsTable, TableForests, forests_in_order, pages_of, spots_of}
 use Rattle.mdc_sound.specs.TableRows.{block_slots}
-use Rattle.cell_change.specs.RowChanges.{ChangesOneRow}
 use Rattle.mdc_sound.proofs.TableSpotsLemmas.{spot_at}
 
 -- ---- spots that are no blocks
@@ -141,6 +139,12 @@ idle_if shape owners p page no_block unused = record { page = page; idle = go (o
       }))
     ]
 
+-- a page of the trees, of the extent map or an idle one is one of the table's
+pub tree_space : (shape : Shape) (def : TableDef) (owners : List Kind) (forests : TableForests) (p : ℕ) → 0 < sum_by (times p) (forests_in_order forests) ⊎ (IsSpacePage shape p ⊎ IsIdlePage shape owners p)
+    → 0 < sum_by (times p) (forests_in_order forests) ⊎ (IsBlockPageOf shape owners def.number p ⊎ (IsSpacePage shape p ⊎ IsIdlePage shape owners p))
+tree_space shape def owners forests p (inl tree) = inl tree
+tree_space shape def owners forests p (inr space) = inr (inr space)
+
 -- ---- one change, and another behind it
 
 module _ {S : Type 0} (g : Ghosts S) (shape : Shape) (old : S) (def : TableDef) (owners : List Kind) (forests : TableForests) where
@@ -170,28 +174,30 @@ module _ {S : Type 0} (g : Ghosts S) (shape : Shape) (old middle : S) (def : Tab
     | inr past ↦ ap table_of_block (get_or_past owners e Free (omega (arith, past, st.trees.map.count)))
   ]
 
-  -- taking a row out leaves each block one
-  pub takes_no_block : {before noted : SpaceNotes} (room_of : Entry → RoomNote) (row : Row) (rid : Rid) → StandsTable g shape old def owners forests → (takes : TakesRowOut g shape before noted room_of old middle def owners forests row rid)
-      → (e : ℕ) → table_of_block (owner_of takes.owners_now e) ≡ None → table_of_block (owner_of owners e) ≡ None
-  takes_no_block room_of row rid st takes =
-      gives_up_none takes.owners_now takes.forests_now st
-      (λ e none. before_taking (spots_of g shape old def owners forests) takes.mid rid row e takes.takes (before_returns takes.mid (spots_of g shape middle def takes.owners_now takes.forests_now) e takes.returns none))
+  -- what becomes of the spots leaves each block one: a row is taken out, put, or becomes another, or trees alone take extents or give
+  -- them back
+  module _ (st : StandsTable g shape old def owners forests) (owners_mid : List Kind) (forests_mid : TableForests) (mid : List Spot) where
+    abbrev spots_old : List Spot
+    spots_old = spots_of g shape old def owners forests
 
-  -- so does putting one
-  pub places_no_block : {before noted : SpaceNotes} (room_of : Entry → RoomNote) (row : Row) (rid : Rid) → StandsTable g shape old def owners forests → (places : PlacesRow g shape before noted room_of old middle def owners forests row rid)
-      → (e : ℕ) → table_of_block (owner_of places.owners_now e) ≡ None → table_of_block (owner_of owners e) ≡ None
-  places_no_block room_of row rid st places =
-      gives_up_none places.owners_now places.forests_now st
-      (λ e none. before_putting def (block_slot_count shape def) (spots_of g shape old def owners forests) places.mid row rid e places.puts
-      (before_claims places.mid (spots_of g shape middle def places.owners_now places.forests_now) e places.claims none))
+    abbrev spots_mid : List Spot
+    spots_mid = spots_of g shape middle def owners_mid forests_mid
 
-  -- and making one another
-  pub turns_no_block : {before noted : SpaceNotes} (room_of : Entry → RoomNote) (row other : Row) (rid to : Rid) → StandsTable g shape old def owners forests → (one : ChangesOneRow g shape before noted room_of old middle def row other rid to owners forests)
-      → (e : ℕ) → table_of_block (owner_of one.owners_now e) ≡ None → table_of_block (owner_of owners e) ≡ None
-  turns_no_block room_of row other rid to st one =
-      gives_up_none one.owners_now one.forests_now st
-      (λ e none. before_turning def (block_slot_count shape def) (spots_of g shape old def owners forests) one.mid row other rid to e one.turns
-      (before_claims one.mid (spots_of g shape middle def one.owners_now one.forests_now) e one.claims none))
+    pub takes_no_block : (row : Row) (rid : Rid) → TakesRow spots_old rid row mid → SpotsAfterReturns mid spots_mid → (e : ℕ) → table_of_block (owner_of owners_mid e) ≡ None → table_of_block (owner_of owners e) ≡ None
+    takes_no_block row rid takes returns = gives_up_none owners_mid forests_mid st (λ e none. before_taking spots_old mid rid row e takes (before_returns mid spots_mid e returns none))
+
+    pub puts_no_block : (row : Row) (rid : Rid) → PutsRow def (block_slot_count shape def) spots_old row mid rid → SpotsAfterClaims mid spots_mid → (e : ℕ) → table_of_block (owner_of owners_mid e) ≡ None → table_of_block (owner_of owners e) ≡ None
+    puts_no_block row rid puts claims = gives_up_none owners_mid forests_mid st (λ e none. before_putting def (block_slot_count shape def) spots_old mid row rid e puts (before_claims mid spots_mid e claims none))
+
+    pub turns_no_block : (row other : Row) (rid to : Rid) → ChangesRow def (block_slot_count shape def) spots_old rid row other mid to → SpotsAfterClaims mid spots_mid
+        → (e : ℕ) → table_of_block (owner_of owners_mid e) ≡ None → table_of_block (owner_of owners e) ≡ None
+    turns_no_block row other rid to turns claims =
+        gives_up_none owners_mid forests_mid st (λ e none. before_turning def (block_slot_count shape def) spots_old mid row other rid to e turns (before_claims mid spots_mid e claims none))
+
+  pub returns_no_block : (owners_mid : List Kind) (forests_mid : TableForests) → StandsTable g shape old def owners forests → SpotsAfterReturns (spots_of g shape old def owners forests) (spots_of g shape middle def owners_mid forests_mid)
+      → (e : ℕ) → table_of_block (owner_of owners_mid e) ≡ None → table_of_block (owner_of owners e) ≡ None
+  returns_no_block owners_mid forests_mid st returns =
+      gives_up_none owners_mid forests_mid st (λ e none. before_returns (spots_of g shape old def owners forests) (spots_of g shape middle def owners_mid forests_mid) e returns none)
 
   module _ {before mid : SpaceNotes} (owners_mid : List Kind) (forests_mid : TableForests) (first : ChangesTable g shape before mid old middle def owners forests owners_mid forests_mid) where
     -- a used page outside the table's trees is outside of them still

@@ -1,1 +1,2 @@
+pub mod ExpectedTables
 pub mod RowChanges

@@ -11,22 +11,24 @@ ghost use Rattle.mdc_ast.specs.FittingRows.{RowFits};
 ghost use Rattle.mdc_sound.specs.Placing.Spot.{OtherBlock};
 ghost use Rattle.mdc_sound.specs.RunningFull.{InsertRunsFull, putting_changes};
 ghost use Rattle.mdc_sound.specs.SoundDatabase.{IsSoundBetweenChanges, with_table_page};
-ghost use Rattle.mdc_sound.specs.StandingTable.{BreaksTable, IsReadyTable, IsTableSpace, KeepsBlocksBut, TableForests, pages_of, spots_of};
+ghost use Rattle.mdc_sound.specs.StandingTable.{BreaksExpected, IsReadyTable, IsTableSpace, KeepsBlocksBut, TableForests, pages_of, spots_of};
 ghost use Rattle.mdc_sound.specs.StandsForDatabase.{PagesStandFor};
 ghost use Rattle.free_space.specs.RoomNotes.{room_of};
+ghost use Rattle.cell_change.specs.ExpectedTables.{HasSoundIndexes};
 ghost use Rattle.cell_change.specs.RowChanges.{InsertsRow};
 
+use crate::putting::put_row;
 use extent_map::{SpaceFault, SpaceNotes};
 use mdc_ast::{Row, TableDef};
-use mdc_table::{Rooms, place_row};
+use mdc_table::Rooms;
 use mdc_values::Rid;
 use std::alloc::Global;
 use store_api::{Pages, Shape};
 
-/// Inserts a row that fits the definition and whose number is the table's next one, which it raises, and answers where the row
-/// lies. It claims no more pages than the row asks for. `Full` says that an INSERT of the row runs full: no Used block of its
-/// cell has room, and what it needs asks for more extents than are free. After a fault the definition is as it was, `undo` goes
-/// back to a mark, and the notes of free space and of the rooms are to be forgotten.
+/// Inserts a row that fits the definition and whose number is the table's next one, which it raises, and enters it in all record
+/// indexes. It answers where the row lies, and claims no more pages than the row asks for. `Full` says that an INSERT of the row runs
+/// full: what it needs where placing puts it, and then in the record indexes, asks for more extents than are free. After a fault the
+/// definition is as it was, `undo` goes back to a mark, and the notes of free space and of the rooms are to be forgotten.
 pub fn insert_row<P: Pages>(
     alloc: Global,
     def: &mut TableDef,
@@ -37,7 +39,6 @@ pub fn insert_row<P: Pages>(
     row: &Row,
 ) -> Result<Rid, SpaceFault>
     requires defined { IsTableDef def.old.number def.old }
-    requires no_indexes { def.old.indexes ≡ [] }
     requires fits { RowFits def.old row.now }
     requires number { row.now.number ≡ def.old.next }
     requires more { def.old.next + 1 < 2 ^ 64 }
@@ -57,9 +58,9 @@ pub fn insert_row<P: Pages>(
     ensures full { IfErr result (λ fault. IfFull fault (λ cap. (cap ≡ shape.extents) × ((owners : List Kind) (forests : TableForests) → IsReadyTable P.Pages shape notes.old (room_of rooms.old) pages.old def.old owners forests
         → InsertRunsFull shape (pages_of P.Pages pages.old) def.old (row.now ∷ [])))) }
     ensures runs { RunsOverPages P.Pages (IsTableSpace P.Pages shape pages.old def.old) (IsTableSpace P.Pages shape pages.old def.old)
-        (BreaksTable P.Pages shape pages.old def.old) pages.old pages.new (store_fault_in store_part_of result) }
+        (BreaksExpected P.Pages shape pages.old def.old (HasSoundIndexes P.Pages shape pages.old def.old)) pages.old pages.new (store_fault_in store_part_of result) }
 {
-    let rid = place_row(alloc, def, shape, notes, rooms, pages, row)?;
+    let rid = put_row(alloc, def, shape, notes, rooms, pages, row)?;
     def.next += 1;
     Ok(rid)
 }

@@ -1,5 +1,5 @@
 // One change of a table each.
-ghost use Rattle.std.specs.Prelude.{◌≡◌, [], false, IfOk};
+ghost use Rattle.std.specs.Prelude.{◌≡◌, false, IfOk};
 ghost use Rattle.mdc_ast.specs.TableLimits.{IsTableDef};
 ghost use Rattle.mdc_ast.specs.FittingRows.{RowFits};
 
@@ -50,10 +50,8 @@ pub fn try_insert<P: Pages>(
     seed: u64,
 ) -> Result<Result<Rid, SpaceFault>, Fail>
     requires defined { IsTableDef table.old.def.number table.old.def }
-    requires no_indexes { table.old.def.indexes ≡ [] }
     requires going { (P.state pages.old).ended ≡ false }
     ensures defined { IsTableDef table.new.def.number table.new.def }
-    ensures no_indexes { table.new.def.indexes ≡ [] }
     ensures going { (P.state pages.new).ended ≡ false }
     ensures marked { (P.state pages.new).marked ≡ (P.state pages.old).marked }
 {
@@ -79,10 +77,8 @@ pub fn insert<P: Pages>(
     seed: u64,
 ) -> Result<Held, Fail>
     requires defined { IsTableDef table.old.def.number table.old.def }
-    requires no_indexes { table.old.def.indexes ≡ [] }
     requires going { (P.state pages.old).ended ≡ false }
     ensures defined { IsTableDef table.new.def.number table.new.def }
-    ensures no_indexes { table.new.def.indexes ≡ [] }
     ensures going { (P.state pages.new).ended ≡ false }
     ensures marked { (P.state pages.new).marked ≡ (P.state pages.old).marked }
 {
@@ -107,10 +103,8 @@ pub fn insert_as<P: Pages>(
     wanted: Held,
 ) -> Result<(), Fail>
     requires defined { IsTableDef table.old.def.number table.old.def }
-    requires no_indexes { table.old.def.indexes ≡ [] }
     requires going { (P.state pages.old).ended ≡ false }
     ensures defined { IsTableDef table.new.def.number table.new.def }
-    ensures no_indexes { table.new.def.indexes ≡ [] }
     ensures going { (P.state pages.new).ended ≡ false }
     ensures marked { (P.state pages.new).marked ≡ (P.state pages.old).marked }
 {
@@ -125,10 +119,8 @@ pub fn delete<P: Pages>(
     held: Held,
 ) -> Result<(), Fail>
     requires defined { IsTableDef table.old.def.number table.old.def }
-    requires no_indexes { table.old.def.indexes ≡ [] }
     requires going { (P.state pages.old).ended ≡ false }
     ensures defined { IsTableDef table.new.def.number table.new.def }
-    ensures no_indexes { table.new.def.indexes ≡ [] }
     ensures going { (P.state pages.new).ended ≡ false }
 {
     let Table {
@@ -152,10 +144,8 @@ pub fn change<P: Pages>(
     seed: u64,
 ) -> Result<Held, Fail>
     requires defined { IsTableDef table.old.def.number table.old.def }
-    requires no_indexes { table.old.def.indexes ≡ [] }
     requires going { (P.state pages.old).ended ≡ false }
     ensures defined { IsTableDef table.new.def.number table.new.def }
-    ensures no_indexes { table.new.def.indexes ≡ [] }
     ensures going { (P.state pages.new).ended ≡ false }
 {
     let Table {
@@ -186,10 +176,8 @@ pub fn change_to<P: Pages>(
     wanted: Held,
 ) -> Result<(), Fail>
     requires defined { IsTableDef table.old.def.number table.old.def }
-    requires no_indexes { table.old.def.indexes ≡ [] }
     requires going { (P.state pages.old).ended ≡ false }
     ensures defined { IsTableDef table.new.def.number table.new.def }
-    ensures no_indexes { table.new.def.indexes ≡ [] }
     ensures going { (P.state pages.new).ended ≡ false }
 {
     check_row(change(alloc, table, pages, held, wanted.seed)?, wanted)

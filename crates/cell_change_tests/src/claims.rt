@@ -19,7 +19,7 @@
 // | 291 | 293: no block | 294: no page for D and S | 295: done | |
 // | 453 | 457: no block | 458: no page for D | 459: no page for S | 460: done |
 // | 582 | 588: no block | 589: no page for the block map | 590: done | |
-ghost use Rattle.std.specs.Prelude.{◌≡◌, [], false, None, OnOk};
+ghost use Rattle.std.specs.Prelude.{◌≡◌, false, None, OnOk};
 ghost use Rattle.mdc_ast.specs.TableLimits.{IsTableDef};
 
 use crate::changes::{insert, try_insert};
@@ -70,10 +70,8 @@ fn page_of<P: Pages>(pages: &mut P, p: u32) -> Result<Page, Fail>
 // Inserts so many rows of a cell each.
 fn fill<P: Pages>(alloc: Global, table: &mut Table, pages: &mut P, rows: u64) -> Result<(), Fail>
     requires defined { IsTableDef table.old.def.number table.old.def }
-    requires no_indexes { table.old.def.indexes ≡ [] }
     requires going { (P.state pages.old).ended ≡ false }
     ensures defined { IsTableDef table.new.def.number table.new.def }
-    ensures no_indexes { table.new.def.indexes ≡ [] }
     ensures going { (P.state pages.new).ended ≡ false }
     ensures marked { (P.state pages.new).marked ≡ (P.state pages.old).marked }
 {
@@ -90,11 +88,9 @@ fn insert_and_undo<P: Pages>(
     pages: &mut P,
 ) -> Result<(Result<Rid, SpaceFault>, u32), Fail>
     requires defined { IsTableDef table.old.def.number table.old.def }
-    requires no_indexes { table.old.def.indexes ≡ [] }
     requires going { (P.state pages.old).ended ≡ false }
     requires unmarked { (P.state pages.old).marked ≡ None }
     ensures defined { IsTableDef table.new.def.number table.new.def }
-    ensures no_indexes { table.new.def.indexes ≡ [] }
     ensures going { (P.state pages.new).ended ≡ false }
     ensures unmarked { OnOk result ((P.state pages.new).marked ≡ None) }
 {
@@ -117,11 +113,9 @@ fn check_claim<P: Pages>(
     claim: Claim,
 ) -> Result<(), Fail>
     requires defined { IsTableDef table.old.def.number table.old.def }
-    requires no_indexes { table.old.def.indexes ≡ [] }
     requires going { (P.state pages.old).ended ≡ false }
     requires unmarked { (P.state pages.old).marked ≡ None }
     ensures defined { IsTableDef table.new.def.number table.new.def }
-    ensures no_indexes { table.new.def.indexes ≡ [] }
     ensures going { (P.state pages.new).ended ≡ false }
     ensures unmarked { OnOk result ((P.state pages.new).marked ≡ None) }
 {
@@ -141,11 +135,9 @@ fn try_claim<P: Pages>(
     claim: Claim,
 ) -> Result<(), Fail>
     requires defined { IsTableDef table.old.def.number table.old.def }
-    requires no_indexes { table.old.def.indexes ≡ [] }
     requires going { (P.state pages.old).ended ≡ false }
     requires unmarked { (P.state pages.old).marked ≡ None }
     ensures defined { IsTableDef table.new.def.number table.new.def }
-    ensures no_indexes { table.new.def.indexes ≡ [] }
     ensures going { (P.state pages.new).ended ≡ false }
     ensures unmarked { OnOk result ((P.state pages.new).marked ≡ None) }
 {
@@ -163,7 +155,6 @@ fn try_each<P: Pages>(
     claims: &[Claim],
 ) -> Result<(), Fail>
     requires defined { IsTableDef table.old.def.number table.old.def }
-    requires no_indexes { table.old.def.indexes ≡ [] }
     requires going { (P.state pages.old).ended ≡ false }
     requires unmarked { (P.state pages.old).marked ≡ None }
 {
@@ -182,7 +173,6 @@ fn fill_and_try<P: Pages>(
     claims: &[Claim],
 ) -> Result<(), Fail>
     requires defined { IsTableDef table.old.def.number table.old.def }
-    requires no_indexes { table.old.def.indexes ≡ [] }
     requires going { (P.state pages.old).ended ≡ false }
     requires unmarked { (P.state pages.old).marked ≡ None }
 {

@@ -1,5 +1,5 @@
 // A database with no free extent left.
-ghost use Rattle.std.specs.Prelude.{◌≡◌, [], false, None};
+ghost use Rattle.std.specs.Prelude.{◌≡◌, false, None};
 ghost use Rattle.mdc_ast.specs.TableLimits.{IsTableDef};
 
 use crate::changes::{Held, check_blocks, delete, insert, insert_as, try_insert};
@@ -42,10 +42,8 @@ const LAST: Held = Held {
 // Inserts a row of each seed from 2 to 14.
 fn fill<P: Pages>(alloc: Global, table: &mut Table, pages: &mut P) -> Result<(), Fail>
     requires defined { IsTableDef table.old.def.number table.old.def }
-    requires no_indexes { table.old.def.indexes ≡ [] }
     requires going { (P.state pages.old).ended ≡ false }
     ensures defined { IsTableDef table.new.def.number table.new.def }
-    ensures no_indexes { table.new.def.indexes ≡ [] }
     ensures going { (P.state pages.new).ended ≡ false }
     ensures marked { (P.state pages.new).marked ≡ (P.state pages.old).marked }
 {
@@ -58,11 +56,9 @@ fn fill<P: Pages>(alloc: Global, table: &mut Table, pages: &mut P) -> Result<(),
 // Inserts a row of a fifteenth cell, which doesn't find a block, and undoes that.
 fn insert_and_undo<P: Pages>(alloc: Global, table: &mut Table, pages: &mut P) -> Result<(), Fail>
     requires defined { IsTableDef table.old.def.number table.old.def }
-    requires no_indexes { table.old.def.indexes ≡ [] }
     requires going { (P.state pages.old).ended ≡ false }
     requires unmarked { (P.state pages.old).marked ≡ None }
     ensures defined { IsTableDef table.new.def.number table.new.def }
-    ensures no_indexes { table.new.def.indexes ≡ [] }
     ensures going { (P.state pages.new).ended ≡ false }
 {
     pages.mark();
@@ -79,7 +75,6 @@ fn insert_and_undo<P: Pages>(alloc: Global, table: &mut Table, pages: &mut P) ->
 // The first row leaves, and the one of the fifteenth cell takes its block.
 fn retry<P: Pages>(alloc: Global, table: &mut Table, pages: &mut P) -> Result<(), Fail>
     requires defined { IsTableDef table.old.def.number table.old.def }
-    requires no_indexes { table.old.def.indexes ≡ [] }
     requires going { (P.state pages.old).ended ≡ false }
 {
     delete(alloc, table, pages, FIRST)?;
@@ -90,7 +85,6 @@ fn retry<P: Pages>(alloc: Global, table: &mut Table, pages: &mut P) -> Result<()
 // Rows of fourteen cells come, and one of a fifteenth doesn't find a block; it is undone, and tried again once a block is Free.
 fn fill_and_retry<P: Pages>(alloc: Global, table: &mut Table, pages: &mut P) -> Result<(), Fail>
     requires defined { IsTableDef table.old.def.number table.old.def }
-    requires no_indexes { table.old.def.indexes ≡ [] }
     requires going { (P.state pages.old).ended ≡ false }
     requires unmarked { (P.state pages.old).marked ≡ None }
 {

@@ -1,6 +1,6 @@
 // Hundreds of changes of a table beside a plain list of the rows that should be there. The database that the pages stand for has
 // exactly these, and so has the table as it is read by its blocks and by its places.
-ghost use Rattle.std.specs.Prelude.{◌≡◌, [], false};
+ghost use Rattle.std.specs.Prelude.{◌≡◌, false};
 ghost use Rattle.mdc_ast.specs.TableLimits.{IsTableDef};
 
 use crate::changes::{blocks_of, change, delete, insert, looked_at};
@@ -35,10 +35,8 @@ fn change_one<P: Pages>(
     any: u64,
 ) -> Result<(), Fail>
     requires defined { IsTableDef table.old.def.number table.old.def }
-    requires no_indexes { table.old.def.indexes ≡ [] }
     requires going { (P.state pages.old).ended ≡ false }
     ensures defined { IsTableDef table.new.def.number table.new.def }
-    ensures no_indexes { table.new.def.indexes ≡ [] }
     ensures going { (P.state pages.new).ended ≡ false }
 {
     let seed = seed_of(table.kind, any / 64);
@@ -62,10 +60,8 @@ fn change_some<P: Pages>(
     first: u64,
 ) -> Result<u64, Fail>
     requires defined { IsTableDef table.old.def.number table.old.def }
-    requires no_indexes { table.old.def.indexes ≡ [] }
     requires going { (P.state pages.old).ended ≡ false }
     ensures defined { IsTableDef table.new.def.number table.new.def }
-    ensures no_indexes { table.new.def.indexes ≡ [] }
     ensures going { (P.state pages.new).ended ≡ false }
 {
     let mut number = first;
@@ -86,10 +82,8 @@ fn move_one<P: Pages>(
     seed: u64,
 ) -> Result<(), Fail>
     requires defined { IsTableDef table.old.def.number table.old.def }
-    requires no_indexes { table.old.def.indexes ≡ [] }
     requires going { (P.state pages.old).ended ≡ false }
     ensures defined { IsTableDef table.new.def.number table.new.def }
-    ensures no_indexes { table.new.def.indexes ≡ [] }
     ensures going { (P.state pages.new).ended ≡ false }
 {
     let was = take_out(list, place)?;
@@ -266,7 +260,6 @@ fn change_and_check<P: Pages>(
     rounds: u32,
 ) -> Result<(), Fail>
     requires defined { IsTableDef table.old.def.number table.old.def }
-    requires no_indexes { table.old.def.indexes ≡ [] }
     requires going { (P.state pages.old).ended ≡ false }
 {
     let mut number: u64 = 1;

@@ -1,5 +1,5 @@
 // Where rows of the wide table go. Its trees take the extents 0 and 1, so its blocks are 2, 3 and so on, of 10 rows each.
-ghost use Rattle.std.specs.Prelude.{◌≡◌, [], false};
+ghost use Rattle.std.specs.Prelude.{◌≡◌, false};
 ghost use Rattle.mdc_ast.specs.TableLimits.{IsTableDef};
 
 use crate::changes::{Held, change_to, check_blocks, check_place, delete, insert_as};
@@ -32,10 +32,8 @@ enum Step {
 // Inserts the rows 0 to 10 of the cell 1: ten go into block 2, and one into block 3.
 fn insert_eleven<P: Pages>(alloc: Global, table: &mut Table, pages: &mut P) -> Result<(), Fail>
     requires defined { IsTableDef table.old.def.number table.old.def }
-    requires no_indexes { table.old.def.indexes ≡ [] }
     requires going { (P.state pages.old).ended ≡ false }
     ensures defined { IsTableDef table.new.def.number table.new.def }
-    ensures no_indexes { table.new.def.indexes ≡ [] }
     ensures going { (P.state pages.new).ended ≡ false }
 {
     for i in 0..11u16 {
@@ -49,10 +47,8 @@ fn insert_eleven<P: Pages>(alloc: Global, table: &mut Table, pages: &mut P) -> R
 // Makes a change, or fails where something else is seen.
 fn play<P: Pages>(alloc: Global, table: &mut Table, pages: &mut P, step: Step) -> Result<(), Fail>
     requires defined { IsTableDef table.old.def.number table.old.def }
-    requires no_indexes { table.old.def.indexes ≡ [] }
     requires going { (P.state pages.old).ended ≡ false }
     ensures defined { IsTableDef table.new.def.number table.new.def }
-    ensures no_indexes { table.new.def.indexes ≡ [] }
     ensures going { (P.state pages.new).ended ≡ false }
 {
     match step {
@@ -74,7 +70,6 @@ fn play_all<P: Pages>(
     steps: &[Step],
 ) -> Result<(), Fail>
     requires defined { IsTableDef table.old.def.number table.old.def }
-    requires no_indexes { table.old.def.indexes ≡ [] }
     requires going { (P.state pages.old).ended ≡ false }
 {
     for step in steps {

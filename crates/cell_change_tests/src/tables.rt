@@ -1,5 +1,5 @@
 // The tables of these tests: their trees, and their definitions by the bytes of table pages.
-ghost use Rattle.std.specs.Prelude.{◌≡◌, ◌≤◌, [], false, IfOk};
+ghost use Rattle.std.specs.Prelude.{◌≡◌, ◌≤◌, false, IfOk};
 ghost use Rattle.mdc_ast.specs.TableLimits.{IsTableDef};
 
 use entry_tree::Tree;
@@ -43,7 +43,6 @@ pub fn table_of<P: Pages>(
 ) -> Result<Table, Fail>
     requires going { (P.state pages.old).ended ≡ false }
     ensures defined { IfOk result (λ table. IsTableDef table.def.number table.def) }
-    ensures no_indexes { IfOk result (λ table. table.def.indexes ≡ []) }
     ensures going { (P.state pages.new).ended ≡ false }
     ensures marked { (P.state pages.new).marked ≡ (P.state pages.old).marked }
 {
@@ -119,7 +118,6 @@ fn root_of<P: Pages>(
 // The definition on a page of the table 0, which has no indexes.
 fn definition_on(alloc: Global, page: &Page) -> Result<TableDef, Fail>
     ensures defined { IfOk result (λ def. IsTableDef def.number def) }
-    ensures no_indexes { IfOk result (λ def. def.indexes ≡ []) }
 {
     let found = def_of(alloc, page, 0)?;
     let Some(def) = found else {

@@ -1,5 +1,5 @@
 -- How a call on the rows of a table ends that leaves the pages as they were: one that reads, and a change that met a fault.
-use Rattle.std.proofs.Common.{◌≡◌, ◌<◌, ◌∙◌, ℕ, List, Err, None, Option, Some, ap, unwrap_or}
+use Rattle.std.proofs.Common.{◌≡◌, ◌<◌, ◌∙◌, ℕ, List, Err, None, Option, Some, ap, subst, sym, unwrap_or}
 use Rattle.mdc_words.specs.ByteOrder.{Entry}
 use Rattle.mdc_words.specs.Faults.{CountsFault}
 use Rattle.mdc_words.proofs.FaultsLemmas.{counts_fault_then}
@@ -23,12 +23,15 @@ use Rattle.extent_map.specs.declared.fault.SpaceFault.TheVariants.{Full}
 use Rattle.extent_map.specs.declared.kind.Kind.{Kind}
 use Rattle.extent_map.specs.declared.space_notes.SpaceNotes.{SpaceNotes}
 use Rattle.mdc_ast.specs.TableLimits.{IsTableDef}
-use Rattle.mdc_sound.specs.StandingTable.{BreaksExpected, BreaksTable, IsReadyTable, RoomNote, TableForests}
+use Rattle.table_trees.specs.ToldPages.{PageList}
+use Rattle.mdc_sound.specs.BlockRules.{AreTableIndexesSound}
+use Rattle.mdc_sound.specs.StandingTable.{BreaksExpected, BreaksTable, IsReadyTable, RoomNote, TableForests, view_of}
 use Rattle.table_blocks.specs.BlockSteps.{HasThisRow}
 use Rattle.free_space.specs.RoomNotes.{IsForgotten}
 use Rattle.free_space.specs.declared.rooms.Rooms.{Rooms}
 use Rattle.mdc_table.specs.TableReading.{HasUsedBlock}
-use Rattle.checked_table.specs.ExactDamage.{AnswersExactly, CountsAnswer, HasRowIfStanding, HasUsedIfStanding, JudgesFault}
+use Rattle.cell_change.specs.ExpectedTables.{HasSoundIndexes, WithSoundIndexes}
+use Rattle.checked_table.specs.ExactDamage.{AnswersExactly, CountsAnswer, HasRowIfStanding, HasUsedIfStanding, IfStanding, JudgesFault}
 use Rattle.checked_table.specs.WholeChanges.{BeginsChange, ForgetsNotes, HasSamePages, IsWholeChange, UndoesChange}
 use Rattle.checked_table.proofs.ExactDamageLemmas.{answers_exactly, answers_none, full_handed_on}
 use Rattle.checked_table.proofs.SamePagesLemmas.{if_stood, ready_there, row_there, stands_there}
@@ -68,7 +71,7 @@ module _ {S : Type 0} {g : Ghosts S} {Mine Kind : ℕ → Type 0} {old mid : S} 
         → (g.state new).marked ≡ None → Steady g mid new → CountsAnswer g mid new met answered → JudgesFault g shape def new met answered → IsTableDef def.number def → def.number < 16
         → LeavesPages g (AnswersExactly g shape def old answered) old new answered
     end_read {shape} {def} runs same work unmarked end counts judges defined low = read_back runs same work unmarked end counts
-        (λ pages. answers_exactly g shape old new def met answered defined low pages (λ damage is. (runs.cause.damaged damage is).broken) judges)
+        (λ pages. answers_exactly g shape old new def met answered defined low pages (λ damage is owners forests st sound. (runs.cause.damaged damage is).broken owners forests st) judges)
 
     -- the same of a block that it expects to be a Used one
     pub end_block_read : {shape : Shape} {def : TableDef} {block : ℕ} → RunsOverPages g Mine Kind (BreaksExpected g shape old def (HasUsedBlock block)) old mid met
@@ -77,7 +80,7 @@ module _ {S : Type 0} {g : Ghosts S} {Mine Kind : ℕ → Type 0} {old mid : S} 
         → IsTableDef def.number def → def.number < 16 → LeavesPages g (HasUsedIfStanding g shape old def block → AnswersExactly g shape def old answered) old new answered
     end_block_read {shape} {def} runs same work unmarked end counts judges defined low = read_back runs same work unmarked end counts
         (λ pages has. answers_exactly g shape old new def met answered defined low pages
-        (λ damage is owners forests st. (runs.cause.damaged damage is).broken owners forests st (has owners forests st)) judges)
+        (λ damage is owners forests st sound. (runs.cause.damaged damage is).broken owners forests st (has owners forests st)) judges)
 
 -- ---- a change that goes back
 
@@ -113,7 +116,7 @@ module _ {S : Type 0} {g : Ghosts S} {Mine : ℕ → Type 0} {old marked mid new
       → GoesBack g (AnswersExactly g shape def old answered) noted rooms old new answered
   end_change {shape} {def} {met} begins runs undoes counts forgets judges defined low =
       went_back begins runs undoes forgets (counts (g.disk_faults old) (counts_fault_then begins.disk_faults runs.cause.device))
-      (λ pages. answers_exactly g shape old new def met answered defined low pages (λ damage is. if_stood begins.pages (runs.cause.damaged damage is).broken) judges)
+      (λ pages. answers_exactly g shape old new def met answered defined low pages (λ damage is owners forests st sound. if_stood begins.pages (runs.cause.damaged damage is).broken owners forests st) judges)
 
   -- the same of a row that it expects in its place
   pub end_row_change : {shape : Shape} {def : TableDef} {rid : Rid} {row : Row} {met : Option StoreFault} → BeginsChange g old marked
@@ -123,7 +126,29 @@ module _ {S : Type 0} {g : Ghosts S} {Mine : ℕ → Type 0} {old marked mid new
   end_row_change {shape} {def} {rid} {row} {met} begins runs undoes counts forgets judges defined low =
       went_back begins runs undoes forgets (counts (g.disk_faults old) (counts_fault_then begins.disk_faults runs.cause.device))
       (λ pages has. answers_exactly g shape old new def met answered defined low pages
-      (λ damage is owners forests st. (runs.cause.damaged damage is).broken owners forests (stands_there begins.pages st) (row_there begins.pages (has owners forests st))) judges)
+      (λ damage is owners forests st sound. (runs.cause.damaged damage is).broken owners forests (stands_there begins.pages st) (row_there begins.pages (has owners forests st))) judges)
+
+  -- the same of sound record indexes that it expects
+  pub end_indexed_change : {shape : Shape} {def : TableDef} {met : Option StoreFault} → BeginsChange g old marked → RunsOverPages g Mine Mine (BreaksExpected g shape marked def (HasSoundIndexes g shape marked def)) marked mid met
+      → UndoesChange g mid new → CountsAnswer g mid new met answered → ForgetsNotes noted rooms → JudgesFault g shape def new met answered → IsTableDef def.number def → def.number < 16
+      → GoesBack g (AnswersExactly g shape def old answered) noted rooms old new answered
+  end_indexed_change {shape} {def} {met} begins runs undoes counts forgets judges defined low =
+      went_back begins runs undoes forgets (counts (g.disk_faults old) (counts_fault_then begins.disk_faults runs.cause.device))
+      (λ pages. answers_exactly g shape old new def met answered defined low pages
+      (λ damage is owners forests st sound.
+      (runs.cause.damaged damage is).broken owners forests (stands_there begins.pages st) (subst (λ (work : PageList). AreTableIndexesSound shape work (view_of def forests)) (sym begins.pages.same) sound)) judges)
+
+  -- and of what it expects of a table besides
+  pub end_expected_change : {shape : Shape} {def : TableDef} (Expected Marked : List Kind → TableForests → Type 0) {met : Option StoreFault} → ((owners : List Kind) (forests : TableForests) → Expected owners forests → Marked owners forests)
+      → BeginsChange g old marked → RunsOverPages g Mine Mine (BreaksExpected g shape marked def (WithSoundIndexes g shape marked def Marked)) marked mid met → UndoesChange g mid new
+      → CountsAnswer g mid new met answered → ForgetsNotes noted rooms → JudgesFault g shape def new met answered → IsTableDef def.number def → def.number < 16
+      → GoesBack g (IfStanding g shape old def Expected → AnswersExactly g shape def old answered) noted rooms old new answered
+  end_expected_change {shape} {def} Expected Marked {met} there begins runs undoes counts forgets judges defined low =
+      went_back begins runs undoes forgets (counts (g.disk_faults old) (counts_fault_then begins.disk_faults runs.cause.device))
+      (λ pages is_so. answers_exactly g shape old new def met answered defined low pages
+      (λ damage is owners forests st sound.
+      (runs.cause.damaged damage is).broken owners forests (stands_there begins.pages st)
+      (there owners forests (is_so owners forests st), subst (λ (work : PageList). AreTableIndexesSound shape work (view_of def forests)) (sym begins.pages.same) sound)) judges)
 
 -- so it is whole
 pub whole_back : {S X E : Type 0} {g : Ghosts S} {Exact : Type 0} {Mine : ℕ → Type 0} {noted : SpaceNotes} {rooms : Rooms} {old new : S} {e : E} {answered : Option StoreFault}

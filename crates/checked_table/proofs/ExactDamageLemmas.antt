@@ -17,15 +17,17 @@ use Rattle.extent_map.specs.declared.kind.Kind.{Kind}
 use Rattle.mdc_ast.specs.TableLimits.{IsTableDef}
 use Rattle.table_page.specs.TablePage.{table_page}
 use Rattle.table_trees.specs.ToldPages.{PageList}
+use Rattle.mdc_sound.specs.BlockRules.{AreTableIndexesSound}
 use Rattle.mdc_sound.specs.Breaks.{IsFirstBreak}
 use Rattle.mdc_sound.specs.Placing.{HasRoomFor, HoldsNowhere, table_spots}
 use Rattle.mdc_sound.specs.RunningFull.{RowRunsFull}
 use Rattle.mdc_sound.specs.SoundDatabase.{IsSoundDatabase, IsSoundWith, with_table_page}
-use Rattle.mdc_sound.specs.StandingTable.{StandsTable, TableForests, pages_of}
+use Rattle.mdc_sound.specs.StandingTable.{StandsTable, TableForests, pages_of, view_of}
 use Rattle.mdc_sound.specs.TablePages.{DefinesTable}
 use Rattle.mdc_sound.proofs.SoundDatabaseLemmas.{length-with_table_page}
 use Rattle.mdc_sound.proofs.StandingTableLemmas.{forests_of, stands_of_sound}
 use Rattle.mdc_table.specs.NextBlock.{FindsNoPlace}
+use Rattle.cell_change.proofs.RowChangesLemmas.{indexes_of_all}
 use Rattle.stored_catalog.proofs.OpenedTableLemmas.{defined_there}
 use Rattle.stored_catalog.proofs.SavingLemmas.{saved}
 use Rattle.checked_table.specs.ExactDamage.{AnswersExactly, IsUnsoundWith, JudgesFault}
@@ -43,18 +45,21 @@ sound_in_hand shape def pages limits low sound =
     record { view = sound.0; table = at.table; first = sound.1.first; there = at.there; same = at.same }
 
 module _ {S : Type 0} (g : Ghosts S) where
-  -- where the table doesn't stand, the pages aren't sound so
+  -- where the table doesn't stand with sound record indexes, the pages aren't sound so
   pub unsound_with : (shape : Shape) (old new : S) (def : TableDef) → IsTableDef def.number def → def.number < 16 → HasSamePages g old new
-      → ((owners : List Kind) (forests : TableForests) → StandsTable g shape old def owners forests → ⊥) → IsUnsoundWith g shape def new
+      → ((owners : List Kind) (forests : TableForests) → StandsTable g shape old def owners forests → AreTableIndexesSound shape (pages_of g old) (view_of def forests) → ⊥) → IsUnsoundWith g shape def new
+  unfolding sound_in_hand
   unsound_with shape old new def limits low pages none told sound =
       let in_hand = sound_in_hand shape def (pages_of g new) limits low sound in
       let owners = in_hand.view.owners in
       let forests = forests_of in_hand.table in
-      none owners forests (stands_there (pages_back pages) (stands_of_sound g shape new def in_hand told))
+      let stands = stands_of_sound g shape new def in_hand told in
+      none owners forests (stands_there (pages_back pages) stands)
+      (subst (λ (work : PageList). AreTableIndexesSound shape work (view_of def forests)) pages.same (indexes_of_all g shape new def owners forests in_hand sound.1.rule11 stands))
 
   -- so what was judged is the answer to the damage that was met
   pub answers_exactly : (shape : Shape) (old new : S) (def : TableDef) (met answered : Option StoreFault) → IsTableDef def.number def → def.number < 16 → HasSamePages g old new
-      → ((first : Damage) → met ≡ Some (Damaged first) → (owners : List Kind) (forests : TableForests) → StandsTable g shape old def owners forests → ⊥)
+      → ((first : Damage) → met ≡ Some (Damaged first) → (owners : List Kind) (forests : TableForests) → StandsTable g shape old def owners forests → AreTableIndexesSound shape (pages_of g old) (view_of def forests) → ⊥)
       → JudgesFault g shape def new met answered → AnswersExactly g shape def old answered
   answers_exactly shape old new def met answered limits low pages none judges damage is told =
       subst (λ (work : PageList). IsFirstBreak shape (with_table_page def work) damage.rule damage.page) pages.same

@@ -24,6 +24,7 @@ use Rattle.mdc_sound.specs.StandingTable.{AreRightRooms, ChangesTable, IsReadyTa
 use Rattle.mdc_sound.specs.StandsForDatabase.{PagesStandFor}
 use Rattle.mdc_sound.specs.TableRows.{rows_in_table}
 use Rattle.mdc_sound.proofs.StandingTableLemmas.{stands_same}
+use Rattle.mdc_table.specs.AnyPlace.{TakesOutAnywhere}
 use Rattle.mdc_table.proofs.PlacingRowsLemmas.{changes_along}
 use Rattle.cell_change.specs.RowChanges.{ChangesOneRow, DeletesRow, InsertsRow, TurnsRowBy, row_in_place}
 use Rattle.checked_table.specs.WholeChanges.{HasSamePages}
@@ -113,6 +114,19 @@ module _ {S : Type 0} {g : Ghosts S} {old marked mid new : S} (first : HasSamePa
       → AreRightRooms def rooms (table_spots shape (g.state new).work def owners forests.map)
   rooms_kept shape def rooms owners forests right = said_between (λ was is. AreRightRooms def rooms (table_spots shape is def owners forests.map)) right
 
+  -- a row that was taken out, whatever the notes say
+  pub out_between : {shape : Shape} {before noted : SpaceNotes} {def : TableDef} {row : Row} {rid : Rid} {owners : List Kind} {forests : TableForests} → TakesOutAnywhere g shape before noted marked mid def owners forests row rid
+      → TakesOutAnywhere g shape before noted old new def owners forests row rid
+  out_between {shape} {def = def} {row = row} {rid = rid} {owners = owners} {forests = forests} made = record {
+    owners_now = made.owners_now;
+    forests_now = made.forests_now;
+    changes = changes_between made.changes;
+    records = made.records;
+    mid = made.mid;
+    takes = said_between (λ was is. TakesRow (table_spots shape was def owners forests.map) rid row made.mid) made.takes;
+    returns = said_between (λ was is. SpotsAfterReturns made.mid (table_spots shape is def made.owners_now made.forests_now.map)) made.returns;
+  }
+
   module _ {shape : Shape} {before noted : SpaceNotes} {rooms : Entry → RoomNote} {def : TableDef} {row : Row} {rid : Rid} {owners : List Kind} {forests : TableForests} where
     pub places_between : PlacesRow g shape before noted rooms marked mid def owners forests row rid → PlacesRow g shape before noted rooms old new def owners forests row rid
     places_between made = record {
@@ -140,17 +154,29 @@ module _ {S : Type 0} {g : Ghosts S} {old marked mid new : S} (first : HasSamePa
 
     -- a row more, a row less, and one that became another
     pub inserts_between : InsertsRow g shape before noted rooms marked mid def row rid owners forests → InsertsRow g shape before noted rooms old new def row rid owners forests
-    unfolding places_between
     inserts_between made = record {
-      places = places_between made.places;
-      rows = said_between (λ was is. IsPermutation (row_in_place rid row ∷ rows_in_table shape was def forests.map) (rows_in_table shape is def made.places.forests_now.map)) made.rows;
+      owners_now = made.owners_now;
+      forests_now = made.forests_now;
+      changes = changes_between made.changes;
+      entries = made.entries;
+      rooms = rooms_kept shape def rooms made.owners_now made.forests_now made.rooms;
+      mid = made.mid;
+      puts = said_between (λ was is. PutsRow def (block_slot_count shape def) (table_spots shape was def owners forests.map) row made.mid rid) made.puts;
+      claims = said_between (λ was is. SpotsAfterClaims made.mid (table_spots shape is def made.owners_now made.forests_now.map)) made.claims;
+      rows = said_between (λ was is. IsPermutation (row_in_place rid row ∷ rows_in_table shape was def forests.map) (rows_in_table shape is def made.forests_now.map)) made.rows;
     }
 
     pub deletes_between : DeletesRow g shape before noted rooms marked mid def row rid owners forests → DeletesRow g shape before noted rooms old new def row rid owners forests
-    unfolding takes_between
     deletes_between made = record {
-      takes = takes_between made.takes;
-      rows = said_between (λ was is. IsPermutation (row_in_place rid row ∷ rows_in_table shape is def made.takes.forests_now.map) (rows_in_table shape was def forests.map)) made.rows;
+      owners_now = made.owners_now;
+      forests_now = made.forests_now;
+      changes = changes_between made.changes;
+      entries = made.entries;
+      rooms = rooms_kept shape def rooms made.owners_now made.forests_now made.rooms;
+      mid = made.mid;
+      takes = said_between (λ was is. TakesRow (table_spots shape was def owners forests.map) rid row made.mid) made.takes;
+      returns = said_between (λ was is. SpotsAfterReturns made.mid (table_spots shape is def made.owners_now made.forests_now.map)) made.returns;
+      rows = said_between (λ was is. IsPermutation (row_in_place rid row ∷ rows_in_table shape is def made.forests_now.map) (rows_in_table shape was def forests.map)) made.rows;
     }
 
     pub turns_between : {other : Row} {to : Rid} → ChangesOneRow g shape before noted rooms marked mid def row other rid to owners forests → ChangesOneRow g shape before noted rooms old new def row other rid to owners forests
@@ -158,7 +184,7 @@ module _ {S : Type 0} {g : Ghosts S} {old marked mid new : S} (first : HasSamePa
       owners_now = made.owners_now;
       forests_now = made.forests_now;
       changes = changes_between made.changes;
-      records = made.records;
+      entries = made.entries;
       rooms = rooms_kept shape def rooms made.owners_now made.forests_now made.rooms;
       mid = made.mid;
       turns = said_between (λ was is. ChangesRow def (block_slot_count shape def) (table_spots shape was def owners forests.map) rid row other made.mid to) made.turns;

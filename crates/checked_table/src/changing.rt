@@ -27,10 +27,10 @@ use std::alloc::Global;
 use store_api::{Pages, Shape};
 
 /// Makes the row in a place, which is given, another one that fits the definition and has its number, and answers where that
-/// lies: in the same place where the cell is the same, else where placing puts it once the old one is out. It claims no more pages
-/// than the row asks for, and `Full` says that an UPDATE of this row runs full: it moves, and what it needs then asks for more
-/// extents than are free. After a fault all pages are as they were, the notes are forgotten, and where the row lies there if the
-/// table stands, damage is exact.
+/// lies: in the same place where the cell is the same, else where placing puts it once the old one is out. Record indexes change in
+/// which the keys differ, and all where it moves. It claims no more pages than the row asks for, and `Full` says that an UPDATE of
+/// this row runs full: once all is out that goes, what it needs asks for more extents than are free. After a fault all pages are as
+/// they were, the notes are forgotten, and where the row lies there if the table stands, damage is exact.
 pub fn change_row<P: Pages>(
     alloc: Global,
     def: &TableDef,
@@ -44,7 +44,6 @@ pub fn change_row<P: Pages>(
 ) -> Result<Rid, SpaceFault>
     requires defined { IsTableDef def.now.number def.now }
     requires place { def.now.number < 16 }
-    requires no_indexes { def.now.indexes ≡ [] }
     requires was { HasReadValues def.now.columns was.now }
     requires fits { RowFits def.now is.now }
     requires number { is.now.number ≡ was.now.number }

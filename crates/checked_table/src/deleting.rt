@@ -1,5 +1,5 @@
 // A row less.
-ghost use Rattle.std.specs.Prelude.{◌≡◌, ◌<◌, [], List, Option, None, false, length, OnOk};
+ghost use Rattle.std.specs.Prelude.{◌≡◌, ◌<◌, List, Option, None, false, length, OnOk};
 ghost use Rattle.store_api.specs.Causes.{fault_of};
 ghost use Rattle.extent_map.specs.declared.kind.Kind.{Kind};
 ghost use Rattle.mdc_ast.specs.declared.row.Row.{Row};
@@ -10,7 +10,7 @@ ghost use Rattle.table_trees.specs.SpaceChanges.{MakesChanges};
 ghost use Rattle.mdc_sound.specs.Placing.{IsRowAt};
 ghost use Rattle.mdc_sound.specs.RunningFull.{taking_changes};
 ghost use Rattle.mdc_sound.specs.SoundDatabase.{IsSoundBetweenChanges, with_table_page};
-ghost use Rattle.mdc_sound.specs.StandingTable.{IsReadyTable, IsTableOrMapPage, KeepsBlocksBut, TableForests, pages_of, spots_of};
+ghost use Rattle.mdc_sound.specs.StandingTable.{IsReadyTable, IsTableOrMapPage, KeepsBlocksBut, StandsTable, TableForests, pages_of, spots_of};
 ghost use Rattle.mdc_sound.specs.StandsForDatabase.{PagesStandFor, without_row};
 ghost use Rattle.block_rows.specs.HeldRows.{HasReadValues};
 ghost use Rattle.table_blocks.specs.BlockSteps.{HasThisRow};
@@ -27,8 +27,8 @@ use mdc_values::Rid;
 use std::alloc::Global;
 use store_api::{Pages, Shape, StoreFault};
 
-/// Deletes the row that lies in a place; it is given too. It claims no page. After a fault all pages are as they were, the notes are
-/// forgotten, and where the row lies there if the table stands, damage is exact.
+/// Deletes the row that lies in a place, which is given too, and its entries in the record indexes. It claims no page. After a fault
+/// all pages are as they were, the notes are forgotten, and where the row lies there if the table stands, damage is exact.
 pub fn delete_row<P: Pages>(
     alloc: Global,
     def: &TableDef,
@@ -41,7 +41,6 @@ pub fn delete_row<P: Pages>(
 ) -> Result<(), StoreFault>
     requires defined { IsTableDef def.now.number def.now }
     requires place { def.now.number < 16 }
-    requires no_indexes { def.now.indexes ≡ [] }
     requires row { HasReadValues def.now.columns row.now }
     requires going { (P.state pages.old).ended ≡ false }
     requires unmarked { (P.state pages.old).marked ≡ None }
@@ -50,7 +49,7 @@ pub fn delete_row<P: Pages>(
     ensures makes { OnOk result ((owners : List Kind) (forests : TableForests) → IsReadyTable P.Pages shape notes.old (room_of rooms.old) pages.old def.now owners forests
         → (slots : List (Option Row)) → IsRowAt (spots_of P.Pages shape pages.old def.now owners forests) rid row.now slots
         → MakesChanges shape (pages_of P.Pages pages.old) (taking_changes def.now row.now rid (count_rows slots)) (pages_of P.Pages pages.new)) }
-    ensures stay { (owners : List Kind) (forests : TableForests) → IsReadyTable P.Pages shape notes.old (room_of rooms.old) pages.old def.now owners forests → KeepsBlocksBut P.Pages shape pages.old pages.new def.now owners (λ block. block ≡ rid.block) }
+    ensures stay { (owners : List Kind) (forests : TableForests) → StandsTable P.Pages shape pages.old def.now owners forests → KeepsBlocksBut P.Pages shape pages.old pages.new def.now owners (λ block. block ≡ rid.block) }
     ensures sound { OnOk result ((owners : List Kind) (forests : TableForests) → IsReadyTable P.Pages shape notes.old (room_of rooms.old) pages.old def.now owners forests
         → HasThisRow P.Pages shape pages.old def.now rid row.now owners forests
         → IsSoundBetweenChanges shape def.now (pages_of P.Pages pages.old) → IsSoundBetweenChanges shape def.now (pages_of P.Pages pages.new)) }

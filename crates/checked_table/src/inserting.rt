@@ -25,10 +25,10 @@ use mdc_values::Rid;
 use std::alloc::Global;
 use store_api::{Pages, Shape};
 
-/// Inserts a row that fits the definition and whose number is the table's next one, which it raises, and answers where the row
-/// lies. It claims no more pages than the row asks for. `Full` says that an INSERT of the row runs full: no Used block of its
-/// cell has room, and what it needs asks for more extents than are free. After a fault the definition and all pages are as they
-/// were, damage is exact, and the notes are forgotten.
+/// Inserts a row that fits the definition and whose number is the table's next one, which it raises, and enters it in all record
+/// indexes. It answers where the row lies, and claims no more pages than the row asks for. `Full` says that an INSERT of the row runs
+/// full: what it needs where placing puts it, and then in the record indexes, asks for more extents than are free. After a fault the
+/// definition and all pages are as they were, damage is exact, and the notes are forgotten.
 pub fn insert_row<P: Pages>(
     alloc: Global,
     def: &mut TableDef,
@@ -40,7 +40,6 @@ pub fn insert_row<P: Pages>(
 ) -> Result<Rid, SpaceFault>
     requires defined { IsTableDef def.old.number def.old }
     requires place { def.old.number < 16 }
-    requires no_indexes { def.old.indexes ≡ [] }
     requires fits { RowFits def.old row.now }
     requires number { row.now.number ≡ def.old.next }
     requires more { def.old.next + 1 < 2 ^ 64 }

@@ -8,10 +8,11 @@ ghost use Rattle.mdc_ast.specs.TableLimits.{IsTableDef};
 ghost use Rattle.table_trees.specs.SpaceChanges.{MakesChanges};
 ghost use Rattle.mdc_sound.specs.Placing.{IsRowAt};
 ghost use Rattle.mdc_sound.specs.RunningFull.{left_changes};
-ghost use Rattle.mdc_sound.specs.StandingTable.{ChangesTable, IsReadyTable, IsTableOrMapPage, KeepsBlocksBut, StandsTable, TableForests, TakesRowOut, pages_of, spots_of};
+ghost use Rattle.mdc_sound.specs.StandingTable.{IsReadyTable, IsTableOrMapPage, KeepsBlocksBut, StandsTable, TableForests, TakesRowOut, pages_of, spots_of};
 ghost use Rattle.block_rows.specs.HeldRows.{HasReadValues};
 ghost use Rattle.table_blocks.specs.BlockSteps.{HasThisRow};
 ghost use Rattle.free_space.specs.RoomNotes.{room_of};
+ghost use Rattle.mdc_table.specs.AnyPlace.{TakesOutAnywhere};
 ghost use Rattle.checked_table.specs.ExactDamage.{AnswersExactly, HasRowIfStanding};
 ghost use Rattle.checked_table.specs.WholeChanges.{IsWholeChange};
 
@@ -44,7 +45,7 @@ pub fn take_row<P: Pages>(
         → HasThisRow P.Pages shape pages.old def.now rid row.now owners forests
         → TakesRowOut P.Pages shape notes.old notes.new (room_of rooms.new) pages.old pages.new def.now owners forests row.now rid) }
     ensures leaves { OnOk result ((owners : List Kind) (forests : TableForests) → StandsTable P.Pages shape pages.old def.now owners forests
-        → HasThisRow P.Pages shape pages.old def.now rid row.now owners forests → (owners_now : List Kind) × (forests_now : TableForests) × ChangesTable P.Pages shape notes.old notes.new pages.old pages.new def.now owners forests owners_now forests_now × (forests_now.indexes ≡ forests.indexes)) }
+        → HasThisRow P.Pages shape pages.old def.now rid row.now owners forests → TakesOutAnywhere P.Pages shape notes.old notes.new pages.old pages.new def.now owners forests row.now rid) }
     ensures makes { OnOk result ((owners : List Kind) (forests : TableForests) → IsReadyTable P.Pages shape notes.old (room_of rooms.old) pages.old def.now owners forests
         → (slots : List (Option Row)) → IsRowAt (spots_of P.Pages shape pages.old def.now owners forests) rid row.now slots
         → MakesChanges shape (pages_of P.Pages pages.old) (left_changes def.now row.now rid.block (count_rows slots)) (pages_of P.Pages pages.new)) }

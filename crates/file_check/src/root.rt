@@ -2,6 +2,7 @@
 ghost use Rattle.std.specs.Prelude.{◌≡◌, ◌↔◌, ◌∷◌, [], ◌++◌, length, false, IfOk, IsTrue};
 ghost use Rattle.byteorder.specs.Endian.{big_bytes};
 ghost use Rattle.store_api.specs.Causes.{fault_of};
+ghost use Rattle.store_api.specs.Format.{first_format};
 ghost use Rattle.store_api.specs.Frame.{NoPage};
 ghost use Rattle.store_api.specs.RunsOverPages.{RunsOverPages};
 ghost use Rattle.store_api.specs.StoreState.{page_at};
@@ -12,7 +13,7 @@ ghost use Rattle.file_check.specs.Judging.{JudgesRule};
 ghost use Rattle.file_check.specs.Looking.{AnyPage, UnlessTold};
 
 use extent_map::first_page;
-use store_api::layout::ROOT_PAGE;
+use store_api::layout::{ROOT_PAGE, VERSION};
 use store_api::{Page, Pages, Shape, StoreFault, blank_page, bring, stated_count};
 
 /// How many bytes of the root page say something: `ROOT`, the version and the page count.
@@ -80,10 +81,12 @@ fn is_root_page(page: &Page, count: u32) -> bool
 
 /// What the root page of so many pages says.
 fn root_head(count: u32) -> [u8; 12]
-    ensures { result ≡ (82 ∷ 79 ∷ 79 ∷ 84 ∷ []) ++ big_bytes 4 1 ++ big_bytes 4 count }
+    ensures { result ≡ (82 ∷ 79 ∷ 79 ∷ 84 ∷ []) ++ big_bytes 4 first_format.version ++ big_bytes 4 count }
 {
+    let version = VERSION.to_be_bytes();
     let stated = count.to_be_bytes();
     [
-        b'R', b'O', b'O', b'T', 0, 0, 0, 1, stated[0], stated[1], stated[2], stated[3],
+        b'R', b'O', b'O', b'T', version[0], version[1], version[2], version[3], stated[0],
+        stated[1], stated[2], stated[3],
     ]
 }

@@ -1,3 +1,4 @@
 pub mod Resting
 pub mod SoundFile
 pub mod Verdict
+pub mod Written

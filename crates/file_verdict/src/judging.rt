@@ -14,6 +14,7 @@ ghost use Rattle.page_store.specs.Standing.{IsFormed};
 ghost use Rattle.file_verdict.specs.Resting.{ComesToRest, LeavesBase, StandsAsBefore};
 ghost use Rattle.file_verdict.specs.SoundFile.{IsSoundFile, StatesExtents};
 ghost use Rattle.file_verdict.specs.Verdict.{IsAnswerOnSound, IsNoVerdict, IsVerdictOn, IsVerdictOnPages, verdict_of_check};
+ghost use Rattle.file_verdict.specs.Written.{WritesOpening};
 
 use crate::unjudged::Unjudged;
 use file_check::{Verdict, check, sound_pages_break_no_rule};
@@ -30,9 +31,9 @@ pub struct Judged<H> {
 }
 
 /// Judges the database in the attached file, as it is at entry: opens it, judges all pages that it stands for by the twelve rules, and
-/// gives the host back. No byte is said. The opening has all of the file on the disk and brings a journal that counts home, and a crash
-/// leaves a file that stands for the same pages. A file that can't be opened stays as it was; where the disk failed, it may be what a
-/// crash could leave of it.
+/// gives the host back. No byte is said. The opening has all of the file on the disk and brings a journal that counts home, nothing else
+/// is written, and a crash leaves a file that stands for the same pages. A file that can't be opened stays as it was; where the disk
+/// failed, it may be what a crash could leave of it.
 pub fn judge_file<H: Host>(alloc: Global, host: H) -> Judged<H>
     requires attached { IsTrue (H.is_attached host) }
     ensures verdict { ForSome (H.file host) (λ file. IsVerdictOn file.bytes result.verdict) }
@@ -48,6 +49,8 @@ pub fn judge_file<H: Host>(alloc: Global, host: H) -> Judged<H>
     // A file that can't be opened is left alone, also where the disk fails.
     ensures left_alone { ForSome (H.file host) (λ file. (IsServed file.bytes → ⊥) → LeavesOf H.Disk CouldBeLeft host result.host
         × ((result.verdict ≡ Err Unjudged.Device → ⊥) → file_bytes (H.file result.host) ≡ file_bytes (H.file host))) }
+    // What is written is what the opening writes: a journal that counts is brought home.
+    ensures writes { ForSome (H.file host) (λ file. WritesOpening result.verdict file.bytes (file_bytes (H.file result.host))) }
     ensures device { CountsFault (result.verdict ≡ Err Unjudged.Device) (H.disk_faults host) (H.disk_faults result.host) }
     ensures beside { H.beside result.host ≡ H.beside host }
     ensures attaches { H.attaches result.host ≡ H.attaches host }
@@ -69,9 +72,11 @@ fn judge_store<H: Host>(alloc: Global, store: FileStore<H>) -> Judged<H>
     requires going { (⟦<FileStore<H> as Pages>⟧.state store).ended ≡ false }
     ensures judges { ForSome (H.file store.host) (λ file. (shape : Shape) × StatesExtents file.bytes shape
         × IsVerdictOnPages shape (⟦<FileStore<H> as Pages>⟧.state store).work result.verdict) }
-    // No page is written: what is left of the host stands for the base of the store.
+    // What is left of the host stands for the base of the store.
     ensures leaves { (file : File) (said : List ℕ) → H.file store.host ≡ Some file → (H.beside store.host).tape ≡ Some said
         → LeavesBase ⟦<FileStore<H> as Pages>⟧ H.Disk file.bytes said store result.host }
+    // Not a byte is written.
+    ensures same_bytes { file_bytes (H.file result.host) ≡ file_bytes (H.file store.host) }
     ensures device { CountsFault (result.verdict ≡ Err Unjudged.Device) (H.disk_faults store.host) (H.disk_faults result.host) }
     ensures beside { H.beside result.host ≡ H.beside store.host }
     ensures attaches { H.attaches result.host ≡ H.attaches store.host }

@@ -7,11 +7,13 @@ use Rattle.mdc_outside.specs.Moments.{IsMoment}
 use Rattle.mdc_outside.specs.Outside.{Takes, TakesPart}
 use Rattle.mdc_outside.specs.declared.disk.Disk.{Ghosts}
 use Rattle.page_file.specs.Leaving.{LeavesImage}
-use Rattle.page_store.specs.Opened.{CouldBeLeft}
+use Rattle.page_store.specs.Opened.{CouldBeLeft, opened_bytes}
+use Rattle.page_store.specs.Opening.{IsServed}
 use Rattle.file_check.specs.declared.verdict.Verdict.{Verdict}
 use Rattle.file_check.specs.declared.verdict.Verdict.TheVariants.{Broken, Sound}
 use Rattle.file_verdict.specs.Resting.{ComesToRest, StandsAsBefore}
 use Rattle.file_verdict.specs.Verdict.{IsVerdictOn}
+use Rattle.file_verdict.specs.Written.{IsSameOrOpened}
 use Rattle.file_verdict.specs.declared.unjudged.Unjudged.{Unjudged}
 use Rattle.file_verdict.specs.declared.unjudged.Unjudged.TheVariants.{Device, Memory, NotMdc, Unmade, Version}
 use Rattle.file_session.specs.declared.stop.FileStop.{FileStop}
@@ -90,6 +92,12 @@ pub record ChecksUnserved {D : Type 0} (g : Ghosts D) (before : File) (said : Li
   pub is_its : IsVerdictOn before.bytes verdict
   pub says : SaysVerdict (Some said) new_tape status verdict
   pub time : OverTime g.clock g.moment (IsMoment before.since said (line_of_verdict verdict)) old new
+
+-- Unless the disk failed, a check leaves the bytes that the file had, or those that its opening makes of them. At another status than 3
+-- and 8 those of a file that can be opened are those of its opening.
+pub record WritesChecked (status : ℕ) (before : List ℕ) (after : Option (List ℕ)) : Type 0 where
+  pub at_most : (status ≡ 3 → ⊥) → IsSameOrOpened before after
+  pub opened : (IsUnsettled status → ⊥) → IsServed before → after ≡ Some (opened_bytes before)
 
 -- the file is told still, and each image that a crash may leave of it stands for what it stood for
 abbrev pub StaysStanding : File → Option File → Type 0

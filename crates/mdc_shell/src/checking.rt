@@ -1,15 +1,17 @@
 // The command `check`: whether the database in a file is whole.
 ghost use Rattle.std.specs.Prelude.{◌≡◌, ◌≤◌, [], ℕ, List, Some, IfOk, MatchOption, OnErr, IsTrue, false};
+ghost use Rattle.std.specs.Option.{ForSome};
 ghost use Rattle.mdc_words.specs.Faults.{CountsFault};
 ghost use Rattle.mdc_words.specs.Time.{OverTime};
 ghost use Rattle.mdc_outside.specs.Disk.{File};
 ghost use Rattle.mdc_outside.specs.Moments.{IsWithinCall};
+ghost use Rattle.page_store.specs.Opened.{file_bytes};
 ghost use Rattle.page_store.specs.Opening.{IsServed};
 ghost use Rattle.page_store.specs.Standing.{IsFormed};
 ghost use Rattle.script_session.specs.Told.{StaysTold};
 ghost use Rattle.file_session.specs.Well.{AreWell, IsWell};
 ghost use Rattle.file_verdict.specs.SoundFile.{AreSoundFiles, IsSoundFile};
-ghost use Rattle.mdc_shell.specs.Check.{ChecksFormed, ChecksPath, ChecksUnserved, IsCheckStatus, IsStatusOnSound, IsUnsettled, SaysVerdict, StaysStanding, StaysUnserved, line_of_verdict, status_of_verdict, stop_of};
+ghost use Rattle.mdc_shell.specs.Check.{ChecksFormed, ChecksPath, ChecksUnserved, IsCheckStatus, IsStatusOnSound, IsUnsettled, SaysVerdict, StaysStanding, StaysUnserved, WritesChecked, line_of_verdict, status_of_verdict, stop_of};
 ghost use Rattle.mdc_shell.specs.Create.{MayAttach};
 ghost use Rattle.mdc_shell.specs.Untouched.{IsUntouched};
 
@@ -35,6 +37,7 @@ pub fn check_path<H: Host>(alloc: Global, path: &str, host: H) -> Ended<H>
     ensures unserved { (before : File) (said : List ℕ) → H.file host ≡ Some before → H.tape host ≡ Some said → (IsServed before.bytes → ⊥)
         → ChecksUnserved H.Disk before said (H.tape result.host) host result.host result.status.0 }
     ensures keeps_unserved { (before : File) → H.file host ≡ Some before → (IsServed before.bytes → ⊥) → StaysUnserved before (H.file result.host) result.status.0 }
+    ensures writes { ForSome (H.file host) (λ file. WritesChecked result.status.0 file.bytes (file_bytes (H.file result.host))) }
     ensures stands { (before : File) (said : List ℕ) → H.file host ≡ Some before → H.tape host ≡ Some said → IsFormed before.bytes → (IsUnsettled result.status.0 → ⊥)
         → StaysStanding before (H.file result.host) }
     // A file that was found sound is so whatever a crash leaves of it then, and so is one that is well.
@@ -73,6 +76,7 @@ fn check_attached<H: Host>(alloc: Global, host: H) -> Ended<H>
     ensures unserved { (before : File) (said : List ℕ) → H.file host ≡ Some before → H.tape host ≡ Some said → (IsServed before.bytes → ⊥)
         → ChecksUnserved H.Disk before said (H.tape result.host) host result.host result.status.0 }
     ensures keeps_unserved { (before : File) → H.file host ≡ Some before → (IsServed before.bytes → ⊥) → StaysUnserved before (H.file result.host) result.status.0 }
+    ensures writes { ForSome (H.file host) (λ file. WritesChecked result.status.0 file.bytes (file_bytes (H.file result.host))) }
     ensures stands { (before : File) (said : List ℕ) → H.file host ≡ Some before → H.tape host ≡ Some said → IsFormed before.bytes → (IsUnsettled result.status.0 → ⊥)
         → StaysStanding before (H.file result.host) }
     ensures found_sound { (before : File) (said : List ℕ) → H.file host ≡ Some before → H.tape host ≡ Some said → result.status.0 ≡ 0

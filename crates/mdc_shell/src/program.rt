@@ -5,13 +5,14 @@ ghost use Rattle.mdc_outside.specs.Disk.{File};
 ghost use Rattle.mdc_outside.specs.Moments.{IsMoment, IsWithinCall};
 ghost use Rattle.mdc_words.specs.Faults.{CountsFault, Rose};
 ghost use Rattle.mdc_words.specs.Time.{OverTime};
+ghost use Rattle.page_store.specs.Opened.{file_bytes};
 ghost use Rattle.page_store.specs.Opening.{IsServed};
 ghost use Rattle.page_store.specs.Standing.{IsFormed};
 ghost use Rattle.script_session.specs.Told.{StaysTold};
 ghost use Rattle.file_session.specs.Leaving.{AreFormed};
 ghost use Rattle.file_session.specs.Well.{AreWell, IsWell};
 ghost use Rattle.file_verdict.specs.SoundFile.{AreSoundFiles, IsSoundFile};
-ghost use Rattle.mdc_shell.specs.Check.{ChecksFormed, ChecksPath, ChecksUnserved, IsCheckComplete, IsCheckStatus, IsStatusOnSound, IsUnsettled, StaysStanding, StaysUnserved};
+ghost use Rattle.mdc_shell.specs.Check.{ChecksFormed, ChecksPath, ChecksUnserved, IsCheckComplete, IsCheckStatus, IsStatusOnSound, IsUnsettled, StaysStanding, StaysUnserved, WritesChecked};
 ghost use Rattle.mdc_shell.specs.Create.{Completes, Creates, MayAttach};
 ghost use Rattle.mdc_shell.specs.Leaving.{LeftByCreate};
 ghost use Rattle.mdc_shell.specs.Run.{IsComplete, IsWithinLimit, RefusesFile, RefusesScratch, ReopensFile, RunsPath, RunsScratch, ServesPath, StandsForNothing, TakesByStatus};
@@ -122,6 +123,11 @@ pub fn run<I: Source, H: Host>(
         × MayAttach (H.attaches host) path false (H.attaches result.host) × IsCheckStatus result.status.0 × (input.new ≡ input.old) }
     ensures checks_sound { (path : List ℕ) → SpellsLine (map string_bytes words.now.items) (CheckFile path)
         → (before : File) → H.file host ≡ Some before → IsSoundFile before.bytes → IsStatusOnSound result.status.0 }
+
+    // What a check writes is what its opening writes: the pages of a journal that counts go home, and its gate is shut. So a file of which
+    // no journal counts has the bytes that it had. Only where the disk failed, at status 3, more may have become of it.
+    ensures checks_writes { (path : List ℕ) → SpellsLine (map string_bytes words.now.items) (CheckFile path)
+        → ForSome (H.file host) (λ file. WritesChecked result.status.0 file.bytes (file_bytes (H.file result.host))) }
 
     // On a formed file: from the origin of its opening on a crash leaves a file that stands for the same pages. Only at the statuses 3
     // and 8 it may have stopped before any origin; at all others each image that may be left then stands so.

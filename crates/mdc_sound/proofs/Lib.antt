@@ -1,3 +1,4 @@
+pub mod BlockLinesLemmas
 pub mod BlockRulesLemmas
 pub mod CellKeysLemmas
 pub mod ChangedDatabaseLemmas

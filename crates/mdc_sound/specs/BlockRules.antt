@@ -3,6 +3,7 @@
 use Rattle.std.specs.Prelude.{◌≡◌, ◌≢◌, ◌<◌, ◌⊎◌, ℕ, IsTrue, List, length, map, AllPairs, Contains}
 use Rattle.std.specs.List.{AllByRecursion, AllZip}
 use Rattle.mdc_words.specs.ByteOrder.{Entry}
+use Rattle.mdc_ast.specs.declared.definition.ColumnDef.{ColumnDef}
 use Rattle.mdc_ast.specs.declared.definition.IndexDef.{IndexDef}
 use Rattle.mdc_ast.specs.declared.definition.KeyPart.{KeyPart}
 use Rattle.mdc_ast.specs.declared.definition.TableDef.{TableDef}
@@ -16,37 +17,50 @@ use Rattle.table_trees.specs.RowCells.{AreOfOneCell}
 use Rattle.block_map.specs.MapLines.{MapLine, map_lines, pending_blocks, used_blocks}
 use Rattle.mdc_ast.specs.FittingRows.{RowFits}
 use Rattle.mdc_sound.specs.SpaceRules.{DatabaseView, EachTable}
-use Rattle.mdc_sound.specs.TableRows.{PlacedRow, block_page, rows_in_block, rows_in_table}
+use Rattle.mdc_sound.specs.BlockLines.{columns_of_line, mapped_line}
+use Rattle.mdc_sound.specs.TableRows.{PlacedRow, block_page, rows_from_slot, rows_in_block, rows_in_table, rows_by_line, slots_by_columns}
 use Rattle.table_trees.specs.TableTrees.{block_entry, cell_parts, record_entry, rising_parts}
 use Rattle.table_trees.specs.ToldPages.{PageList}
 use Rattle.mdc_sound.specs.TableViews.{TableView}
 
--- P holds of each Used block of each table
-abbrev pub EachUsedBlock : DatabaseView → (TableDef → ℕ → Type 0) → Type 0
-EachUsedBlock view P = EachTable view (λ table. AllByRecursion (P table.def) (used_blocks table.map))
+-- P holds of the line of each Used block of each table
+abbrev pub EachUsedLine : DatabaseView → (TableDef → MapLine → Type 0) → Type 0
+EachUsedLine view P = EachTable view (λ table. AllByRecursion (λ block. P table.def (mapped_line table.map block)) (used_blocks table.map))
 
 -- ---- 7: the row pages
 
--- page j of a block is a row page of the table's columns
-abbrev pub IsBlockPageSound : Shape → PageList → TableDef → ℕ → ℕ → Type 0
-IsBlockPageSound shape pages def block j =
-    IsRowPage def.columns (block_page shape pages block j) (rows_of def.columns (block_page shape pages block j))
+-- page j of a block is a row page of these columns
+abbrev pub IsPageOfColumns : Shape → PageList → List ColumnDef → ℕ → ℕ → Type 0
+IsPageOfColumns shape pages columns block j =
+    IsRowPage columns (block_page shape pages block j) (rows_of columns (block_page shape pages block j))
 
--- the pages of a Used block are row pages, and its rows fit the definition
-pub record AreBlockRowsSound (shape : Shape) (pages : PageList) (def : TableDef) (block : ℕ) : Type 0 where
-  pub forms : (j : ℕ) → j < shape.extent_pages → IsBlockPageSound shape pages def block j
-  pub rows : AllByRecursion (λ placed. RowFits def placed.row) (rows_in_block shape pages def block)
+-- page j of a block whose rows have all columns is a row page
+abbrev pub IsBlockPageSound : Shape → PageList → TableDef → ℕ → ℕ → Type 0
+IsBlockPageSound shape pages def block j = IsPageOfColumns shape pages def.columns block j
+
+-- the pages of a Used block are row pages of these columns, and its rows fit the definition
+pub record AreRowsSoundByColumns (shape : Shape) (pages : PageList) (def : TableDef) (columns : List ColumnDef) (block : ℕ) : Type 0 where
+  pub forms : (j : ℕ) → j < shape.extent_pages → IsPageOfColumns shape pages columns block j
+  pub rows : AllByRecursion (λ placed. RowFits def placed.row) (rows_from_slot block 0 (slots_by_columns shape pages columns block))
+
+-- so are those of a Used block whose rows have all columns
+abbrev pub AreBlockRowsSound : Shape → PageList → TableDef → ℕ → Type 0
+AreBlockRowsSound shape pages def block = AreRowsSoundByColumns shape pages def def.columns block
+
+-- and those of the block of a line
+abbrev pub AreLineRowsSound : Shape → PageList → TableDef → MapLine → Type 0
+AreLineRowsSound shape pages def line = AreRowsSoundByColumns shape pages def (columns_of_line def line) line.block
 
 -- so is each Used block
 abbrev pub AreRowPagesSound : Shape → PageList → DatabaseView → Type 0
-AreRowPagesSound shape pages view = EachUsedBlock view (AreBlockRowsSound shape pages)
+AreRowPagesSound shape pages view = EachUsedLine view (AreLineRowsSound shape pages)
 
 -- ---- 8: the counts
 
 -- a Used block has a row at least, and as many as the block map says
 pub record IsUsedCountSound (shape : Shape) (pages : PageList) (def : TableDef) (line : MapLine) : Type 0 where
   pub some_row : line.state ≡ 1 → 0 < line.rows
-  pub counted : line.state ≡ 1 → line.rows ≡ length (rows_in_block shape pages def line.block)
+  pub counted : line.state ≡ 1 → line.rows ≡ length (rows_by_line shape pages def line)
 
 -- a Free or Pending block has no row in the block map
 abbrev pub IsIdleCountSound : MapLine → Type 0
@@ -66,9 +80,13 @@ AreIdleCountsSound view = EachTable view (λ table. AllByRecursion IsIdleCountSo
 abbrev pub IsOfOneCell : Shape → PageList → TableDef → ℕ → Type 0
 IsOfOneCell shape pages def block = AllPairs (λ a b. AreOfOneCell def a.row.values b.row.values) (rows_in_block shape pages def block)
 
+-- all rows of the block of a line are
+abbrev pub IsLineOfOneCell : Shape → PageList → TableDef → MapLine → Type 0
+IsLineOfOneCell shape pages def line = AllPairs (λ a b. AreOfOneCell def a.row.values b.row.values) (rows_by_line shape pages def line)
+
 -- so is each Used block
 abbrev pub AreCellsSound : Shape → PageList → DatabaseView → Type 0
-AreCellsSound shape pages view = EachUsedBlock view (IsOfOneCell shape pages)
+AreCellsSound shape pages view = EachUsedLine view (IsLineOfOneCell shape pages)
 
 -- ---- 10: the block indexes
 

@@ -1,3 +1,4 @@
+pub mod BlockLines
 pub mod BlockRules
 pub mod Breaks
 pub mod EmptyDatabase

@@ -14,10 +14,11 @@ use Rattle.extent_map.specs.declared.kind.Kind.{Kind}
 use Rattle.extent_map.specs.declared.kind.Kind.TheVariants as kind
 use Rattle.row_page.specs.RowPage.{slot_count}
 use Rattle.entry_tree.specs.Forest.{Forest}
+use Rattle.block_map.specs.MapLines.{MapLine}
 use Rattle.table_trees.specs.RowCells.{AreOfOneCell}
 use Rattle.table_trees.specs.ToldPages.{PageList}
-use Rattle.mdc_sound.specs.TableRows.{PlacedRow, block_slots, rows_from_slot}
-use Rattle.block_map.specs.MapLines.{map_lines, mapped_state}
+use Rattle.mdc_sound.specs.BlockLines.{mapped_line}
+use Rattle.mdc_sound.specs.TableRows.{PlacedRow, rows_from_slot, slots_by_line}
 
 -- What an extent is to a table: one that is free, one that has pages of trees, a block of another table, or a block of this
 -- one, which is Free, Pending or Used; a Used block has slots, each empty or with a row.
@@ -157,12 +158,16 @@ abbrev pub spot_of_state : ℕ → List (Option Row) → Spot
 spot_of_state state slots =
     if state == 0 then FreeBlock else (if state == 1 then UsedBlock slots else (if state == 2 then PendingBlock else OtherBlock))
 
+-- the block of a line
+abbrev pub spot_of_line : Shape → PageList → TableDef → MapLine → Spot
+spot_of_line shape pages def line = spot_of_state line.state (slots_by_line shape pages def line)
+
 -- an extent of this kind
 abbrev pub spot_of_kind : Shape → PageList → TableDef → Forest → ℕ → Kind → Spot
 spot_of_kind shape pages def map_tree e kind.Free = FreeExtent
 spot_of_kind shape pages def map_tree e (kind.Index used) = IndexExtent
 spot_of_kind shape pages def map_tree e (kind.Block t) =
-    if t == def.number then spot_of_state (mapped_state e (map_lines map_tree)) (block_slots shape pages def e) else OtherBlock
+    if t == def.number then spot_of_line shape pages def (mapped_line map_tree e) else OtherBlock
 
 -- what each extent is to the table, where these are the owners and its block map
 abbrev pub table_spots : Shape → PageList → TableDef → List Kind → Forest → List Spot

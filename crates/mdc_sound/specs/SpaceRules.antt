@@ -5,6 +5,7 @@ use Rattle.byteorder.specs.Endian.{big_bytes}
 use Rattle.mdc_ast.specs.declared.definition.IndexDef.{IndexDef}
 use Rattle.mdc_ast.specs.declared.definition.TableDef.{TableDef}
 use Rattle.store_api.specs.Extents.{map_pages}
+use Rattle.store_api.specs.Format.{Format, first_format}
 use Rattle.store_api.specs.StoreState.{page_at, zero_page}
 use Rattle.store_api.specs.declared.shape.Shape.{Shape}
 use Rattle.extent_map.specs.Map.{HoldsMapPage, IsWholeCount}
@@ -36,9 +37,13 @@ EachTable view P = AllByRecursion P (tables_there view.places)
 
 -- ---- 1: the root page
 
--- the root page: `ROOT`, version 1 and the page count
+-- the root page in a format: `ROOT`, the version and the page count
+abbrev pub stated_root_in : Format → ℕ → List ℕ
+stated_root_in format count = filled_page ((82 ∷ 79 ∷ 79 ∷ 84 ∷ []) ++ big_bytes 4 format.version ++ big_bytes 4 count)
+
+-- the root page in the format of the file
 abbrev pub stated_root : ℕ → List ℕ
-stated_root count = filled_page ((82 ∷ 79 ∷ 79 ∷ 84 ∷ []) ++ big_bytes 4 1 ++ big_bytes 4 count)
+stated_root count = stated_root_in first_format count
 
 -- The root page states how many pages there are, which some number of whole extents make.
 pub record IsRootSound (shape : Shape) (pages : PageList) : Type 0 where

@@ -7,6 +7,7 @@ use Rattle.mdc_words.specs.ByteOrder.{Entry}
 use Rattle.mdc_ast.specs.declared.definition.TableDef.{TableDef}
 use Rattle.mdc_ast.specs.declared.row.Row.{Row}
 use Rattle.mdc_ast.specs.Database.{Database, PlainTable}
+use Rattle.store_api.specs.Format.{first_format}
 use Rattle.store_api.specs.declared.shape.Shape.{Shape}
 use Rattle.key_codec.specs.Keys.{key_bytes, width_of_parts}
 use Rattle.node_page.specs.Node.{Node, leaf_room}
@@ -79,7 +80,7 @@ pages_needed width n = 2 * max 1 (n / (leaf_room width / 2)) - 1
 -- the pages of a table's trees, where its rows need so many blocks
 abbrev pub index_pages_needed : ℕ → PlainTable → ℕ
 index_pages_needed blocks table =
-    pages_needed 7 blocks + pages_needed (width_of_parts table.def.columns (cell_parts table.def) + 4) blocks
+    pages_needed first_format.map_width blocks + pages_needed (width_of_parts table.def.columns (cell_parts table.def) + 4) blocks
     + sum_by (λ dim. pages_needed (width_of_parts table.def.columns (rising_parts dim) + 4) blocks) table.def.dims
     + sum_by (λ index. pages_needed (width_of_parts table.def.columns index.parts + 6) (length table.rows)) table.def.indexes
 

@@ -1,3 +1,4 @@
+pub mod AnyPlaceLemmas
 pub mod KeptBlocksLemmas
 pub mod KeptRoomsLemmas
 pub mod KnownBlocksLemmas

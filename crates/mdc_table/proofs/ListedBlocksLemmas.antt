@@ -1,5 +1,5 @@
 -- The blocks that the trees of a table list, their lines and their cells; and the damage that calls which read them may name.
-use Rattle.std.proofs.Common.{◌≡◌, ◌<◌, ◌≤◌, ◌^◌, ℕ, suc, IsTrue, List, [], ◌∷◌, Bool, true, false, not, map, refl, ap, arith, sym, ◌∙◌, subst, inl, inr, Option, Some, None}
+use Rattle.std.proofs.Common.{◌≡◌, ◌<◌, ◌≤◌, ◌^◌, ℕ, suc, IsTrue, List, [], ◌∷◌, Bool, true, false, not, refl, ap, arith, sym, ◌∙◌, subst, inl, inr, Option, Some, None}
 use Rattle.std.specs.Prelude.{◌↔◌, AllPairs, Contains}
 use Rattle.std.proofs.lemmas.Bool.{eq-eqb}
 use Rattle.mdc_ast.specs.declared.definition.TableDef.{TableDef}

@@ -24,9 +24,9 @@ use Rattle.mdc_sound.specs.RunningFull.{RowRunsFull}
 use Rattle.mdc_sound.specs.StandingTable.{BreaksExpected, BreaksTable, IsBlockOrMapPage, IsReadyTable, IsTableOrMapPage, IsTableSpace, IsTableTreePage, MeetsNoFree, NamesTablePart, RoomNote, StandsTable, TableForests, pages_of, spots_of}
 use Rattle.mdc_sound.proofs.StandingTableLemmas.{stands_same}
 use Rattle.table_blocks.specs.BlockSteps.{BeginsBlock}
+use Rattle.table_blocks.proofs.AlongLemmas.{turns_along}
 use Rattle.mdc_table.specs.NextBlock.{BeginsNext, FindsNoPlace, IsNextBlock}
 use Rattle.mdc_table.proofs.KeptBlocksLemmas.{runs_of_block}
-use Rattle.mdc_table.proofs.PlacingRowsLemmas.{turns_along}
 use Rattle.mdc_table.proofs.StandingBlocksLemmas.{free_within}
 
 -- ---- the block

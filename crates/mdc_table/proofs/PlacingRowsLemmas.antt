@@ -13,38 +13,36 @@ use Rattle.store_api.specs.declared.shape.Shape.{Shape}
 use Rattle.extent_map.specs.Owners.{HasNoFree}
 use Rattle.extent_map.specs.declared.kind.Kind.{Kind}
 use Rattle.extent_map.specs.declared.space_notes.SpaceNotes.{SpaceNotes}
-use Rattle.extent_map.proofs.GrowthLemmas.{growth_along}
 use Rattle.mdc_ast.specs.TableLimits.{IsTableDef}
 use Rattle.block_map.specs.BlockMaps.{HasRow}
 use Rattle.block_map.specs.MapLines.{free_blocks}
 use Rattle.block_map.specs.declared.row.BlockRow.{BlockRow}
 use Rattle.block_map.specs.declared.state.BlockState.{BlockState}
 use Rattle.block_map.specs.declared.state.BlockState.TheVariants as state
-use Rattle.table_trees.specs.TreesBeside.{GrowsPages}
 use Rattle.table_trees.specs.ToldPages.{PageList}
 use Rattle.entry_tree.specs.Forest.{Forest}
 use Rattle.mdc_ast.specs.FittingRows.{RowFits}
 use Rattle.mdc_sound.specs.Placing.{AfterClaims, HasRoomFor, HoldsNowhere, IsFreeBlock, IsFreeExtent, IsLowestAt, PutsRow, Spot, begun_with, block_slot_count, table_spots}
 use Rattle.mdc_sound.specs.Placing.Spot.{FreeBlock, FreeExtent, IndexExtent, OtherBlock, PendingBlock, UsedBlock}
 use Rattle.mdc_sound.specs.RunningFull.{HasNoSpot}
-use Rattle.mdc_sound.specs.StandingTable.{AreRightRooms, ChangesTable, HoldsKey, IsReadyTable, PlacesRow, RoomNote, StandsTable, TableForests, pages_of, spots_of}
+use Rattle.mdc_sound.specs.StandingTable.{AreRightRooms, HoldsKey, IsReadyTable, PlacesRow, RoomNote, StandsTable, TableForests, pages_of, spots_of}
 use Rattle.mdc_sound.proofs.ChangedRowsLemmas.{some_slots}
-use Rattle.mdc_sound.proofs.DefinitionTreesLemmas.{has_block_indexes}
 use Rattle.mdc_sound.proofs.TableSpotsLemmas.{free_block_of_spot, free_block_spot, free_of_spot, free_spot, length-spots}
-use Rattle.table_blocks.specs.BlockChanges.{SameSpot, TurnsSpot}
-use Rattle.table_blocks.specs.BlockSteps.{FillsSlot, HasRoomAt, IsBlockOfCell}
+use Rattle.table_blocks.specs.BlockChanges.{SameSpot}
+use Rattle.table_blocks.specs.BlockSteps.{FillsSlot, HasRoomAt}
+pub use Rattle.table_blocks.proofs.AlongLemmas.{changes_along}
+use Rattle.table_blocks.proofs.AlongLemmas.{turns_along}
 use Rattle.table_blocks.proofs.SpotChangesLemmas.{claims_change}
 use Rattle.free_space.specs.FoundRoom.{FindsRoom, IsFirstRoom, cell_key_of}
 use Rattle.free_space.specs.RoomNotes.{SaysNoMore, found_at}
-use Rattle.free_space.proofs.CellKeysLemmas.{one_cell}
 use Rattle.mdc_table.specs.NextBlock.{BeginsNext, IsNextBlock}
-use Rattle.mdc_table.proofs.KeptRoomsLemmas.{holds_used, in_set, none_below, rooms_noted, row_fits, stays_in_set, used_below}
+use Rattle.mdc_table.proofs.KeptRoomsLemmas.{in_set, none_below, rooms_noted, stays_in_set, used_below}
 use Rattle.mdc_table.proofs.StandingBlocksLemmas.{free_within}
 
 -- ---- spots
 
 -- the same spots, where trees may have taken extents
-claims_none : (xs ys : List Spot) → AllZip SameSpot xs ys → AllZip AfterClaims xs ys
+pub claims_none : (xs ys : List Spot) → AllZip SameSpot xs ys → AllZip AfterClaims xs ys
 claims_none [] [] all = tt
 claims_none [] (y ∷ ys) all = absurd all
 claims_none (x ∷ xs) [] all = absurd all
@@ -95,36 +93,6 @@ known_is note known = go note.from note.is_of_cell known
     go : (block : ℕ) (test : Bool) → IsTrue test → record { from = block; is_of_cell = test } ≡ found_at block
     go block true so = refl
     go block false so = let wrong : false ≡ true = so in absurd (cc)
-
--- ---- one call more, behind calls that left the work as it was
-
-module _ {S : Type 0} {g : Ghosts S} (shape : Shape) (before noted : SpaceNotes) (old mid new : S) (def : TableDef) (owners : List Kind) (forests : TableForests) (told : (g.state mid).is_told ≡ (g.state old).is_told)
-    (same : (g.state mid).work ≡ (g.state old).work) where
-  grows_along : GrowsPages g shape mid new → GrowsPages g shape old new
-  grows_along grows = record {
-    stated = growth_along told same grows.stated;
-    whole = λ is. grows.whole (record { extents = is.extents; within = is.within; count = ap length same ∙ is.count });
-  }
-
-  pub changes_along : (owners_now : List Kind) (forests_now : TableForests) → ChangesTable g shape before noted mid new def owners forests owners_now forests_now → ChangesTable g shape before noted old new def owners forests owners_now forests_now
-  changes_along owners_now forests_now changes = record {
-    stands = changes.stands;
-    others_blocks = changes.others_blocks;
-    no_others_blocks = changes.no_others_blocks;
-    others_pages = changes.others_pages;
-    used_pages = changes.used_pages;
-    pages = changes.pages;
-    grows = grows_along changes.grows;
-    notes = changes.notes;
-  }
-
-  pub turns_along : (After : Spot → Spot → Type 0) (block : ℕ) (spot : Spot) (owners_now : List Kind) (forests_now : TableForests) → TurnsSpot g After shape before noted mid new def block spot owners forests owners_now forests_now
-      → TurnsSpot g After shape before noted old new def block spot owners forests owners_now forests_now
-  turns_along After block spot owners_now forests_now turns = record {
-    changes = changes_along owners_now forests_now turns.changes;
-    records = turns.records;
-    spots = subst (λ (pages : PageList). AllZip After (slice_set (table_spots shape pages def owners forests.map) block spot) (spots_of g shape new def owners_now forests_now)) same turns.spots;
-  }
 
 -- ---- what was found
 
@@ -190,24 +158,7 @@ module _ {S : Type 0} {g : Ghosts S} (shape : Shape) (noted : SpaceNotes) (old m
 module _ {S : Type 0} {g : Ghosts S} (shape : Shape) (notes : SpaceNotes) (old : S) (def : TableDef) (owners : List Kind) (forests : TableForests) (row : Row) (from : Entry → RoomNote)
     (defined : IsTableDef def.number def) (fits : RowFits def row) (ready : IsReadyTable g shape notes from old def owners forests) (key : Entry) (is : key ≡ cell_key_of def row.values)
     (note : RoomNote) (noted : note ≡ from key) (known : IsTrue note.is_of_cell) where
-  -- it is one of that cell
-  pub noted_of_cell : IsBlockOfCell g shape old def note.from row owners forests
-  noted_of_cell =
-      let spots = spots_of g shape old def owners forests in
-      let holds : HoldsKey def key (slice_index_or spots note.from OtherBlock) =
-      subst (λ (n : RoomNote). HoldsKey def key (slice_index_or spots n.from OtherBlock)) (sym noted) (ready.rooms.of_cell key (subst (λ (n : RoomNote). IsTrue n.is_of_cell) noted known)) in
-      let used = holds_used def key (slice_index_or spots note.from OtherBlock) holds in
-      let other = used.2.0 in
-      let fit = row_fits shape old def owners forests ready.stands note.from used.0 other used.1 used.2.1 in
-      record {
-        slots = used.0;
-        spot = used.1;
-        other = other;
-        there = used.2.1;
-        one_cell = one_cell def other.values row.values (has_block_indexes def.number def defined).composite.key fit.values fits.values (used.2.2 ∙ is);
-      }
-
-  -- and the row went into it
+  -- the row went into it
   pub placed_where_noted : (new : S) (rid : Rid) → rid.block ≡ note.from → HasRoomFor def row (slice_index_or (spots_of g shape old def owners forests) note.from OtherBlock) → FillsSlot g shape notes old new def rid row owners forests
       → PlacesRow g shape notes notes from old new def owners forests row rid
   placed_where_noted new rid at room fills =

@@ -30,7 +30,7 @@ use Rattle.mdc_table.proofs.PlacingRowsLemmas.{no_spot, puts_next}
 -- ---- the spot of the next block
 
 module _ {S : Type 0} {g : Ghosts S} (shape : Shape) (s : S) (def : TableDef) (owners : List Kind) (forests : TableForests) (st : StandsTable g shape s def owners forests) where
-  spot_of_free_block : (block : ℕ) → IsLowestFreeBlock forests.map 0 block → slice_index_or (spots_of g shape s def owners forests) block OtherBlock ≡ FreeBlock
+  pub spot_of_free_block : (block : ℕ) → IsLowestFreeBlock forests.map 0 block → slice_index_or (spots_of g shape s def owners forests) block OtherBlock ≡ FreeBlock
   spot_of_free_block block lowest = free_block_spot shape (pages_of g s) def owners forests.map block OtherBlock st.map lowest.free
 
   spot_of_free_extent : (block : ℕ) → IsLowestFree owners block → slice_index_or (spots_of g shape s def owners forests) block OtherBlock ≡ FreeExtent

@@ -30,7 +30,9 @@ use Rattle.free_space.specs.FoundRoom.{FindsRoom, IsFirstRoom, cell_key_of}
 use Rattle.free_space.specs.RoomNotes.{Notes, found_at, room_of}
 use Rattle.free_space.specs.declared.rooms.Rooms.{Rooms}
 use Rattle.free_space.proofs.RoomNotesLemmas.{noted_at_most, others_at_most}
+use Rattle.mdc_table.specs.AnyPlace.{IsFreeSpot, PlacesAnywhere}
 use Rattle.mdc_table.specs.NextBlock.{BeginsNext, FindsNoPlace, NextBlockRunsFull}
+use Rattle.mdc_table.proofs.AnyPlaceLemmas.{begun_anywhere, filled_anywhere}
 use Rattle.mdc_table.proofs.KeptBlocksLemmas.{keeps_along, keeps_in_block}
 use Rattle.mdc_table.proofs.NextBlocksLemmas.{full_along, full_no_place, full_ready, runs_of_place, runs_space_expecting, runs_space_then}
 use Rattle.mdc_table.proofs.PlacingRowsLemmas.{no_room_found, placed_in_cell, placed_in_next, room_at}
@@ -80,6 +82,14 @@ module _ {S : Type 0} {g : Ghosts S} {shape : Shape} {old mid : S} {def : TableD
         placed_in_next shape before noted old mid new def owners forests row (room_of rooms) (room_of now) is.defined is.fits told is.same ready block key is.of_cell (finds_none owners forests ready.stands)
         (begins owners forests (stands owners forests ready.stands)) (noted_at_most key (found_at block) rooms now notes) (others_at_most key (found_at block) rooms now notes)
 
+  -- wherever it lies
+  pub next_anywhere : (before noted : SpaceNotes) (new : S) (block : ℕ)
+      → ((owners : List Kind) (forests : TableForests) → StandsTable g shape mid def owners forests → BeginsNext g shape before noted mid new def block row owners forests)
+      → ((owners : List Kind) (forests : TableForests) → StandsTable g shape mid def owners forests → IsFreeSpot (slice_index_or (spots_of g shape mid def owners forests) block OtherBlock))
+      → (owners : List Kind) (forests : TableForests) → StandsTable g shape old def owners forests → PlacesAnywhere g shape before noted old new def owners forests row (record { block = block; slot = 0 })
+  next_anywhere before noted new block begins free owners forests st =
+      begun_anywhere shape def row before noted old mid new told is.same owners forests block (free owners forests (stands owners forests st)) (begins owners forests (stands owners forests st)).begins
+
   -- its space, what it keeps, and its run
   pub next_makes : (noted : SpaceNotes) (new : S) (block : ℕ)
       → ((owners : List Kind) (forests : TableForests) → StandsTable g shape mid def owners forests → AreRightNotes shape noted owners
@@ -89,10 +99,10 @@ module _ {S : Type 0} {g : Ghosts S} {shape : Shape} {old mid : S} {def : TableD
   next_makes noted new block makes owners forests ready =
       block_makes_along g shape old mid new def row told is.same owners forests block block refl (makes owners forests (stands owners forests ready.stands) ready.notes)
 
-  pub next_stays : (noted : SpaceNotes) (new : S) (block : ℕ) → ((owners : List Kind) (forests : TableForests) → StandsTable g shape mid def owners forests → KeepsBlocksBut g shape mid new def owners (λ other. other ≡ block))
-      → (owners : List Kind) (forests : TableForests) → IsReadyTable g shape noted (room_of rooms) old def owners forests → KeepsBlocksBut g shape old new def owners (λ other. other ≡ block)
-  next_stays noted new block stay owners forests ready =
-      keeps_along shape old mid new def owners forests told is.same (λ other. other ≡ block) (stay owners forests (stands owners forests ready.stands))
+  pub next_stays : (new : S) (block : ℕ) → ((owners : List Kind) (forests : TableForests) → StandsTable g shape mid def owners forests → KeepsBlocksBut g shape mid new def owners (λ other. other ≡ block))
+      → (owners : List Kind) (forests : TableForests) → StandsTable g shape old def owners forests → KeepsBlocksBut g shape old new def owners (λ other. other ≡ block)
+  next_stays new block stay owners forests st =
+      keeps_along shape old mid new def owners forests told is.same (λ other. other ≡ block) (stay owners forests (stands owners forests st))
 
   pub next_run : {new : S} {fault : Option StoreFault} → RunsOverPages g (IsTableSpace g shape mid def) (IsTableSpace g shape mid def) (BreaksTable g shape mid def) mid new fault
       → RunsOverPages g (IsTableSpace g shape old def) (IsTableSpace g shape old def) (BreaksTable g shape old def) old new fault
@@ -120,6 +130,12 @@ module _ {S : Type 0} {g : Ghosts S} {shape : Shape} {old mid : S} {def : TableD
         (fills owners forests (stands owners forests ready.stands) (has_room owners forests ready.stands))
         (noted_at_most key (found_at line.block) rooms now notes) (others_at_most key (found_at line.block) rooms now notes)
 
+    pub block_anywhere : (noted : SpaceNotes) (new : S) (rid : Rid) → rid.block ≡ line.block
+        → ((owners : List Kind) (forests : TableForests) → StandsTable g shape mid def owners forests → HasRoomAt g shape mid def used row owners forests → FillsSlot g shape noted mid new def rid row owners forests)
+        → (owners : List Kind) (forests : TableForests) → StandsTable g shape old def owners forests → PlacesAnywhere g shape noted noted old new def owners forests row rid
+    block_anywhere noted new rid at fills owners forests st =
+        filled_anywhere shape def row noted old mid new told is.same owners forests line.block rid at (has_room owners forests st).room (fills owners forests (stands owners forests st) (has_room owners forests st))
+
     pub block_makes : (noted : SpaceNotes) (new : S) (at : ℕ) → at ≡ line.block
         → ((owners : List Kind) (forests : TableForests) → StandsTable g shape mid def owners forests → HasRoomAt g shape mid def used row owners forests
         → MakesChanges shape (pages_of g mid) (block_changes def row line.block (slice_index_or (spots_of g shape mid def owners forests) line.block OtherBlock)) (pages_of g new))
@@ -128,10 +144,10 @@ module _ {S : Type 0} {g : Ghosts S} {shape : Shape} {old mid : S} {def : TableD
     block_makes noted new at is_at makes owners forests ready =
         block_makes_along g shape old mid new def row told is.same owners forests line.block at is_at (makes owners forests (stands owners forests ready.stands) (has_room owners forests ready.stands))
 
-    pub block_stays : (noted : SpaceNotes) (new : S) (at : ℕ) → at ≡ line.block → Touches g (IsBlockOrMapPage g shape mid def line.block) mid new
-        → (owners : List Kind) (forests : TableForests) → IsReadyTable g shape noted (room_of rooms) old def owners forests → KeepsBlocksBut g shape old new def owners (λ other. other ≡ at)
-    block_stays noted new at is_at touched owners forests ready =
-        subst (λ block. KeepsBlocksBut g shape old new def owners (λ other. other ≡ block)) (sym is_at) (keeps_in_block shape old mid new def owners forests told is.same ready.stands line.block touched)
+    pub block_stays : (new : S) (at : ℕ) → at ≡ line.block → Touches g (IsBlockOrMapPage g shape mid def line.block) mid new
+        → (owners : List Kind) (forests : TableForests) → StandsTable g shape old def owners forests → KeepsBlocksBut g shape old new def owners (λ other. other ≡ at)
+    block_stays new at is_at touched owners forests st =
+        subst (λ block. KeepsBlocksBut g shape old new def owners (λ other. other ≡ block)) (sym is_at) (keeps_in_block shape old mid new def owners forests told is.same st line.block touched)
 
     pub block_run : {new : S} {fault : Option StoreFault}
         → RunsOverPages g (IsBlockOrMapPage g shape mid def line.block) (IsBlockOrMapPage g shape mid def line.block) (BreaksExpected g shape mid def (HasRoomAt g shape mid def used row)) mid new fault

@@ -31,6 +31,7 @@ use Rattle.free_space.specs.FoundRoom.{cell_key_of}
 use Rattle.free_space.specs.RoomNotes.{IsForgotten, Lowers, lowered_to, room_of}
 use Rattle.free_space.specs.declared.rooms.Rooms.{Rooms}
 use Rattle.free_space.proofs.RoomNotesLemmas.{noted_at_most, others_at_most}
+use Rattle.mdc_table.specs.AnyPlace.{TakesOutAnywhere}
 use Rattle.mdc_table.specs.LoweredNotes.{LowersNoteOf}
 use Rattle.mdc_table.specs.TableReading.{HasRowOfCell}
 use Rattle.mdc_table.proofs.KeptRoomsLemmas.{rooms_left, rooms_lowered, rooms_overwritten}
@@ -90,19 +91,36 @@ module _ {S : Type 0} {g : Ghosts S} where
 
   -- ---- a row less
 
+  -- whatever the notes say
+  pub taken_anywhere : (shape : Shape) (before noted : SpaceNotes) (old new : S) (def : TableDef) (rid : Rid) (row : Row) (owners : List Kind) (forests : TableForests)
+      → EmptiesSlot g shape before noted old new def rid row owners forests → TakesOutAnywhere g shape before noted old new def owners forests row rid
+  taken_anywhere shape before noted old new def rid row owners forests empties = record {
+    owners_now = empties.owners_now;
+    forests_now = empties.forests_now;
+    changes = empties.turns.changes;
+    records = empties.turns.records;
+    mid = slice_set (spots_of g shape old def owners forests) rid.block (left_with (slice_set empties.slots rid.slot None));
+    takes = record { slots = empties.slots; lies = empties.lies; is_left = refl };
+    returns = empties.turns.spots;
+  }
+
+  -- and where the notes are right
   module _ (shape : Shape) (before noted : SpaceNotes) (old new : S) (def : TableDef) (rid : Rid) (row : Row) (owners : List Kind) (forests : TableForests) (from now : Entry → RoomNote) (ready : IsReadyTable g shape before from old def owners forests)
       (empties : EmptiesSlot g shape before noted old new def rid row owners forests) where
     row_out : AreRightRooms def now (spots_of g shape new def empties.owners_now empties.forests_now) → TakesRowOut g shape before noted now old new def owners forests row rid
-    row_out rooms = record {
-      owners_now = empties.owners_now;
-      forests_now = empties.forests_now;
-      changes = empties.turns.changes;
-      records = empties.turns.records;
-      rooms = rooms;
-      mid = slice_set (spots_of g shape old def owners forests) rid.block (left_with (slice_set empties.slots rid.slot None));
-      takes = record { slots = empties.slots; lies = empties.lies; is_left = refl };
-      returns = empties.turns.spots;
-    }
+    unfolding taken_anywhere
+    row_out rooms =
+        let out = taken_anywhere shape before noted old new def rid row owners forests empties in
+        record {
+          owners_now = out.owners_now;
+          forests_now = out.forests_now;
+          changes = out.changes;
+          records = out.records;
+          rooms = rooms;
+          mid = out.mid;
+          takes = out.takes;
+          returns = out.returns;
+        }
 
     -- a row was taken out, and the note of its cell lowered
     pub row_taken : LowersNoteOf def row rid.block from now → TakesRowOut g shape before noted now old new def owners forests row rid

@@ -1,3 +1,4 @@
+pub mod AnyPlace
 pub mod KnownBlocks
 pub mod LoweredNotes
 pub mod NextBlock

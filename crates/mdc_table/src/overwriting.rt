@@ -8,7 +8,7 @@ ghost use Rattle.mdc_ast.specs.declared.row.Row.{Row};
 ghost use Rattle.mdc_ast.specs.TableLimits.{IsTableDef};
 ghost use Rattle.table_trees.specs.SpaceChanges.{IsSameSpace};
 ghost use Rattle.mdc_ast.specs.FittingRows.{RowFits};
-ghost use Rattle.mdc_sound.specs.StandingTable.{BreaksExpected, HasRowAt, IsReadyTable, KeepsBlocksBut, OverwritesRow, TableForests, pages_of};
+ghost use Rattle.mdc_sound.specs.StandingTable.{BreaksExpected, ChangesTable, HasRowAt, IsReadyTable, KeepsBlocksBut, OverwritesRow, StandsTable, TableForests, pages_of};
 ghost use Rattle.free_space.specs.RoomNotes.{room_of};
 ghost use Rattle.block_rows.specs.SeenRows.{SeesSlot, SeesSomeRow};
 ghost use Rattle.table_blocks.specs.SeenSlots.{IsUsedInMap};
@@ -25,8 +25,8 @@ use store_api::{Pages, Shape, StoreFault};
 use table_blocks::overwrite_row_of_used;
 
 /// Puts a row into the place of one that lies there and is of the same cell. Damaged where none lies there. The block map isn't asked
-/// where the block is known to be a Used one of the table. It changes no tree, and the notes stay right. After a fault `undo` goes
-/// back to a mark.
+/// where the block is known to be a Used one of the table. It changes no tree, and the notes stay right. Whatever the notes say, the
+/// table goes on standing, and its other blocks stay. After a fault `undo` goes back to a mark.
 pub fn overwrite_row<P: Pages>(
     alloc: Global,
     def: &TableDef,
@@ -43,11 +43,13 @@ pub fn overwrite_row<P: Pages>(
     ensures overwrites { OnOk result ((noted : SpaceNotes) (owners : List Kind) (forests : TableForests) (was : Row) → IsReadyTable P.Pages shape noted (room_of rooms.now) pages.old def.now owners forests
         → HasRowOfCell P.Pages shape pages.old def.now rid was row.now owners forests
         → OverwritesRow P.Pages shape noted noted (room_of rooms.now) pages.old pages.new def.now owners forests was row.now rid) }
+    ensures leaves { OnOk result ((noted : SpaceNotes) (owners : List Kind) (forests : TableForests) (was : Row) → StandsTable P.Pages shape pages.old def.now owners forests
+        → HasRowOfCell P.Pages shape pages.old def.now rid was row.now owners forests → ChangesTable P.Pages shape noted noted pages.old pages.new def.now owners forests owners forests) }
     ensures makes { OnOk result ((noted : SpaceNotes) (owners : List Kind) (forests : TableForests) → IsReadyTable P.Pages shape noted (room_of rooms.now) pages.old def.now owners forests
         → HasRowAt P.Pages shape pages.old def.now rid owners forests → IsSameSpace shape (pages_of P.Pages pages.old) (pages_of P.Pages pages.new)) }
     ensures seen { OnOk result (IsTrue (P.state pages.old).is_told → SeesSomeRow (SeesSlot shape (pages_of P.Pages pages.old) def.now rid)) }
     ensures used { OnOk result (IsTrue (P.state pages.old).is_told → known ≢ Some rid.block → IsUsedInMap P.Pages pages.old def.now rid.block) }
-    ensures stay { (noted : SpaceNotes) (owners : List Kind) (forests : TableForests) → IsReadyTable P.Pages shape noted (room_of rooms.now) pages.old def.now owners forests → KeepsBlocksBut P.Pages shape pages.old pages.new def.now owners (λ block. block ≡ rid.block) }
+    ensures stay { (owners : List Kind) (forests : TableForests) → StandsTable P.Pages shape pages.old def.now owners forests → KeepsBlocksBut P.Pages shape pages.old pages.new def.now owners (λ block. block ≡ rid.block) }
     ensures count { length (P.state pages.new).work ≡ length (P.state pages.old).work }
     ensures runs { RunsOverPages P.Pages (IsExpectedPlace P.Pages shape pages.old def.now (IsUsedIfKnown known rid.block))
         (IsExpectedPlace P.Pages shape pages.old def.now (IsUsedIfKnown known rid.block))

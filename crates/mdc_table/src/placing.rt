@@ -13,9 +13,10 @@ ghost use Rattle.mdc_sound.specs.Placing.{HasRoomFor};
 ghost use Rattle.mdc_sound.specs.Placing.Spot.{OtherBlock};
 ghost use Rattle.mdc_sound.specs.RunningFull.{block_changes};
 ghost use Rattle.mdc_sound.specs.StandingTable.{BreaksTable, IsBlockOrMapPage, IsReadyTable, IsTableSpace, KeepsBlocksBut, MeetsNoFree, PlacesRow, StandsTable, TableForests, pages_of, spots_of};
-ghost use Rattle.table_blocks.specs.BlockSteps.{FillsSlot, IsBlockOfCell};
+ghost use Rattle.table_blocks.specs.BlockSteps.{FillsSlot};
 ghost use Rattle.free_space.specs.FoundRoom.{cell_key_of};
 ghost use Rattle.free_space.specs.RoomNotes.{room_of};
+ghost use Rattle.mdc_table.specs.AnyPlace.{IsFreeSpot, PlacesAnywhere};
 ghost use Rattle.mdc_table.specs.NextBlock.{BeginsNext, FindsNoPlace, NextBlockRunsFull};
 
 use crate::faults::unmapped;
@@ -31,7 +32,10 @@ use table_blocks::{begin_free_block, begin_new_block, put_if_room, put_in_block}
 
 /// Puts a row that fits the definition where placing says, and answers where it lies. The table's other blocks stay, whatever
 /// their state, and it claims no more pages than the row asks for. `Full` says that no Used block of its cell has room, and that
-/// it asks for more extents than are free. After a fault `undo` goes back to a mark, and the notes of free space and of the rooms are to be forgotten.
+/// it asks for more extents than are free. After a fault `undo` goes back to a mark, and the notes of free space and of the rooms are to be
+/// forgotten. Whatever the notes say, the row goes into an empty slot of a Used block of its cell, of a Free block or of a free extent,
+/// and the table's other blocks stay. Wrong notes cost time; the block may then not be the lowest one, and `Full` may come where there
+/// is still room.
 pub fn place_row<P: Pages>(
     alloc: Global,
     def: &TableDef,
@@ -46,11 +50,13 @@ pub fn place_row<P: Pages>(
     requires going { (P.state pages.old).ended ≡ false }
     ensures places { IfOk result (λ rid. (owners : List Kind) (forests : TableForests) → IsReadyTable P.Pages shape notes.old (room_of rooms.old) pages.old def.now owners forests
         → PlacesRow P.Pages shape notes.old notes.new (room_of rooms.new) pages.old pages.new def.now owners forests row.now rid) }
+    ensures anywhere { IfOk result (λ rid. (owners : List Kind) (forests : TableForests) → StandsTable P.Pages shape pages.old def.now owners forests
+        → PlacesAnywhere P.Pages shape notes.old notes.new pages.old pages.new def.now owners forests row.now rid) }
     ensures full { IfErr result (λ fault. IfFull fault (λ cap. (cap ≡ shape.extents) × ((owners : List Kind) (forests : TableForests) → IsReadyTable P.Pages shape notes.old (room_of rooms.old) pages.old def.now owners forests
         → FindsNoPlace P.Pages shape pages.old pages.new def.now row.now owners forests))) }
     ensures makes { IfOk result (λ rid. (owners : List Kind) (forests : TableForests) → IsReadyTable P.Pages shape notes.old (room_of rooms.old) pages.old def.now owners forests
         → MakesChanges shape (pages_of P.Pages pages.old) (block_changes def.now row.now rid.block (slice_index_or (spots_of P.Pages shape pages.old def.now owners forests) rid.block OtherBlock)) (pages_of P.Pages pages.new)) }
-    ensures stay { IfOk result (λ rid. (owners : List Kind) (forests : TableForests) → IsReadyTable P.Pages shape notes.old (room_of rooms.old) pages.old def.now owners forests
+    ensures stay { IfOk result (λ rid. (owners : List Kind) (forests : TableForests) → StandsTable P.Pages shape pages.old def.now owners forests
         → KeepsBlocksBut P.Pages shape pages.old pages.new def.now owners (λ block. block ≡ rid.block)) }
     ensures runs { RunsOverPages P.Pages (IsTableSpace P.Pages shape pages.old def.now) (IsTableSpace P.Pages shape pages.old def.now)
         (BreaksTable P.Pages shape pages.old def.now) pages.old pages.new (store_fault_in store_part_of result) }
@@ -63,8 +69,8 @@ pub fn place_row<P: Pages>(
     place_by_search(alloc, def, shape, notes, rooms, pages, &key, row)
 }
 
-/// Puts a row into the block that is noted of its cell, where that is known to be one of it and has room. None where it isn't,
-/// or hasn't: then nothing is changed. No block index is searched.
+/// Puts a row into the block that is noted of its cell, where the row in the block's lowest slot is of that cell and the block has
+/// room. None where it isn't, or hasn't: then nothing is changed. No block index is searched.
 fn put_where_noted<P: Pages>(
     alloc: Global,
     def: &TableDef,
@@ -79,10 +85,8 @@ fn put_where_noted<P: Pages>(
     ensures known { IfOk result (λ put. IfSome put (λ rid. IsTrue room.is_of_cell)) }
     ensures block { IfOk result (λ put. IfSome put (λ rid. rid.block ≡ room.first)) }
     ensures fills { IfOk result (λ put. IfSome put (λ rid. (noted : SpaceNotes) (owners : List Kind) (forests : TableForests) → StandsTable P.Pages shape pages.old def.now owners forests
-        → IsBlockOfCell P.Pages shape pages.old def.now room.first row.now owners forests
         → HasRoomFor def.now row.now (slice_index_or (spots_of P.Pages shape pages.old def.now owners forests) room.first OtherBlock) × FillsSlot P.Pages shape noted pages.old pages.new def.now rid row.now owners forests)) }
     ensures makes { IfOk result (λ put. IfSome put (λ rid. (owners : List Kind) (forests : TableForests) → StandsTable P.Pages shape pages.old def.now owners forests
-        → IsBlockOfCell P.Pages shape pages.old def.now room.first row.now owners forests
         → MakesChanges shape (pages_of P.Pages pages.old) (block_changes def.now row.now room.first (slice_index_or (spots_of P.Pages shape pages.old def.now owners forests) room.first OtherBlock)) (pages_of P.Pages pages.new))) }
     ensures kept { IfOk result (λ put. put ≡ None → (P.state pages.new).work ≡ (P.state pages.old).work) }
     ensures runs { RunsOverPages P.Pages (IsBlockOrMapPage P.Pages shape pages.old def.now room.first) (IsBlockOrMapPage P.Pages shape pages.old def.now room.first)
@@ -114,11 +118,13 @@ fn place_by_search<P: Pages>(
     requires key { key.now ≡ cell_key_of def.now row.now.values }
     ensures places { IfOk result (λ rid. (owners : List Kind) (forests : TableForests) → IsReadyTable P.Pages shape notes.old (room_of rooms.old) pages.old def.now owners forests
         → PlacesRow P.Pages shape notes.old notes.new (room_of rooms.new) pages.old pages.new def.now owners forests row.now rid) }
+    ensures anywhere { IfOk result (λ rid. (owners : List Kind) (forests : TableForests) → StandsTable P.Pages shape pages.old def.now owners forests
+        → PlacesAnywhere P.Pages shape notes.old notes.new pages.old pages.new def.now owners forests row.now rid) }
     ensures full { IfErr result (λ fault. IfFull fault (λ cap. (cap ≡ shape.extents) × ((owners : List Kind) (forests : TableForests) → IsReadyTable P.Pages shape notes.old (room_of rooms.old) pages.old def.now owners forests
         → FindsNoPlace P.Pages shape pages.old pages.new def.now row.now owners forests))) }
     ensures makes { IfOk result (λ rid. (owners : List Kind) (forests : TableForests) → IsReadyTable P.Pages shape notes.old (room_of rooms.old) pages.old def.now owners forests
         → MakesChanges shape (pages_of P.Pages pages.old) (block_changes def.now row.now rid.block (slice_index_or (spots_of P.Pages shape pages.old def.now owners forests) rid.block OtherBlock)) (pages_of P.Pages pages.new)) }
-    ensures stay { IfOk result (λ rid. (owners : List Kind) (forests : TableForests) → IsReadyTable P.Pages shape notes.old (room_of rooms.old) pages.old def.now owners forests
+    ensures stay { IfOk result (λ rid. (owners : List Kind) (forests : TableForests) → StandsTable P.Pages shape pages.old def.now owners forests
         → KeepsBlocksBut P.Pages shape pages.old pages.new def.now owners (λ block. block ≡ rid.block)) }
     ensures runs { RunsOverPages P.Pages (IsTableSpace P.Pages shape pages.old def.now) (IsTableSpace P.Pages shape pages.old def.now)
         (BreaksTable P.Pages shape pages.old def.now) pages.old pages.new (store_fault_in store_part_of result) }
@@ -154,6 +160,8 @@ fn begin_block<P: Pages>(
     requires going { (P.state pages.old).ended ≡ false }
     ensures begins { IfOk result (λ block. (owners : List Kind) (forests : TableForests) → StandsTable P.Pages shape pages.old def.now owners forests
         → BeginsNext P.Pages shape notes.old notes.new pages.old pages.new def.now block row.now owners forests) }
+    ensures free { IfOk result (λ block. (owners : List Kind) (forests : TableForests) → StandsTable P.Pages shape pages.old def.now owners forests
+        → IsFreeSpot (slice_index_or (spots_of P.Pages shape pages.old def.now owners forests) block OtherBlock)) }
     ensures full { IfErr result (λ fault. IfFull fault (λ cap. (cap ≡ shape.extents) × ((owners : List Kind) (forests : TableForests) → StandsTable P.Pages shape pages.old def.now owners forests
         → AreRightNotes shape notes.old owners → MeetsNoFree P.Pages shape pages.new))) }
     ensures makes { IfOk result (λ block. (owners : List Kind) (forests : TableForests) → StandsTable P.Pages shape pages.old def.now owners forests → AreRightNotes shape notes.old owners

@@ -9,12 +9,13 @@ ghost use Rattle.mdc_ast.specs.TableLimits.{IsTableDef};
 ghost use Rattle.table_trees.specs.SpaceChanges.{MakesChanges};
 ghost use Rattle.mdc_sound.specs.Placing.{IsRowAt};
 ghost use Rattle.mdc_sound.specs.RunningFull.{left_changes};
-ghost use Rattle.mdc_sound.specs.StandingTable.{BreaksExpected, ChangesTable, IsReadyTable, IsTableOrMapPage, KeepsBlocksBut, StandsTable, TableForests, TakesRowOut, pages_of, spots_of};
+ghost use Rattle.mdc_sound.specs.StandingTable.{BreaksExpected, IsReadyTable, IsTableOrMapPage, KeepsBlocksBut, StandsTable, TableForests, TakesRowOut, pages_of, spots_of};
 ghost use Rattle.block_rows.specs.HeldRows.{HasReadValues};
 ghost use Rattle.block_rows.specs.SeenRows.{SeesSomeRow};
 ghost use Rattle.table_blocks.specs.BlockSteps.{HasThisRow};
 ghost use Rattle.table_blocks.specs.SeenSlots.{IsMapApart, SeesUsedSlot};
 ghost use Rattle.free_space.specs.RoomNotes.{room_of};
+ghost use Rattle.mdc_table.specs.AnyPlace.{TakesOutAnywhere};
 ghost use Rattle.mdc_table.specs.LoweredNotes.{LowersNoteOf};
 
 use crate::faults::unmapped;
@@ -29,7 +30,8 @@ use store_api::{Pages, Shape, StoreFault};
 
 /// Takes the row out that lies in a place; it is given too. Damaged where no row lies there. It claims no page. The note of the
 /// row's cell stays as it is where the block had room before and keeps other rows; else it is lowered, and where memory has no
-/// room for the key of the cell all notes are lost. After a fault `undo` goes back to a mark, and the notes are to be forgotten.
+/// room for the key of the cell all notes are lost. Whatever the notes say, this row alone leaves, the table goes on standing, and
+/// its other blocks stay. After a fault `undo` goes back to a mark, and the notes are to be forgotten.
 pub fn take_row<P: Pages>(
     alloc: Global,
     def: &TableDef,
@@ -47,12 +49,12 @@ pub fn take_row<P: Pages>(
         → HasThisRow P.Pages shape pages.old def.now rid row.now owners forests
         → TakesRowOut P.Pages shape notes.old notes.new (room_of rooms.new) pages.old pages.new def.now owners forests row.now rid) }
     ensures leaves { OnOk result ((owners : List Kind) (forests : TableForests) → StandsTable P.Pages shape pages.old def.now owners forests
-        → HasThisRow P.Pages shape pages.old def.now rid row.now owners forests → (owners_now : List Kind) × (forests_now : TableForests) × ChangesTable P.Pages shape notes.old notes.new pages.old pages.new def.now owners forests owners_now forests_now × (forests_now.indexes ≡ forests.indexes)) }
-    ensures makes { OnOk result ((owners : List Kind) (forests : TableForests) → IsReadyTable P.Pages shape notes.old (room_of rooms.old) pages.old def.now owners forests
+        → HasThisRow P.Pages shape pages.old def.now rid row.now owners forests → TakesOutAnywhere P.Pages shape notes.old notes.new pages.old pages.new def.now owners forests row.now rid) }
+    ensures makes { OnOk result ((owners : List Kind) (forests : TableForests) → StandsTable P.Pages shape pages.old def.now owners forests
         → (slots : List (Option Row)) → IsRowAt (spots_of P.Pages shape pages.old def.now owners forests) rid row.now slots
         → MakesChanges shape (pages_of P.Pages pages.old) (left_changes def.now row.now rid.block (count_rows slots)) (pages_of P.Pages pages.new)) }
     ensures seen { OnOk result (IsTrue (P.state pages.old).is_told → IsMapApart P.Pages shape pages.old def.now rid.block → SeesSomeRow (SeesUsedSlot P.Pages shape pages.old def.now rid)) }
-    ensures stay { (owners : List Kind) (forests : TableForests) → IsReadyTable P.Pages shape notes.old (room_of rooms.old) pages.old def.now owners forests → KeepsBlocksBut P.Pages shape pages.old pages.new def.now owners (λ block. block ≡ rid.block) }
+    ensures stay { (owners : List Kind) (forests : TableForests) → StandsTable P.Pages shape pages.old def.now owners forests → KeepsBlocksBut P.Pages shape pages.old pages.new def.now owners (λ block. block ≡ rid.block) }
     ensures count { length (P.state pages.new).work ≡ length (P.state pages.old).work }
     ensures runs { RunsOverPages P.Pages (IsTableOrMapPage P.Pages shape pages.old def.now) (IsTableOrMapPage P.Pages shape pages.old def.now)
         (BreaksExpected P.Pages shape pages.old def.now (HasThisRow P.Pages shape pages.old def.now rid row.now)) pages.old pages.new (fault_of result) }

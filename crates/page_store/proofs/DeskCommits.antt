@@ -206,7 +206,7 @@ module _ (desk : Desk) (told : Option File) (images : Numbered) (kept : IsKept d
         let unmarked : (over : Desk) (some : Option File) → option_map (work_of some over) desk.changes.marked ≡ None = λ over some. ap (option_map (work_of some over)) prepared.unmarked in (
           base_of left (halted halt desk),
           pages.0,
-          same_state (record (state_of told tape beside desk) { hand = None; prepared = false; ended = true }) (is_some left) (is_some told)
+          same_state (record (state_of told tape beside desk) { hand = None; prepared = false; ended = true; file = option_map (λ (f : File). f.bytes) left }) (is_some left) (is_some told)
               (base_of left (halted halt desk)) (base_of left (halted halt desk)) (work_of left (halted halt desk) desk.changes.now) (work_of told desk desk.changes.now)
               (option_map (work_of left (halted halt desk)) desk.changes.marked) (option_map (work_of told desk) desk.changes.marked)
               told_same refl pages.1 (unmarked (halted halt desk) left ∙ sym (unmarked desk told)),
@@ -233,7 +233,7 @@ module _ (desk : Desk) (told : Option File) (images : Numbered) (kept : IsKept d
     pub commits : BothFiles told left (IsCommitted images) → Does Commits told desk left (settled images desk)
     commits both tape beside =
         let pages = committed_pages both in
-        same_state (record (state_of told tape beside desk) { hand = None; prepared = false }) (is_some left) (is_some told)
+        same_state (record (state_of told tape beside desk) { hand = None; prepared = false; file = option_map (λ (f : File). f.bytes) left }) (is_some left) (is_some told)
         (base_of left (settled images desk)) (work_of told desk desk.changes.now) (work_of left (settled images desk) (unchanged (length desk.changes.now))) (work_of told desk desk.changes.now)
         None None told_same pages.0 pages.1 refl
 

@@ -1,4 +1,5 @@
 pub mod BesideLemmas
+pub mod BroughtLemmas
 pub mod Cached
 pub mod Calls
 pub mod Commits

@@ -50,6 +50,7 @@ state_of told tape beside desk = record {
   ended = is_some desk.halt;
   told = tape;
   fetched = None;
+  file = option_map (λ file. file.bytes) told;
   beside = beside;
 }
 

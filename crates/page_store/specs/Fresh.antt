@@ -4,6 +4,7 @@ use Rattle.byteorder.specs.Endian.{big_bytes}
 use Rattle.mdc_outside.specs.Disk.{File, IsImage, all_synced}
 use Rattle.store_api.specs.StoreState.{zero_page}
 use Rattle.store_api.specs.Extents.{map_pages, first_count}
+use Rattle.store_api.specs.Format.{first_format}
 use Rattle.page_store.specs.Shape.{birth_page}
 use Rattle.page_store.specs.Standing.{is_made}
 use Rattle.page_file.specs.Layout.{home_start, page_start}
@@ -16,9 +17,9 @@ zero_pages n = replicate (page_start n) 0
 abbrev pub gates : ℕ → List ℕ
 gates made = made ∷ drop 1 zero_page
 
--- the root page of an empty database: `ROOT`, version 1 and the page count
+-- the root page of an empty database: `ROOT`, the version and the page count
 abbrev pub root_page : ℕ → List ℕ
-root_page extents = (82 ∷ 79 ∷ 79 ∷ 84 ∷ []) ++ big_bytes 4 1 ++ big_bytes 4 (first_count extents) ++ drop 12 zero_page
+root_page extents = (82 ∷ 79 ∷ 79 ∷ 84 ∷ []) ++ big_bytes 4 first_format.version ++ big_bytes 4 (first_count extents) ++ drop 12 zero_page
 
 -- gates with this made byte, birth page, and 64 pages for a log
 abbrev pub front_with : ℕ → ℕ → ℕ → List ℕ

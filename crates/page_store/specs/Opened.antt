@@ -1,15 +1,19 @@
 -- What opening a database does to its file, and what a store shows that was just opened.
-use Rattle.std.specs.Prelude.{◌≡◌, ◌≤◌, ℕ, Bool, false, List, [], Option, Some, None}
+use Rattle.std.specs.Prelude.{◌≡◌, ◌≤◌, ℕ, Bool, false, if◌then◌else◌, List, [], ◌∷◌, Option, Some, None}
 use Rattle.std.specs.Option.{option_map}
 use Rattle.store_api.specs.StoreState.{StoreState}
 use Rattle.store_api.specs.Moments.{Outcomes}
 use Rattle.store_api.specs.declared.shape.Shape.{Shape}
 use Rattle.mdc_words.specs.Time.{OverTime, RestsAt}
-use Rattle.mdc_outside.specs.Disk.{File, IsImage}
+use Rattle.mdc_outside.specs.Disk.{File, IsImage, overwritten}
 use Rattle.mdc_outside.specs.Moments.{Beside}
 use Rattle.page_store.specs.declared.desk.Desk.{Desk}
 use Rattle.page_store.specs.Changes.{nothing}
 use Rattle.page_file.specs.Leaving.{LeavesImage}
+use Rattle.page_file.specs.declared.layout.TheConstants.{GATE}
+use Rattle.redo_journal.specs.Images.{Numbered}
+use Rattle.redo_journal.specs.Layout.{is_open, journal_of}
+use Rattle.redo_journal.specs.Pieces.{homed}
 use Rattle.page_store.specs.FileStore.{beside_of}
 use Rattle.page_store.specs.Opening.{StandsAs}
 use Rattle.page_store.specs.Standing.{pages_in}
@@ -17,6 +21,14 @@ use Rattle.page_store.specs.Standing.{pages_in}
 -- the bytes that a read gives, where the file is told
 abbrev pub file_bytes : Option File → Option (List ℕ)
 file_bytes told = option_map (λ file. file.bytes) told
+
+-- the bytes of a file once these images are in their home pages and the gate of its journal is closed
+abbrev pub brought_home : Numbered → List ℕ → List ℕ
+brought_home images file = overwritten GATE (0 ∷ []) (homed images file)
+
+-- the bytes of a file once it was opened: a journal that counts was brought home, and else nothing was written
+abbrev pub opened_bytes : List ℕ → List ℕ
+opened_bytes file = if is_open file then brought_home (journal_of file) file else file
 
 -- an image that a crash could leave of the file
 abbrev pub CouldBeLeft : File → List ℕ → Type 0
@@ -72,5 +84,6 @@ IsJustOpened is_told tape shape attaches state =
       ended = false;
       told = tape;
       fetched = None;
+      file = state.file;
       beside = beside_of shape attaches;
     }

@@ -9,6 +9,7 @@ use Rattle.store_api.specs.declared.fault.Damage.{Damage}
 use Rattle.page_store.specs.declared.fault.OpenFault.{OpenFault}
 use Rattle.page_store.specs.declared.fault.OpenFault.TheVariants.{Exists, Unmade, NotMdc, Version, Device, Damaged, Memory}
 use Rattle.store_api.specs.Extents.{first_count}
+use Rattle.store_api.specs.Format.{first_format}
 use Rattle.page_store.specs.Shape.{IsBirth, extents_in, extent_pages_in}
 use Rattle.page_store.specs.Standing.{IsFitting, IsFormed, Stands, page_of, count_of, pages_in, is_made}
 use Rattle.page_store.specs.Fresh.{IsUnmade}
@@ -54,11 +55,11 @@ IsDamagedFile damage file = IsMade file × IsBirth (file_page file 1) × IsDamag
 -- the file is of another version
 abbrev pub IsOfVersion : ℕ → List ℕ → Type 0
 IsOfVersion version file =
-    IsMade file × IsBirth (file_page file 1) × IsRead file × IsWhole file × (version ≡ version_of file) × (version ≢ 1)
+    IsMade file × IsBirth (file_page file 1) × IsRead file × IsWhole file × (version ≡ version_of file) × (version ≢ first_format.version)
 
 -- the file is a database that can be served
 abbrev pub IsServed : List ℕ → Type 0
-IsServed file = IsMade file × IsBirth (file_page file 1) × IsRead file × IsWhole file × (version_of file ≡ 1)
+IsServed file = IsMade file × IsBirth (file_page file 1) × IsRead file × IsWhole file × (version_of file ≡ first_format.version)
 
 -- An image that has all that isn't the store's as it is in that file. Where the file is formed, the image is too, stands
 -- for the same pages and has the file's birth page.

@@ -7,11 +7,8 @@ ghost use Rattle.page_store.specs.Fresh.{root_page};
 
 use byteorder::{BigEndian, ByteOrder};
 use page_file::zeros;
-use store_api::layout::{FIRST_MAP_PAGE, MAP_PAGE_EXTENTS};
+use store_api::layout::{FIRST_MAP_PAGE, MAP_PAGE_EXTENTS, VERSION};
 use store_api::{Page, blank_page};
-
-// The version of the format.
-pub(crate) const VERSION: u32 = 1;
 
 /// How many pages an empty database has: the root page, 16 table pages and the extent map.
 pub(crate) fn first_count(extents: u32) -> u32

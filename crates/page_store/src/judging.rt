@@ -9,10 +9,10 @@ ghost use Rattle.page_file.specs.declared.layout.TheConstants.{FIRST_PAGE, PAGE_
 ghost use Rattle.store_api.specs.declared.pages.TheConstants.{MAX_PAGES};
 
 use crate::OpenFault;
-use crate::fresh::VERSION;
 use crate::journal::{Journal, is_behind};
 use crate::root::{count_in, version_in};
 use page_file::{FIRST_PAGE, PAGE_BYTES};
+use store_api::layout::VERSION;
 use store_api::rules::ROOT_PAGE_RULE;
 use store_api::{Damage, Page, Shape};
 

@@ -24,7 +24,7 @@ mod write_through;
 
 pub use fault::OpenFault;
 pub use file_store::FileStore;
-pub use laws::formed_is_served;
+pub use laws::{formed_is_served, opened_is_as_long};
 pub use making::make;
 pub use opening::Unopened;
 pub use page_cache::CACHED_PAGES;

@@ -1,6 +1,6 @@
 // How a store opens the database in a file, and gives its host back.
 ghost use Rattle.std.specs.Prelude.{◌≡◌, ◌≢◌, ◌⊎◌, ◌≤◌, length, ℕ, List, Some, [], IsTrue, false, IfOk, IfErr, OnOk, IsErrOf, is_some};
-ghost use Rattle.std.specs.Option.{ForSome};
+ghost use Rattle.std.specs.Option.{ForSome, option_map};
 ghost use Rattle.mdc_words.specs.Faults.{CountsFault};
 ghost use Rattle.mdc_outside.specs.Disk.{File};
 ghost use Rattle.mdc_words.specs.Time.{RestsAt};
@@ -11,7 +11,7 @@ ghost use Rattle.page_store.specs.Bound.{OpensOf};
 ghost use Rattle.page_store.specs.Desk.{IsKept, base_of};
 ghost use Rattle.page_store.specs.Faults.{MayComeFirst};
 ghost use Rattle.page_store.specs.FileStore.{IsLeft, beside_of};
-ghost use Rattle.page_store.specs.Opened.{CouldBeLeft, LeavesBaseSince, IsEmptyDesk, IsJustOpened, file_bytes};
+ghost use Rattle.page_store.specs.Opened.{CouldBeLeft, LeavesBaseSince, IsEmptyDesk, IsJustOpened, file_bytes, opened_bytes};
 ghost use Rattle.page_store.specs.Opening.{IsAtRest, IsServed, Refuses};
 ghost use Rattle.store_api.specs.Extents.{is_shape};
 ghost use Rattle.page_store.specs.Shape.{extents_in, extent_pages_in};
@@ -58,6 +58,8 @@ impl<H: Host> FileStore<H> {
         ensures refused { IfErr result (λ unopened. ForSome (H.file host) (λ file. Refuses unopened.fault file.bytes)) }
         ensures limits { IfOk result (λ store. (18 ≤ length (⟦<FileStore<H> as Pages>⟧.state store).base) × (length (⟦<FileStore<H> as Pages>⟧.state store).base ≤ MAX_PAGES)) }
         ensures never { IfErr result (λ unopened. unopened.fault ≢ OpenFault.Exists) }
+        // What is written is a journal that counts, which is brought home, and nothing else.
+        ensures writes { IfOk result (λ store. (⟦<FileStore<H> as Pages>⟧.state store).file ≡ option_map opened_bytes (file_bytes (H.file host))) }
         // Nothing is written to a file that is refused: at each moment a crash leaves what it could leave before.
         ensures left_alone { IfErr result (λ unopened. unopened.fault ≢ OpenFault.Device → LeavesOf H.Disk CouldBeLeft host unopened.host) }
         // The same of a file that can't be served, also where the disk failed.
@@ -123,6 +125,7 @@ fn lay_out<D: Disk>(alloc: Global, disk: &mut D, cache: usize) -> Result<Desk, O
     ensures served { IfOk result (λ desk. ForSome (D.file disk.old) (λ file. IsServed file.bytes × (base_of (D.file disk.new) desk ≡ pages_in file.bytes))) }
     ensures empty { IfOk result IsEmptyDesk }
     ensures kept { IfOk result (λ desk. IsKept desk (D.file disk.new)) }
+    ensures writes { OnOk result (file_bytes (D.file disk.new) ≡ option_map opened_bytes (file_bytes (D.file disk.old))) }
     ensures refused { IfErr result (λ fault. ForSome (D.file disk.old) (λ file. Refuses fault file.bytes)) }
     ensures untouched { IfErr result (λ fault. fault ≢ OpenFault.Device → file_bytes (D.file disk.new) ≡ file_bytes (D.file disk.old)) }
     ensures left_alone { IfErr result (λ fault. fault ≢ OpenFault.Device → LeavesOf D.Disk CouldBeLeft disk.old disk.new) }
@@ -162,6 +165,7 @@ fn come_to_rest<D: Disk>(alloc: Global, disk: &mut D) -> Result<Opened, OpenFaul
     requires attached { IsTrue (D.is_attached disk.old) }
     ensures served { IfOk result (λ opened. ForSome (D.file disk.old) (λ file. IsServed file.bytes)) }
     ensures at_rest { IfOk result (λ opened. ForSome (D.file disk.new) (IsAtRest opened.shape.extents opened.shape.extent_pages opened.count)) }
+    ensures writes { OnOk result (file_bytes (D.file disk.new) ≡ option_map opened_bytes (file_bytes (D.file disk.old))) }
     ensures limits { IfOk result (λ opened. (18 ≤ opened.count) × (opened.count ≤ MAX_PAGES)) }
     ensures refused { IfErr result (λ fault. ForSome (D.file disk.old) (λ file. Refuses fault file.bytes)) }
     ensures untouched { IfErr result (λ fault. fault ≢ OpenFault.Device → file_bytes (D.file disk.new) ≡ file_bytes (D.file disk.old)) }

@@ -1,11 +1,12 @@
 // What a file that is opened stands for, and how a journal that counts is brought home.
-ghost use Rattle.std.specs.Prelude.{◌≡◌, ◌≢◌, ◌≤◌, IsTrue, IfOk, IfErr, IsErrOf};
-ghost use Rattle.std.specs.Option.{ForSome};
+ghost use Rattle.std.specs.Prelude.{◌≡◌, ◌≢◌, ◌≤◌, IsTrue, IfOk, IfErr, OnOk, IsErrOf};
+ghost use Rattle.std.specs.Option.{ForSome, option_map};
 ghost use Rattle.mdc_words.specs.Faults.{CountsFault};
 ghost use Rattle.mdc_outside.specs.Disk.{all_synced};
 ghost use Rattle.page_file.specs.Bound.{RunsOf};
 ghost use Rattle.page_file.specs.Runs.{IsCovered};
 ghost use Rattle.page_file.specs.Bound.{LeavesOf};
+ghost use Rattle.page_store.specs.Opened.{file_bytes, opened_bytes};
 ghost use Rattle.page_store.specs.Opening.{IsAtRest, IsServed, Refuses, StandsAs};
 ghost use Rattle.page_store.specs.Reading.{IsJournalIn, States};
 ghost use Rattle.store_api.specs.declared.pages.TheConstants.{MAX_PAGES};
@@ -46,6 +47,7 @@ pub(crate) fn recover<D: Disk>(alloc: Global, disk: &mut D) -> Result<Opened, Op
     requires synced { ForSome (D.file disk.old) (λ file. file.since ≡ all_synced file.bytes) }
     ensures served { IfOk result (λ opened. ForSome (D.file disk.old) (λ file. IsServed file.bytes)) }
     ensures at_rest { IfOk result (λ opened. ForSome (D.file disk.new) (IsAtRest opened.shape.extents opened.shape.extent_pages opened.count)) }
+    ensures writes { OnOk result (file_bytes (D.file disk.new) ≡ option_map opened_bytes (file_bytes (D.file disk.old))) }
     ensures limits { IfOk result (λ opened. (18 ≤ opened.count) × (opened.count ≤ MAX_PAGES)) }
     ensures refused { IfErr result (λ fault. ForSome (D.file disk.old) (λ file. Refuses fault file.bytes)) }
     ensures untouched { IfErr result (λ fault. fault ≢ OpenFault.Device → D.file disk.new ≡ D.file disk.old) }

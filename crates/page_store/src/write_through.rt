@@ -1,10 +1,11 @@
 // The calls by which images reach the file, whole or not at all.
 ghost use Rattle.std.specs.Prelude.{◌≡◌, ◌≤◌, ◌<◌, [], IsTrue, length, IsOk, OnOk, IsErrOf, IsErr};
-ghost use Rattle.std.specs.Option.{ForSome};
+ghost use Rattle.std.specs.Option.{ForSome, option_map};
 ghost use Rattle.std.specs.List.{All};
 ghost use Rattle.mdc_words.specs.Faults.{CountsFault};
 ghost use Rattle.page_file.specs.Bound.{LeavesOf};
 ghost use Rattle.page_store.specs.Commit.{BothFiles, IsReadyFor, IsCounting, IsClosed, IsCommitted, IsJournaled, NoLonger, ReachesTo, StandsStill, StandsEither, HomeStays, RestsWith, pages_with};
+ghost use Rattle.page_store.specs.Opened.{brought_home, file_bytes};
 ghost use Rattle.page_store.specs.Standing.{IsFormed, Stands};
 ghost use Rattle.page_file.specs.declared.layout.TheConstants.{FIRST_PAGE};
 
@@ -93,6 +94,7 @@ pub(crate) fn bring_home<D: Disk>(disk: &mut D, images: &LentImages<'_>) -> Resu
     requires counts { ForSome (D.file disk.old) (IsCounting images.now) }
     requires formed { ForSome (D.file disk.old) (λ file. IsFormed file.bytes) }
     ensures closed { OnOk result (ForSome (D.file disk.new) IsClosed) }
+    ensures brought { OnOk result (file_bytes (D.file disk.new) ≡ option_map (brought_home images.now) (file_bytes (D.file disk.old))) }
     ensures leaves { LeavesOf D.Disk StandsStill disk.old disk.new }
     ensures reach { LeavesOf D.Disk NoLonger disk.old disk.new }
     ensures cause { CountsFault (IsErr result) (D.disk_faults disk.old) (D.disk_faults disk.new) }

@@ -22,7 +22,7 @@ use Rattle.key_codec.specs.Spans.{first_column, is_in_range, lies_in_span}
 use Rattle.entry_tree.specs.Entries.{AreOfWidth}
 use Rattle.block_index.proofs.PartRangesLemmas.{from_filter, in_filter}
 use Rattle.record_index.specs.FoundRids.{AreRidsUnder, FindsRids, IsRid, entry_of_rid, rid_in_entry}
-use Rattle.record_index.specs.SoundRows.{AreEnterable, FindsWantedRows}
+use Rattle.record_index.specs.SoundRows.{AreEnterable, FindsWantedRows, LiesWanted}
 use Rattle.record_index.specs.RecordIndexes.{HaveKeysIn}
 use Rattle.record_index.proofs.FoundRidsLemmas.{from_list, in_list, range_tells}
 use Rattle.record_index.proofs.KeysLemmas.{length-row_key}
@@ -100,25 +100,29 @@ module _ (def : TableDef) (rows : List PlacedRow) (pending : List ℕ) (which : 
   enters : (placed : PlacedRow) → Contains rows placed → IsRid placed.rid × HaveKeysIn def.columns which.parts placed.row.values
   enters placed there = each (λ placed. IsRid placed.rid × HaveKeysIn def.columns which.parts placed.row.values) rows placed enter there
 
+  -- an entry of a row's key names a row with that key, or its block is Pending
+  pub names_row : (values : List Value) (rid : Rid) → HaveKeysIn def.columns which.parts values → IsRid rid → IsEntryOf (entry_of_rid (key_bytes def.columns which.parts values) rid) (leaf_entries t)
+      → LiesWanted rows (λ placed. key_bytes def.columns which.parts placed.row.values ≡ key_bytes def.columns which.parts values) rid ⊎ Contains pending rid.block
+  names_row values rid keys is there = elim (whose (entry_of_rid (key_bytes def.columns which.parts values) rid) there) [
+    | inl row ↦
+        let r = from_map (entry_of_row def which) rows (entry_of_rid (key_bytes def.columns which.parts values) rid) row in
+        let key = key_bytes def.columns which.parts r.0.row.values in
+        let e = enters r.0 r.1 in
+        inl (record {
+          placed = r.0;
+          there = r.1;
+          at = sym (row_in_entry key r.0.rid e.0) ∙ (ap rid_in_entry r.2 ∙ row_in_entry (key_bytes def.columns which.parts values) rid is);
+          wanted = same_key key (key_bytes def.columns which.parts values) r.0.rid rid (length-row_key def.columns which.parts r.0.row.values are.there e.1 ∙ sym (length-row_key def.columns which.parts values are.there keys)) r.2;
+        })
+    | inr spare ↦ inr (subst (Contains pending) (block_named def which values rid are keys is) spare)
+  ]
+
   pub finds_under : (values : List Value) (rids : List Rid) → HaveKeysIn def.columns which.parts values → AreRidsUnder (key_bytes def.columns which.parts values) (leaf_entries t) rids
       → FindsWantedRows rows pending (λ placed. key_bytes def.columns which.parts placed.row.values ≡ key_bytes def.columns which.parts values) rids
   finds_under values rids keys found = record {
     all = λ placed there same.
         found.all placed.rid (enters placed there).0 (subst (λ key. IsEntryOf (entry_of_rid key placed.rid) (leaf_entries t)) same (has_row def rows pending which t placed sound there));
-    only = λ rid has. elim (whose (entry_of_rid (key_bytes def.columns which.parts values) rid) (found.only rid has)) [
-      | inl row ↦
-          let r = from_map (entry_of_row def which) rows (entry_of_rid (key_bytes def.columns which.parts values) rid) row in
-          let key = key_bytes def.columns which.parts r.0.row.values in
-          let e = enters r.0 r.1 in
-          inl (record {
-            placed = r.0;
-            there = r.1;
-            at = sym (row_in_entry key r.0.rid e.0) ∙ (ap rid_in_entry r.2 ∙ row_in_entry (key_bytes def.columns which.parts values) rid (found.places rid has));
-            wanted = same_key key (key_bytes def.columns which.parts values) r.0.rid rid
-                (length-row_key def.columns which.parts r.0.row.values are.there e.1 ∙ sym (length-row_key def.columns which.parts values are.there keys)) r.2;
-          })
-      | inr spare ↦ inr (subst (Contains pending) (block_named def which values rid are keys (found.places rid has)) spare)
-    ];
+    only = λ rid has. names_row values rid keys (found.places rid has) (found.only rid has);
   }
 
   pub finds_within : (span : Span) (rids : List Rid) (old new : ℕ) → 0 < length which.parts → AreOfWidth (width_of_parts def.columns which.parts + 6) (leaf_entries t) → FindsRids def.columns which.parts span (leaf_entries t) rids old new

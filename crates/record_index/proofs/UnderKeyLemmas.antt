@@ -19,7 +19,7 @@ use Rattle.entry_tree.specs.Reading.{IsFirstFrom, IsFirstOr, entries_from}
 use Rattle.entry_tree.proofs.EntryBoundsLemmas.{exact_entries}
 use Rattle.entry_tree.proofs.ReadingLemmas.{from_entries_from, in_entries_from, least_of}
 use Rattle.block_index.proofs.UnderKeyLemmas.{last_put}
-use Rattle.record_index.specs.FoundRids.{AreRidsUnder, FindsRidNumber, IsRid, entry_of_rid, rid_number, rid_of_number}
+use Rattle.record_index.specs.FoundRids.{AreRidsUnder, FindsRidNumber, FindsRidUnder, IsRid, entry_of_rid, rid_number, rid_of_number}
 use Rattle.record_index.proofs.PlacesLemmas.{is_rid, number_of_rid, number_small, place_bytes, printed_again, rid_of_place}
 use Rattle.record_index.proofs.RisingRidsLemmas.{behind_rids, from_map, in_map}
 
@@ -110,6 +110,25 @@ module _ (key : List ℕ) (from : ℕ) (all : List Entry) (bound : Entry) (found
       -- so no lower one is found
       pub finds_no_lower : rid_number < from → ⊥
       finds_no_lower low = omega (arith, low, from_reached)
+
+-- ---- the first place from one on
+
+-- an entry of a place is that of its number
+at_number : (key : List ℕ) (entries : List Entry) (rid : Rid) → IsRid rid → IsEntryOf (entry_of_rid key rid) entries → IsEntryOf (under key (rid_number rid)) entries
+at_number key entries rid is there = subst (λ x. IsEntryOf x entries) (entry_of_place key rid (omega (arith, is.slot))) there
+
+pub no_rid_from : (key : List ℕ) (entries : List Entry) (from : Rid) → FindsRidNumber key entries (rid_number from) None → FindsRidUnder key entries from None
+no_rid_from key entries from none other is there high = none (rid_number other) (number_small other is) (at_number key entries other is there) high
+
+pub first_rid_from : (key : List ℕ) (entries : List Entry) (from : Rid) (n : ℕ) → n < 2 ^ 48 → FindsRidNumber key entries (rid_number from) (Some n) → FindsRidUnder key entries from (Some (rid_of_number n))
+first_rid_from key entries from n small found =
+    let low : (rid_of_number n).slot < 65536 = omega arith in
+    record {
+      place = is_rid n small;
+      there = subst (λ x. IsEntryOf x entries) (sym (entry_of_place key (rid_of_number n) low ∙ ap (under key) (number_of_rid n))) found.there;
+      reached = omega (arith, found.reached, number_of_rid n);
+      first = λ other is there high. omega (arith, number_of_rid n, found.lowest (rid_number other) (number_small other is) (at_number key entries other is there) high);
+    }
 
 -- ---- a list of the places under a key
 

@@ -25,6 +25,10 @@ pub record IsRid (rid : Rid) : Type 0 where
   pub block : rid.block < 2 ^ 32
   pub slot : rid.slot < 2 ^ 16
 
+-- a place as one number: its block, and its slot in the lowest two bytes
+abbrev pub rid_number : Rid → ℕ
+rid_number rid = rid.block * 65536 + rid.slot
+
 -- ---- under one key
 
 -- these are the places that an index has under a key; as they rise, they stand in the order of their entries
@@ -32,6 +36,20 @@ pub record AreRidsUnder (key : List ℕ) (entries : List Entry) (rids : List Rid
   pub all : (rid : Rid) → IsRid rid → IsEntryOf (entry_of_rid key rid) entries → Contains rids rid
   pub only : (rid : Rid) → Contains rids rid → IsEntryOf (entry_of_rid key rid) entries
   pub places : (rid : Rid) → Contains rids rid → IsRid rid
+
+-- ---- under one key, from a place on
+
+-- the first place from one on that an index has under a key
+pub record IsFirstRidUnder (key : List ℕ) (entries : List Entry) (from rid : Rid) : Type 0 where
+  pub place : IsRid rid
+  pub there : IsEntryOf (entry_of_rid key rid) entries
+  pub reached : rid_number from ≤ rid_number rid
+  pub first : (other : Rid) → IsRid other → IsEntryOf (entry_of_rid key other) entries → rid_number from ≤ rid_number other → rid_number rid ≤ rid_number other
+
+-- the same, or that there is none
+abbrev pub FindsRidUnder : List ℕ → List Entry → Rid → Option Rid → Type 0
+FindsRidUnder key entries from None = (other : Rid) → IsRid other → IsEntryOf (entry_of_rid key other) entries → rid_number from ≤ rid_number other → ⊥
+FindsRidUnder key entries from (Some rid) = IsFirstRidUnder key entries from rid
 
 -- ---- within a span
 
@@ -52,10 +70,6 @@ pub record FindsRids (columns : List ColumnDef) (parts : List KeyPart) (span : S
   pub counted : new ≡ old + count_by (is_in_range low high) entries
 
 -- ---- midway
-
--- a place as one number: its block, and its slot in the lowest two bytes
-abbrev pub rid_number : Rid → ℕ
-rid_number rid = rid.block * 65536 + rid.slot
 
 -- the place of a number
 abbrev pub rid_of_number : ℕ → Rid

@@ -5,8 +5,9 @@
 //! change of space. Where the entry is there already, or isn't there, the root of the index is named by rule 11, and for nothing
 //! else where the extent map and the tree have their form.
 //!
-//! `rids_under` gives the places of the rows of one key, and `rids_in` those of the rows whose value in the first part lies in
-//! a span, with the number of their entries; an entry may be one of a row that is gone, whose block waits for its cleanup.
+//! `rids_under` gives the places of the rows of one key, `rid_under` the first of them from a place on, and `rids_in` those of the
+//! rows whose value in the first part lies in a span, with the number of their entries; an entry may be one of a row that is gone,
+//! whose block waits for its cleanup.
 //! `sweep_step` takes the entries of such blocks out of one leaf, and `first_bound` is where a sweep begins.
 //!
 //! It stands on `table_trees`, `block_index` and `key_codec`, on the steps of `mdc_words`, by which it counts the entries of a
@@ -28,4 +29,4 @@ pub use dropping::drop_row;
 pub use in_span::rids_in;
 pub use laws::{sound_indexes_find_rows, sound_indexes_have_rows};
 pub use sweeping::{first_bound, sweep_step};
-pub use under_key::rids_under;
+pub use under_key::{rid_under, rids_under};

@@ -7,18 +7,19 @@ ghost use Rattle.store_api.specs.Frame.{NoPage};
 ghost use Rattle.store_api.specs.RunsOverPages.{RunsOverPages};
 ghost use Rattle.entry_tree.specs.Forest.{Forest, leaf_entries};
 ghost use Rattle.entry_tree.specs.HeldTrees.{BreaksTree, HoldsTree, IsTreePage};
+ghost use Rattle.table_trees.specs.TableTrees.{place_of_tree};
 ghost use Rattle.table_trees.specs.TreesBeside.{BreaksTreeAt, HoldsTreeAt, IsTreePageAt};
-ghost use Rattle.record_index.specs.FoundRids.{AreRidsUnder, FindsRidNumber, rid_of_number};
+ghost use Rattle.record_index.specs.FoundRids.{AreRidsUnder, FindsRidNumber, FindsRidUnder, rid_number, rid_of_number};
 ghost use Rattle.record_index.specs.RecordIndexes.{HasRecordIndexes, HaveKeysIn, key_in_record_index, parts_of_record_index, place_of_record_index};
 
 use crate::entries::entry_of_number;
 use crate::keys::row_key;
-use crate::places::rid_of_number;
+use crate::places::{rid_number, rid_of_number};
 use block_index::out_of_order;
 use byteorder::{BigEndian, ByteOrder};
-use entry_tree::Tree;
+use entry_tree::{Entry, Tree};
 use mdc_ast::TableDef;
-use mdc_values::{List, Rids, Value};
+use mdc_values::{List, Rid, Rids, Value};
 use std::alloc::Global;
 use store_api::{Pages, StoreFault};
 use table_trees::record_tree;
@@ -45,10 +46,67 @@ pub fn rids_under<P: Pages>(
     ensures same { (P.state pages.new).work ≡ (P.state pages.old).work }
     ensures runs { RunsOverPages P.Pages NoPage (IsTreePageAt P.Pages pages.old (place_of_record_index def.now index)) (BreaksTreeAt P.Pages pages.old (place_of_record_index def.now index)) pages.old pages.new (fault_of result) }
 {
+    let (tree, key) = tree_and_key(alloc, def, index, values);
+    rids_under_key(alloc, &tree, pages, key.bytes())
+}
+
+/// The first place from one on that a record index has under the key of these values, by rising block, and in a block by rising
+/// slot. None where there is none. As with `rids_under`, a place may be one of a row that is gone, no page changes, pages of that
+/// index alone come to hand, and damage names its root by rule 4.
+pub fn rid_under<P: Pages>(
+    alloc: Global,
+    def: &TableDef,
+    index: u8,
+    pages: &mut P,
+    values: &List<Value>,
+    from: Rid,
+) -> Result<Option<Rid>, StoreFault>
+    requires indexes { HasRecordIndexes def.now }
+    requires there { index < length def.now.indexes }
+    requires values { HaveKeysIn def.now.columns (parts_of_record_index def.now index) values.now }
+    requires going { (P.state pages.old).ended ≡ false }
+    ensures found { IfOk result (λ rid. (t : Forest) → HoldsTreeAt P.Pages pages.old (place_of_record_index def.now index) t
+        → FindsRidUnder (key_in_record_index def.now index values.now) (leaf_entries t) from rid) }
+    ensures reached { IfOk result (λ rid. IfSome rid (λ rid. rid_number from ≤ rid_number rid)) }
+    ensures same { (P.state pages.new).work ≡ (P.state pages.old).work }
+    ensures runs { RunsOverPages P.Pages NoPage (IsTreePageAt P.Pages pages.old (place_of_record_index def.now index)) (BreaksTreeAt P.Pages pages.old (place_of_record_index def.now index)) pages.old pages.new (fault_of result) }
+{
+    let (tree, key) = tree_and_key(alloc, def, index, values);
+    first_rid_under(&tree, pages, key.bytes(), from)
+}
+
+/// The tree of a record index, and the key of these values in it.
+fn tree_and_key(alloc: Global, def: &TableDef, index: u8, values: &List<Value>) -> (Tree, Entry)
+    requires indexes { HasRecordIndexes def.now }
+    requires there { index < length def.now.indexes }
+    requires values { HaveKeysIn def.now.columns (parts_of_record_index def.now index) values.now }
+    ensures tree { place_of_tree result.0 ≡ place_of_record_index def.now index }
+    ensures key { result.1 ≡ key_in_record_index def.now index values.now }
+    ensures width { length result.1 + 6 ≡ result.0.width }
+{
     let index = usize::from(index);
     let key = row_key(&def.columns, &def.indexes.at(index).parts, values);
-    let tree = record_tree(alloc, def, index);
-    rids_under_key(alloc, &tree, pages, key.bytes())
+    (record_tree(alloc, def, index), key)
+}
+
+/// The first place from one on that an index has under a key.
+fn first_rid_under<P: Pages>(
+    tree: &Tree,
+    pages: &mut P,
+    key: &[u8],
+    from: Rid,
+) -> Result<Option<Rid>, StoreFault>
+    requires width { length key.now + 6 ≡ tree.now.width }
+    requires going { (P.state pages.old).ended ≡ false }
+    ensures found { IfOk result (λ rid. (t : Forest) → HoldsTree P.Pages pages.old tree.now t → FindsRidUnder key.now (leaf_entries t) from rid) }
+    ensures reached { IfOk result (λ rid. IfSome rid (λ rid. rid_number from ≤ rid_number rid)) }
+    ensures same { (P.state pages.new).work ≡ (P.state pages.old).work }
+    ensures runs { RunsOverPages P.Pages NoPage (IsTreePage P.Pages pages.old tree.now) (BreaksTree P.Pages pages.old tree.now) pages.old pages.new (fault_of result) }
+{
+    match next_rid(tree, pages, key, rid_number(from))? {
+        Some(found) => Ok(Some(rid_of_number(found))),
+        None => Ok(None),
+    }
 }
 
 /// The places of the rows that an index has under a key.

@@ -11,7 +11,7 @@ mod tables;
 
 pub use calls::{add, same_as, sweep, take};
 pub use scenario::{Answers, between, filled, place, play};
-pub use tables::{indexed_table, row_of};
+pub use tables::{indexed_table, may_enter, row_of};
 
 #[cfg(test)]
 mod tests;

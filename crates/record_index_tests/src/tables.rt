@@ -103,7 +103,7 @@ fn values_of(alloc: Global, a: Value, b: &[u8], c: Value, d: Value) -> Result<Li
 }
 
 /// Whether a row may be entered in that record index.
-pub(crate) fn may_enter(def: &TableDef, index: u8, row: &Row) -> bool
+pub fn may_enter(def: &TableDef, index: u8, row: &Row) -> bool
     requires { HasRecordIndexes def.now }
     ensures there { IsTrue result → index < length def.now.indexes }
     ensures keys { IsTrue result → HaveKeysIn def.now.columns (parts_of_record_index def.now index) row.now.values }

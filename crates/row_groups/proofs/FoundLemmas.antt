@@ -2,12 +2,15 @@
 use Rattle.std.proofs.Common.{◌≡◌, ℕ, ◌<◌, List, [], ◌∷◌, ◌++◌, map, filter, Bool, true, false, cond, ◌==◌, ◌⊎◌, inl, inr, Option, Some, None, refl, sym, ap, ◌∙◌, subst, arith}
 use Rattle.std.specs.Prelude.{IsTrue}
 use Rattle.std.specs.List.{AllByRecursion, IsDistinct}
+use Rattle.std.specs.List.Sorted.{IsPermutation}
 use Rattle.std.specs.Map.{keys_of, lookup}
 use Rattle.std.specs.Map as entries
 use Rattle.std.specs.Str.{bytes_eq}
 use Rattle.std.specs.Cmp.Lexicographic.{bytes_decides}
 use Rattle.std.proofs.lemmas.Bool.Decides.{nat_tests}
-use Rattle.std.proofs.lemmas.Cmp.{nat_list_eq_equiv}
+use Rattle.std.proofs.lemmas.Cmp.{nat_eq_equiv, nat_list_eq_equiv}
+use Rattle.std.proofs.lemmas.List.Sorted.{IsPermutation-map, IsPermutation-sym}
+use Rattle.std.proofs.lemmas.Map.Keys.{IsDistinct-IsPermutation}
 use Rattle.mdc_ast.specs.declared.row.Row.{Row}
 use Rattle.row_groups.specs.Adding.{Numbered, is_numbered_lower, joined, line_of_row, lines_in}
 use Rattle.row_groups.specs.Firsts.{firsts, group_of}
@@ -20,7 +23,7 @@ use Rattle.row_groups.specs.Shape.{Shape}
 use Rattle.row_groups.proofs.AddingLemmas.{group_joined, no_higher}
 use Rattle.row_groups.proofs.GroupLemmas.{all_first, filter_same, first_in, firsts_rise, firsts_shown, from_firsts, group_shown, passes_first, to_firsts}
 use Rattle.row_groups.proofs.KeyLemmas.{grouped-refl, keys_same}
-use Rattle.row_groups.proofs.NumberLemmas.{IsIn, RisesStrictly, all_in, all_ordered, from_map, filter_placed, from_ordered, in_map, ordered_more, rises_ordered, strictly_ordered, strictly_same, to_ordered}
+use Rattle.row_groups.proofs.NumberLemmas.{IsIn, RisesStrictly, all_in, all_ordered, from_map, filter_placed, from_ordered, in_map, in_permuted, ordered_more, rises_ordered, strictly_ordered, strictly_same, to_ordered}
 
 abbrev pub number_of : Row → ℕ
 number_of row = row.number
@@ -187,10 +190,10 @@ module _ (shape : Shape) where
           inside : {a b : Numbered} → Some a ≡ Some b → b ≡ a
           inside r = cc
 
-  -- the lines that are found, by rising number
-  pub found_lines : (rows : List Row) (entries' : List (List ℕ × Numbered)) → AreFound shape rows entries' → IsDistinct bytes_eq (keys_of entries') → DifferInNumber rows
-      → lines_in (ordered is_numbered_lower (entries.values_of entries')) ≡ group_lines shape (values_of (by_number rows))
-  found_lines rows entries' are differ numbers = ap lines_in same ∙ lines_are sorted
+  -- the lines that are found, in whatever order, by rising number
+  pub found_lines : (rows : List Row) (entries' : List (List ℕ × Numbered)) (lines : List Numbered) → AreFound shape rows entries' → IsDistinct bytes_eq (keys_of entries') → DifferInNumber rows → IsPermutation (entries.values_of entries') lines
+      → lines_in (ordered is_numbered_lower lines) ≡ group_lines shape (values_of (by_number rows))
+  found_lines rows entries' lines are differ numbers permuted = ap lines_in same ∙ lines_are sorted
     where
       sorted : List Row
       sorted = by_number rows
@@ -230,10 +233,19 @@ module _ (shape : Shape) where
           line_as : Row → List Row → Numbered
           line_as first rs = record { number = first.number; line = line_of shape first.values (values_of rs) }
 
-      same : ordered is_numbered_lower (entries.values_of entries') ≡ lines_from sorted
+      lines_differ : IsDistinct (λ a b. a == b) (map (λ (one : Numbered). one.number) lines)
+      lines_differ =
+          IsDistinct-IsPermutation (λ a b. a == b) nat_eq_equiv.symm (map (λ (one : Numbered). one.number) (entries.values_of entries')) (map (λ (one : Numbered). one.number) lines)
+          (IsPermutation-map (λ (one : Numbered). one.number) (entries.values_of entries') lines permuted) (numbers_differ (key_at sorted) entries' differ (told entries' all))
+
+      same : ordered is_numbered_lower lines ≡ lines_from sorted
       same =
-          strictly_same (λ (one : Numbered). one.number) (ordered is_numbered_lower (entries.values_of entries')) (lines_from sorted)
-          (strictly_ordered (λ (one : Numbered). one.number) (entries.values_of entries') (numbers_differ (key_at sorted) entries' differ (told entries' all)))
+          strictly_same (λ (one : Numbered). one.number) (ordered is_numbered_lower lines) (lines_from sorted) (strictly_ordered (λ (one : Numbered). one.number) lines lines_differ)
           (rise_alike sorted (firsts grouped sorted) (firsts_rise grouped grouped_itself number_of [] sorted up))
-          (λ one i. all_values (λ one. IsIn one (lines_from sorted)) entries' (into entries' all) one (from_ordered (λ (one : Numbered). one.number) one (entries.values_of entries') i))
-          (λ one i. to_ordered (λ (one : Numbered). one.number) one (entries.values_of entries') (let made = from_map (line_from sorted) one (firsts grouped sorted) i in subst (λ one. IsIn one (entries.values_of entries')) (sym made.2) (back made.0 made.1)))
+          (λ one i.
+          all_values (λ one. IsIn one (lines_from sorted)) entries' (into entries' all) one
+          (in_permuted lines (entries.values_of entries') (IsPermutation-sym (entries.values_of entries') lines permuted) one (from_ordered (λ (one : Numbered). one.number) one lines i)))
+          (λ one i.
+          to_ordered (λ (one : Numbered). one.number) one lines
+          (in_permuted (entries.values_of entries') lines permuted one
+          (let made = from_map (line_from sorted) one (firsts grouped sorted) i in subst (λ one. IsIn one (entries.values_of entries')) (sym made.2) (back made.0 made.1))))

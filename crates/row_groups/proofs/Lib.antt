@@ -10,5 +10,6 @@ pub mod NamingLemmas
 pub mod NumberLemmas
 pub mod OneOrderLemmas
 pub mod OrderLemmas
+pub mod PlaceLemmas
 pub mod ShownLemmas
 pub mod SumLemmas

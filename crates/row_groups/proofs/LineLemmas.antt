@@ -2,12 +2,10 @@
 use Rattle.std.proofs.Common.{◌≡◌, ℕ, ◌≤◌, List, [], ◌∷◌, ◌++◌, map, length, get_or, take, ◌+◌, ◌<◌, Result, Bool, true, false, cond, refl, sym, ap, ◌∙◌, subst, arith}
 use Rattle.std.specs.Prelude.{IsTrue, MatchResult, slice_set}
 use Rattle.std.specs.Cmp.{IsStrictWeakOrder}
-use Rattle.std.specs.List.{IsDistinct}
 use Rattle.std.specs.Map as entries
-use Rattle.std.specs.Map.{keys_of}
 use Rattle.std.specs.Str.{bytes_eq}
 use Rattle.std.proofs.lemmas.List.{length-map, map-append, take_more}
-use Rattle.std.proofs.lemmas.List.Sorted.{IsStrictWeakOrder-by_number}
+use Rattle.std.proofs.lemmas.List.Sorted.{IsStrictWeakOrder-by_number, length_permutation}
 use Rattle.mdc_values.specs.declared.value.Value.{Value}
 use Rattle.mdc_ast.specs.declared.row.Row.{Row}
 use Rattle.row_groups.specs.declared.grouping.Grouping.{Grouping}
@@ -16,9 +14,9 @@ use Rattle.row_groups.specs.declared.line.Line.{Line}
 use Rattle.row_groups.specs.Adding.{Numbered, is_numbered_lower, line_of_row, lines_in, with_rows}
 use Rattle.row_groups.specs.Answers.{AnswersLines, AreWide, cut, outgrown_sums}
 use Rattle.row_groups.specs.Firsts.{firsts, group_of}
-use Rattle.row_groups.specs.Gathering.{AreFound, AreGathered, AreGroupsOf, GroupsSoFar}
+use Rattle.row_groups.specs.Gathering.{AreAllLines, AreFound, AreGathered, AreGroupsOf, GroupsSoFar}
 use Rattle.row_groups.specs.Lines.{are_grouped, are_shared, grouping_of, line_of, lines_by, made_lines}
-use Rattle.row_groups.specs.Naming.{AgreeInNamed, AreAlike}
+use Rattle.row_groups.specs.Naming.{AreAlike}
 use Rattle.row_groups.specs.Numbers.{DifferInNumber, by_number, is_lower, values_of}
 use Rattle.row_groups.specs.Ordering.{IsOrdered, ordered, placed}
 use Rattle.row_groups.specs.Shape.{Shape}
@@ -144,21 +142,25 @@ ordered_one line (one ∷ []) e = e
 ordered_one line (one ∷ other ∷ rest) e = cc
 
 -- all lines by rising number are those that the query makes
-pub all_made : (shape : Shape) (rows : List Row) (groups : GroupsSoFar) → AreGroupsOf shape rows groups → DifferInNumber rows → IsDistinct bytes_eq (keys_of groups.found)
-    → lines_in (ordered is_numbered_lower (groups.lines ++ entries.values_of groups.found)) ≡ made_lines shape (values_of (by_number rows))
-all_made shape rows groups are numbers differ = at (grouping_of shape.outs shape.group) are.gathered
+pub all_made : (shape : Shape) (rows : List Row) (groups : GroupsSoFar) (all : List Numbered) → AreGroupsOf shape rows groups → DifferInNumber rows → AreAllLines groups.lines groups.found all → lines_in all ≡ made_lines shape (values_of (by_number rows))
+all_made shape rows groups all are numbers lines = ap lines_in lines.same ∙ at (grouping_of shape.outs shape.group) are.gathered
   where
     nothing : (xs : List Numbered) → xs ++ [] ≡ xs
     nothing [] = refl
     nothing (x ∷ xs) = ap (λ r. x ∷ r) (nothing xs)
 
-    alone : groups.found ≡ [] → groups.lines ++ entries.values_of groups.found ≡ groups.lines
-    alone none = ap (λ (es : List (List ℕ × Numbered)). groups.lines ++ entries.values_of es) none ∙ nothing groups.lines
+    no_others : (others : List Numbered) → length others ≡ 0 → others ≡ []
+    no_others [] e = refl
+    no_others (x ∷ xs) e = cc
 
-    at : (grouping : Grouping) → AreGathered grouping shape rows groups.found groups.lines → lines_in (ordered is_numbered_lower (groups.lines ++ entries.values_of groups.found)) ≡ lines_by grouping shape (values_of (by_number rows))
+    alone : groups.found ≡ [] → groups.lines ++ lines.others ≡ groups.lines
+    alone none =
+        ap (λ ls. groups.lines ++ ls) (no_others lines.others (length_permutation (entries.values_of groups.found) lines.others lines.permuted ∙ ap (λ (es : List (List ℕ × Numbered)). length (entries.values_of es)) none)) ∙ nothing groups.lines
+
+    at : (grouping : Grouping) → AreGathered grouping shape rows groups.found groups.lines → lines_in (ordered is_numbered_lower (groups.lines ++ lines.others)) ≡ lines_by grouping shape (values_of (by_number rows))
     at EachRow both = ap (λ ls. lines_in (ordered is_numbered_lower ls)) (alone both.0 ∙ both.1) ∙ ordered_rows shape rows
     at AllRows both = ap (λ ls. lines_in (ordered is_numbered_lower ls)) (alone both.0) ∙ ordered_one (line_of shape [] (values_of (by_number rows))) groups.lines both.1
-    at ByValues both = ap (λ ls. lines_in (ordered is_numbered_lower (ls ++ entries.values_of groups.found))) both.0 ∙ found_lines shape rows groups.found both.1 differ numbers
+    at ByValues both = ap (λ ls. lines_in (ordered is_numbered_lower (ls ++ lines.others))) both.0 ∙ found_lines shape rows groups.found lines.others both.1 lines.differ numbers lines.permuted
 
 -- ---- each line has a place for each entry of the list
 
@@ -182,11 +184,11 @@ answered shape lines closed sorted answer both sorts cuts =
 
 -- what is answered of the lines so far is the answer to the query
 pub answers_rows : {E : Type 0} (shape : Shape) (rows : List Row) (groups : GroupsSoFar) (all : List Numbered) (result : Result (List Line) E) (Q : List ℕ → E → Type 0) → AreGroupsOf shape rows groups → DifferInNumber rows
-    → IsDistinct bytes_eq (keys_of groups.found) → all ≡ ordered is_numbered_lower (groups.lines ++ entries.values_of groups.found)
+    → AreAllLines groups.lines groups.found all
     → (AreWide groups.shape.outs (lines_in all) → MatchResult result (AnswersLines groups.shape (lines_in all)) (Q (outgrown_sums groups.shape.outs (lines_in all))))
     → MatchResult result (AnswersLines shape (made_lines shape (values_of (by_number rows)))) (Q (outgrown_sums shape.outs (made_lines shape (values_of (by_number rows)))))
-answers_rows shape rows groups all result Q are numbers differ is told =
-    let made : lines_in all ≡ made_lines shape (values_of (by_number rows)) = ap lines_in is ∙ all_made shape rows groups are numbers differ in
+answers_rows shape rows groups all result Q are numbers lines told =
+    let made : lines_in all ≡ made_lines shape (values_of (by_number rows)) = all_made shape rows groups all are numbers lines in
     let wide : AreWide groups.shape.outs (lines_in all) = subst (λ (s : Shape). AreWide s.outs (lines_in all)) (sym are.shape_is) (subst (AreWide shape.outs) (sym made) (made_wide shape (values_of (by_number rows)))) in
     subst (λ (s : Shape). MatchResult result (AnswersLines s (made_lines shape (values_of (by_number rows)))) (Q (outgrown_sums s.outs (made_lines shape (values_of (by_number rows)))))) are.shape_is
     (subst (λ ls. MatchResult result (AnswersLines groups.shape ls) (Q (outgrown_sums groups.shape.outs ls))) made (told wide))
@@ -214,13 +216,10 @@ rows_more rows i row values within at is =
 
 -- ---- which rows share a line
 
-pub each_apart : (shape : Shape) → are_shared (grouping_of shape.outs shape.group) ≡ false → grouping_of shape.outs shape.group ≡ EachRow
-each_apart shape e = at (grouping_of shape.outs shape.group) e
-  where
-    at : (grouping : Grouping) → are_shared grouping ≡ false → grouping ≡ EachRow
-    at EachRow e = refl
-    at AllRows e = cc
-    at ByValues e = cc
+pub shared_else : (grouping : Grouping) → (grouping ≡ EachRow → ⊥) → IsTrue (are_shared grouping)
+shared_else EachRow other = absurd (other refl)
+shared_else AllRows other = refl
+shared_else ByValues other = refl
 
 pub by_values_else : (grouping : Grouping) → IsTrue (are_shared grouping) → (grouping ≡ AllRows → ⊥) → grouping ≡ ByValues
 by_values_else EachRow shared other = cc

@@ -2,7 +2,10 @@
 use Rattle.std.proofs.Common.{◌≡◌, ℕ, ◌<◌, ◌≤◌, List, [], ◌∷◌, ◌++◌, map, filter, Bool, true, false, not, cond, ◌==◌, ◌⊎◌, inl, inr, refl, sym, ap, ◌∙◌, subst, arith}
 use Rattle.std.specs.Prelude.{nat_lt}
 use Rattle.std.specs.List.{AllByRecursion, IsDistinct}
+use Rattle.std.specs.List.Sorted.{IsPermutation}
 use Rattle.std.proofs.lemmas.Bool.Decides.{nat_tests}
+use Rattle.std.proofs.lemmas.List.Elements.{All-from_recursion, recursion_from_All}
+use Rattle.std.proofs.lemmas.List.Sorted.{All-permutation, IsPermutation-sym}
 use Rattle.row_groups.specs.Ordering.{ordered, placed}
 
 -- an element of a list
@@ -22,6 +25,19 @@ from_map f y (x ∷ xs) i = elim i [ inl e ↦ (x, inl refl, e) | inr j ↦ (let
 pub all_in : {X : Type 0} (P : X → Type 0) (x : X) (xs : List X) → AllByRecursion P xs → IsIn x xs → P x
 all_in P x [] all i = absurd i
 all_in P x (y ∷ ys) all i = elim i [ inl e ↦ subst P (sym e) all.0 | inr j ↦ all_in P x ys all.1 j ]
+
+-- what is in a list is in it in any order
+pub in_permuted : {X : Type 0} (xs ys : List X) → IsPermutation xs ys → (x : X) → IsIn x xs → IsIn x ys
+in_permuted {X} xs ys permuted x i =
+    all_in (λ y. IsIn y ys) x xs (recursion_from_All (λ y. IsIn y ys) xs (All-permutation (λ y. IsIn y ys) ys xs (IsPermutation-sym xs ys permuted) (All-from_recursion (λ y. IsIn y ys) ys (all_itself ys)))) i
+  where
+    all_itself : (zs : List X) → AllByRecursion (λ z. IsIn z zs) zs
+    all_itself [] = tt
+    all_itself (z ∷ zs) = (inl refl, later zs (all_itself zs))
+      where
+        later : (ws : List X) → AllByRecursion (λ w. IsIn w zs) ws → AllByRecursion (λ w. (w ≡ z) ⊎ IsIn w zs) ws
+        later [] all = tt
+        later (w ∷ ws) all = (inr all.0, later ws all.1)
 
 module _ {X : Type 0} (number : X → ℕ) where
   abbrev lower : X → X → Bool

@@ -10,36 +10,36 @@ ghost use Rattle.row_groups.specs.Shape.{Shape, shape_of};
 
 use crate::closing::answer_of;
 use crate::fault::GroupFault;
-use crate::grouping::{Grouping, grouping_of, shares_lines};
-use crate::joining::{add_line, add_to_group, add_to_whole, all_lines, lines_of_none};
+use crate::grouping::{Grouping, grouping_of};
+use crate::joining::{add_line, add_to_whole, all_lines, lines_of_none};
+use crate::keyed_lines::KeyedLines;
 use crate::line::Line;
 use crate::line_so_far::LineSoFar;
 use mdc_ast::BoundSelect;
 use mdc_values::{List, Memory, Value};
 use std::alloc::Global;
-use std::collections::BTreeMap;
 use std::marker::Model;
 
-/// What a query makes of the rows that it was given so far: a line for each group, and no row. With GROUP BY the lines are found
-/// by keys in an ordered map, which takes a step for each doubling of the groups, whatever the values are.
+/// What a query makes of the rows that it was given so far: a line for each group, and no row. With GROUP BY the line of the row
+/// before is at hand, and others are found by keys in an ordered map, which takes a step for each doubling of the groups, whatever
+/// the values are.
 #[derive(Drop)]
 pub struct Groups<'q> {
     select: &'q BoundSelect,
-    /// The key of the row at hand.
-    key: Vec<u8>,
-    found: BTreeMap<Vec<u8>, LineSoFar>,
+    grouping: Grouping,
+    found: KeyedLines,
     lines: Vec<LineSoFar>,
 }
 
 impl<'q> Model for Groups<'q> {
-    ghost use Rattle.row_groups.specs.Gathering.{GroupsSoFar, IsAtHand, entries_of};
+    ghost use Rattle.row_groups.specs.Gathering.{GroupsSoFar, IsGrouped};
     ghost use Rattle.row_groups.specs.Shape.{shape_of};
 
     ghost Value = { GroupsSoFar };
 
-    ghost view = { λ groups. record { shape = shape_of groups.select.now; found = entries_of groups.found; lines = groups.lines.items } };
+    ghost view = { λ groups. record { shape = shape_of groups.select.now; found = groups.found; lines = groups.lines.items } };
 
-    ghost invariant = { λ groups. IsAtHand (shape_of groups.select.now) groups.lines.items };
+    ghost invariant = { λ groups. IsGrouped groups.grouping (shape_of groups.select.now) groups.lines.items };
 }
 
 impl<'q> Groups<'q> {
@@ -51,8 +51,8 @@ impl<'q> Groups<'q> {
         let lines = lines_of_none(alloc, select)?;
         Ok(Groups {
             select,
-            key: Vec::new(alloc),
-            found: BTreeMap::new(alloc),
+            grouping: grouping_of(select),
+            found: KeyedLines::new(alloc),
             lines,
         })
     }
@@ -62,7 +62,7 @@ impl<'q> Groups<'q> {
         ensures shape { self.new.shape ≡ self.old.shape }
         ensures groups { (shape : Shape) → (rows : List Row) → AreGroupsOf shape rows self.old → OnOk result (AreGroupsOf shape (rows ++ record { number = number; values = values.now } ∷ []) self.new) }
     {
-        if !shares_lines(self.select) {
+        if let Grouping::EachRow = self.grouping {
             return add_line(alloc, self.select, number, values, &mut self.lines);
         }
         self.add_alike(alloc, number, 1, values)
@@ -81,18 +81,10 @@ impl<'q> Groups<'q> {
         ensures shape { self.new.shape ≡ self.old.shape }
         ensures groups { (shape : Shape) → (rows more : List Row) → (row : Row) → AreGroupsOf shape rows self.old → AreAlike shape lowest count values.now row more → OnOk result (AreGroupsOf shape (rows ++ row ∷ more) self.new) }
     {
-        if let Grouping::AllRows = grouping_of(self.select) {
+        if let Grouping::AllRows = self.grouping {
             return add_to_whole(alloc, self.select, count, values, &mut self.lines);
         }
-        add_to_group(
-            alloc,
-            self.select,
-            lowest,
-            count,
-            values,
-            &mut self.key,
-            &mut self.found,
-        )
+        self.found.add(alloc, self.select, lowest, count, values)
     }
 
     /// The lines of all rows by rising number, in order and cut; or the first sum outside BIGINT.

@@ -1,5 +1,5 @@
 // What a place of a line has counted so far.
-ghost use Rattle.std.specs.Prelude.{◌≡◌, ◌+◌, [], IfOk, OnOk, MatchResult};
+ghost use Rattle.std.specs.Prelude.{◌≡◌, ◌+◌, ◌*ℤ◌, [], pos, IfOk, OnOk, MatchResult};
 ghost use Rattle.row_groups.specs.Adding.{begun, many_added, plus_many, seen};
 ghost use Rattle.row_groups.specs.Answers.{IsOutgrown, outgrown};
 ghost use Rattle.row_groups.specs.Lines.{shown_of};
@@ -119,11 +119,19 @@ fn plus(total: Option<i128>, count: u64, value: &Value) -> Result<i128, Memory>
         Value::Int(number) => i128::from(*number),
         _ => 0,
     };
-    let Some(part) = number.checked_mul(i128::from(count)) else {
-        return Err(Memory);
-    };
+    let part = times(number, count)?;
     match total {
         None => Ok(part),
         Some(total) => total.checked_add(part).ok_or(Memory),
     }
+}
+
+/// So many times a number. A row by itself is once, where 128 bits needn't be multiplied.
+fn times(number: i128, count: u64) -> Result<i128, Memory>
+    ensures { IfOk result (λ part. part ≡ number *ℤ pos count) }
+{
+    if count == 1 {
+        return Ok(number);
+    }
+    number.checked_mul(i128::from(count)).ok_or(Memory)
 }

@@ -250,6 +250,24 @@ fn groups_stand_in_the_order_of_their_first_rows(rt: HostRuntime) -> Result<(), 
 }
 
 #[test]
+fn groups_are_left_and_come_back(rt: HostRuntime) -> Result<(), Fail> {
+    let rows: [&[Cell]; 10] = [
+        &[Text(b"A"), Number(1)],
+        &[Text(b"A  "), Number(2)],
+        &[Text(b"AB"), Number(4)],
+        &[Text(b"AB"), Number(8)],
+        &[Text(b"A"), Number(16)],
+        &[Null, Number(32)],
+        &[Null, Number(64)],
+        &[Text(b""), Number(128)],
+        &[Text(b" "), Number(256)],
+        &[Text(b"A"), Number(512)],
+    ];
+    let wanted = "'A'|4|sum 531|/'AB'|2|sum 12|/NULL|2|sum 96|/''|2|sum 384|/";
+    answers(&rt, rt.alloc(), &BY_FIRST, &rows, wanted)
+}
+
+#[test]
 fn a_number_is_no_day(rt: HostRuntime) -> Result<(), Fail> {
     let rows: [&[Cell]; 3] = [
         &[Number(20_030_131), Number(1)],

@@ -21,12 +21,14 @@ use Rattle.table_page.proofs.LimitsLemmas.{short_columns, short_name}
 use Rattle.table_page.proofs.PartsLemmas.{and_left, and_right}
 use Rattle.table_page.proofs.TablePageLemmas.{no_blank_table, one_definition}
 use Rattle.table_trees.specs.ToldPages.{PageList}
+use Rattle.mdc_sound.specs.Breaks.{BreaksRule}
 use Rattle.mdc_sound.specs.SoundDatabase.{KeepAllRules}
 use Rattle.mdc_sound.specs.SpaceRules.{DatabaseView, IsTablePlaceSound, tables_there}
 use Rattle.mdc_sound.specs.StandingTable.{pages_of}
 use Rattle.mdc_sound.specs.TablePages.{table_page_at}
 use Rattle.mdc_sound.specs.TableViews.{TableView}
 use Rattle.mdc_sound.proofs.SpaceRulesLemmas.{range_at, range_length, same_table}
+use Rattle.file_check.proofs.SoundUnbrokenLemmas.{sound_unbroken}
 use Rattle.stored_catalog.specs.StoredDefinitions.{AreStored, AreWithinLimits, BreaksTablePage, BreaksTablePages, IsNameTwice, IsStoredPlace, IsWithinLimits}
 use Rattle.stored_catalog.proofs.AddingLemmas.{place_there}
 use Rattle.stored_catalog.proofs.DroppingLemmas.{defined_within}
@@ -121,10 +123,17 @@ module _ {S : Type 0} (g : Ghosts S) (s : S) (shape : Shape) (view : DatabaseVie
       let pages = pages_of g s in
       let names = twice.twice (page_at pages (1 + t)) (page_at pages (1 + twice.later)) (record { is_told = told; within = page_within t low; bytes_are = refl })
       (record { is_told = told; within = page_within twice.later twice.within; bytes_are = refl }) in
-      let first = defined_there shape pages view t names.def keeps low names.is_first in
-      let second = defined_there shape pages view twice.later names.other keeps twice.within names.is_second in
-      pair_there (λ a b. a.name ≢ b.name) view.places t twice.later first.table second.table twice.behind first.there second.there keeps.first.rule3.tables_differ
-      (ap (λ (def : TableDef). def.name) first.same ∙ (names.same ∙ ap (λ (def : TableDef). def.name) (sym second.same)))
+      elim names.same [
+        | inl same ↦
+            let first = defined_there shape pages view t names.def keeps low names.is_first in
+            let second = defined_there shape pages view twice.later names.other keeps twice.within names.is_second in
+            pair_there (λ a b. a.name ≢ b.name) view.places t twice.later first.table second.table twice.behind first.there second.there keeps.first.rule3.tables_differ
+            (ap (λ (def : TableDef). def.name) first.same ∙ (same ∙ ap (λ (def : TableDef). def.name) (sym second.same)))
+        | inr shared ↦
+            sound_unbroken shape pages (view, keeps) 3 (1 + t)
+            (BreaksRule.index_name t twice.later shared.index shared.other twice.behind (record { within = low; def = names.def; defines = names.is_first; is_its = shared.in_first })
+            (record { within = twice.within; def = names.other; defines = names.is_second; is_its = shared.in_second }) shared.same)
+      ]
 
   pub no_broken_pages : (damage : Damage) → BreaksTablePages g s damage → ⊥
   no_broken_pages damage (t, low, inl broken) = let found = sound_at t low in unbroken_place t damage found.0 found.1 broken

@@ -56,7 +56,6 @@ use Rattle.script_engine.proofs.BetweenChangesLemmas.{ready_table}
 use Rattle.script_engine.proofs.OtherRoomsLemmas.{ready_beside}
 use Rattle.script_engine.proofs.OthersLemmas.{elsewhere, others_created, others_removed, there_below}
 use Rattle.script_engine.proofs.PuttingTuplesLemmas.{of_that}
-use Rattle.script_engine.proofs.ReadyTablesLemmas.{served_def}
 use Rattle.script_engine.proofs.ServedDefsLemmas.{def_at_set, served_below}
 use Rattle.script_engine.proofs.StoredDefsLemmas.{stored_defs, without_roots}
 
@@ -242,14 +241,6 @@ pub no_dropping_damage : {S : Type 0} (g : Ghosts S) (s : S) (tables : Tables) (
 no_dropping_damage g s tables place damage served breaks ready =
     let stands = table_stands g s tables ready place breaks.0 (served_below tables.catalog place breaks.0 served breaks.1) breaks.1 in
     breaks.2.broken ready.view.owners stands.0 stands.1
-
--- no served definition has record indexes
-pub no_indexes_at : (defs : Definitions) (place : ℕ) → AreServed defs → IfSome (def_at defs place) (λ def. def.indexes ≡ [])
-no_indexes_at defs place served = go (def_at defs place) refl
-  where
-    go : (found : Option TableDef) → def_at defs place ≡ found → IfSome found (λ def. def.indexes ≡ [])
-    go None at = tt
-    go (Some def) at = (served_def defs place def served at).no_indexes
 
 -- the definitions without one are served
 pub served_less : (before now : Definitions) (place : ℕ) → AreServed before → now ≡ without_def before place → AreWithinLimits now → AreServed now

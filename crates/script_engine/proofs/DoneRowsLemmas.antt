@@ -222,7 +222,6 @@ delete_does {room_now = room_now} g old mid new before now place def pred found 
       owners_now = changed.owners_now;
       forests_now = changed.forests_now;
       changes = changed.changes;
-      records = changed.records;
       now = changed.now;
       space = changed.space;
       makes = changed.makes;
@@ -306,7 +305,6 @@ module _ {S : Type 0} (g : Ghosts S) (old mid new : S) (before now : Tables) (pl
         owners_now = changed.owners_now;
         forests_now = changed.forests_now;
         changes = changed.changes;
-        records = changed.records;
         now = changed.now;
         space = changed.space;
         makes = changed.makes;

@@ -65,17 +65,16 @@ module _ {S : Type 0} (g : Ghosts S) where
       → ((db : Database) → PagesStandFor shape (with_table_page def (pages_of g old)) db → PagesStandFor shape (with_table_page def (pages_of g new)) (changed_at db def.number (without_row row.number)))
       → ChangesRowsOf g shape before now room_now old new def def owners forests (TakesBefore def (row_in_place rid row)) (without_row row.number)
   one_deleted shape before now room_of room_now old new def row rid owners forests ready this deletes makes works touches sound stands_for = record {
-    owners_now = deletes.takes.owners_now;
-    forests_now = deletes.takes.forests_now;
-    changes = deletes.takes.changes;
-    records = deletes.takes.records;
-    now = record { ready = record { stands = deletes.takes.changes.stands; notes = deletes.takes.changes.notes ready.ready.notes; rooms = deletes.takes.rooms }; sound = sound };
+    owners_now = deletes.owners_now;
+    forests_now = deletes.forests_now;
+    changes = deletes.changes;
+    now = record { ready = record { stands = deletes.changes.stands; notes = deletes.changes.notes ready.ready.notes; rooms = deletes.rooms }; sound = sound };
     space = left_by g shape old def rid row owners forests this;
-    places = λ rows more is rest. TakesRowsBy.one this.lies deletes.takes.takes deletes.takes.returns rest;
+    places = λ rows more is rest. TakesRowsBy.one this.lies deletes.takes deletes.returns rest;
     makes = makes;
     stands_for = stands_for;
     table_pages = table_pages_kept g shape old new def owners forests ready.ready.stands works (touches_wider touches (in_space g shape old def));
-    others = others_kept g shape old new def owners deletes.takes.owners_now forests deletes.takes.forests_now ready.sound.sound ready.ready.stands deletes.takes.changes
+    others = others_kept g shape old new def owners deletes.owners_now forests deletes.forests_now ready.sound.sound ready.ready.stands deletes.changes
         (touches_wider touches (in_space g shape old def)) works.no_shorter;
   }
 
@@ -109,6 +108,6 @@ module _ {S : Type 0} (g : Ghosts S) where
       record {
         rows = leads_more g shape before mid next room_mid room_next old middle new def def def.next owners forests (TakesBefore def (placed_row hit)) (λ was space is. TakesRowsBy def was (map placed_row (hit ∷ rest)) space is)
             (λ was space is. TakesRowsBy def was (map placed_row rest) space is) (λ was space is. TakesRowsBy def was (map placed_row hits) space is) (without_row hit.row.number) (without_hits (hit ∷ rest)) (without_hits rest) (without_hits hits) on.rows one
-            (λ was between is space more first. first (map placed_row rest) more is) (takes_no_block g shape middle new def on.rows.owners_now on.rows.forests_now room_next hit.row hit.rid on.rows.ready.ready.stands deletes.takes) (λ table. refl) works.no_shorter;
-        has = these_still shape middle new def on.rows.owners_now one.owners_now on.rows.forests_now one.forests_now (placed_row hit) (map placed_row rest) deletes.takes.mid deletes.takes.takes deletes.takes.returns on.has;
+            (λ was between is space more first. first (map placed_row rest) more is) (takes_no_block g shape middle new def on.rows.owners_now on.rows.forests_now on.rows.ready.ready.stands deletes.owners_now deletes.forests_now deletes.mid hit.row hit.rid deletes.takes deletes.returns) (λ table. refl) works.no_shorter;
+        has = these_still shape middle new def on.rows.owners_now one.owners_now on.rows.forests_now one.forests_now (placed_row hit) (map placed_row rest) deletes.mid deletes.takes deletes.returns on.has;
       }

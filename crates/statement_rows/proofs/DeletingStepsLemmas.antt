@@ -23,7 +23,9 @@ use Rattle.mdc_sound.specs.SoundDatabase.{IsSoundBetweenChanges, with_table_page
 use Rattle.mdc_sound.specs.StandingTable.{BreaksExpected, IsReadyTable, IsTableOrMapPage, RoomNote, TableForests, pages_of, spots_of}
 use Rattle.mdc_sound.specs.StandsForDatabase.{PagesStandFor, without_row}
 use Rattle.table_blocks.specs.BlockSteps.{HasThisRow}
+use Rattle.cell_change.specs.ExpectedTables.{WithSoundIndexes}
 use Rattle.cell_change.specs.RowChanges.{DeletesRow}
+use Rattle.cell_change.proofs.RowChangesLemmas.{indexes_here}
 use Rattle.statement_rows.specs.RowsOfStatement.{AnyPage, BreaksReady, HasTheseRows, IsReadyBetween}
 use Rattle.statement_rows.proofs.DeletingRowsLemmas.{DeletesOn, deletes_more}
 use Rattle.statement_rows.proofs.RowDamageLemmas.{runs_on_rows}
@@ -60,9 +62,13 @@ module _ {S : Type 0} (g : Ghosts S) (shape : Shape) (before mid : SpaceNotes) (
 
   pub row_out_run : (new : S) (fault : Option StoreFault)
       → RunsOverPages g AnyPage AnyPage (BreaksReady g shape before room_of old def (HasTheseRows g shape old def (map placed_row hits))) old middle None
-      → RunsOverPages g (IsTableOrMapPage g shape middle def) (IsTableOrMapPage g shape middle def) (BreaksExpected g shape middle def (HasThisRow g shape middle def hit.rid hit.row)) middle new fault
+      → RunsOverPages g (IsTableOrMapPage g shape middle def) (IsTableOrMapPage g shape middle def) (BreaksExpected g shape middle def (WithSoundIndexes g shape middle def (HasThisRow g shape middle def hit.rid hit.row))) middle new fault
       → RunsOverPages g AnyPage AnyPage (BreaksReady g shape before room_of old def (HasTheseRows g shape old def (map placed_row hits))) old new fault
   row_out_run new fault first second =
-      runs_on_rows g shape before room_of old middle def def def.next refl (HasTheseRows g shape old def (map placed_row hits)) (HasThisRow g shape middle def hit.rid hit.row)
-      (λ owners forests ready has. let on = leads_here owners forests ready has in (on.rows.owners_now, on.rows.forests_now, on.rows.ready.ready.stands, on.has.each.0))
+      runs_on_rows g shape before room_of old middle def def def.next refl (HasTheseRows g shape old def (map placed_row hits))
+      (WithSoundIndexes g shape middle def (HasThisRow g shape middle def hit.rid hit.row))
+      (λ owners forests ready has.
+      let on = leads_here owners forests ready has in
+      let here = on.rows.ready in
+      (on.rows.owners_now, on.rows.forests_now, here.ready.stands, (on.has.each.0, indexes_here g shape middle def on.rows.owners_now on.rows.forests_now here.sound here.ready.stands)))
       first second

@@ -26,7 +26,7 @@ use Rattle.mdc_sound.specs.StandsForDatabase.{PagesStandFor}
 use Rattle.mdc_sound.proofs.NextNumberLemmas.{stands_next, with_next}
 use Rattle.cell_change.specs.RowChanges.{InsertsRow}
 use Rattle.cell_change.proofs.ChangedSpaceLemmas.{shows_spots}
-use Rattle.cell_change.proofs.TableStepsLemmas.{places_no_block}
+use Rattle.cell_change.proofs.TableStepsLemmas.{puts_no_block}
 use Rattle.statement_rows.specs.RowsAndSpace.{PutsRowsBy}
 use Rattle.statement_rows.specs.RowsOfStatement.{ChangesRowsOf, IsReadyBetween}
 use Rattle.statement_rows.proofs.OtherTablesLemmas.{others_kept}
@@ -151,24 +151,23 @@ module _ {S : Type 0} (g : Ghosts S) (shape : Shape) (before now : SpaceNotes) (
       → ((db : Database) → PagesStandFor shape (with_table_page def (pages_of g old)) db → PagesStandFor shape (with_table_page raised (pages_of g new)) (changed_at db def.number (appended (row.values ∷ []))))
       → ChangesRowsOf g shape before now room_now old new def raised owners forests PutsBefore (appended (row.values ∷ []))
   one_inserted makes works touches sound stands_for = record {
-    owners_now = inserts.places.owners_now;
-    forests_now = inserts.places.forests_now;
-    changes = inserts.places.changes;
-    records = inserts.places.records;
+    owners_now = inserts.owners_now;
+    forests_now = inserts.forests_now;
+    changes = inserts.changes;
     now = record {
       ready = record {
-        stands = stands_next g shape new def (def.next + 1) inserts.places.owners_now inserts.places.forests_now inserts.places.changes.stands;
-        notes = inserts.places.changes.notes ready.ready.notes;
-        rooms = rooms_next def (def.next + 1) room_now (spots_of g shape new def inserts.places.owners_now inserts.places.forests_now) inserts.places.rooms;
+        stands = stands_next g shape new def (def.next + 1) inserts.owners_now inserts.forests_now inserts.changes.stands;
+        notes = inserts.changes.notes ready.ready.notes;
+        rooms = rooms_next def (def.next + 1) room_now (spots_of g shape new def inserts.owners_now inserts.forests_now) inserts.rooms;
       };
       sound = sound;
     };
     space = needed;
-    places = λ rows more is rest. PutsRowsBy.one rid inserts.places.puts inserts.places.claims rest;
+    places = λ rows more is rest. PutsRowsBy.one rid inserts.puts inserts.claims rest;
     makes = makes;
     stands_for = stands_for;
     table_pages = table_pages_kept g shape old new def owners forests ready.ready.stands works touches;
-    others = others_kept g shape old new def owners inserts.places.owners_now forests inserts.places.forests_now ready.sound.sound ready.ready.stands inserts.places.changes touches works.no_shorter;
+    others = others_kept g shape old new def owners inserts.owners_now forests inserts.forests_now ready.sound.sound ready.ready.stands inserts.changes touches works.no_shorter;
   }
 
   -- the rows behind it are put as well by the definition before
@@ -182,9 +181,9 @@ module _ {S : Type 0} (g : Ghosts S) (shape : Shape) (before now : SpaceNotes) (
       → InsertRunsFull shape (pages_of g new) raised rows → InsertRunsFull shape (pages_of g old) def (row ∷ rows)
   full_behind rows makes full =
       let spots = spots_of g shape old def owners forests in
-      let later = spots_of g shape new def inserts.places.owners_now inserts.places.forests_now in
-      let stands = stands_next g shape new def (def.next + 1) inserts.places.owners_now inserts.places.forests_now inserts.places.changes.stands in
-      let same : full.spots ≡ later = shown_spots g shape new raised inserts.places.owners_now inserts.places.forests_now full.spots stands full.shows in
+      let later = spots_of g shape new def inserts.owners_now inserts.forests_now in
+      let stands = stands_next g shape new def (def.next + 1) inserts.owners_now inserts.forests_now inserts.changes.stands in
+      let same : full.spots ≡ later = shown_spots g shape new raised inserts.owners_now inserts.forests_now full.spots stands full.shows in
       let rest : InsertingChanges def (block_slot_count shape def) later rows full.changes =
       inserting_next def (def.next + 1) (block_slot_count shape def) later rows full.changes
       (subst (λ all. InsertingChanges raised (block_slot_count shape raised) all rows full.changes) same full.inserting) in
@@ -192,7 +191,7 @@ module _ {S : Type 0} (g : Ghosts S) (shape : Shape) (before now : SpaceNotes) (
         spots = spots;
         changes = needed ++ full.changes;
         shows = shows_spots g shape old def owners forests ready.ready.stands;
-        inserting = InsertingChanges.one rid inserts.places.puts inserts.places.claims rest;
+        inserting = InsertingChanges.one rid inserts.puts inserts.claims rest;
         full = full_then shape (pages_of g old) (pages_of g new) needed full.changes makes full.full;
       }
 
@@ -240,6 +239,6 @@ module _ {S : Type 0} (g : Ghosts S) where
               (λ was space is. PutsRowsBy def (block_slot_count shape def) was (numbered def.next tuples) space is) (appended (values ∷ [])) (appended (values ∷ rest)) (appended rest) (appended tuples) on.rows
               (one_inserted g shape mid next room_mid room_next middle new def_mid row rid on.rows.owners_now on.rows.forests_now ready inserts makes works touches sound stands_for)
               (puts_then g shape mid next room_mid room_next middle new def_mid row rid on.rows.owners_now on.rows.forests_now ready inserts rows)
-              (places_no_block g shape middle new def_mid on.rows.owners_now on.rows.forests_now room_next row rid ready.ready.stands inserts.places) (appended_more values rest) works.no_shorter;
+              (puts_no_block g shape middle new def_mid on.rows.owners_now on.rows.forests_now ready.ready.stands inserts.owners_now inserts.forests_now inserts.mid row rid inserts.puts inserts.claims) (appended_more values rest) works.no_shorter;
           full_on = λ full. on.full_on (full_behind g shape mid next room_mid room_next middle new def_mid row rid on.rows.owners_now on.rows.forests_now ready inserts rows makes full);
         }

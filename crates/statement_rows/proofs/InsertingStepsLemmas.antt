@@ -14,7 +14,6 @@ use Rattle.store_api.specs.Works.{Works}
 use Rattle.store_api.specs.declared.fault.StoreFault.{StoreFault}
 use Rattle.store_api.specs.declared.pages.Pages.{Ghosts}
 use Rattle.store_api.specs.declared.shape.Shape.{Shape}
-use Rattle.store_api.proofs.RunsOverPagesLemmas.{runs_wider}
 use Rattle.extent_map.specs.declared.kind.Kind.{Kind}
 use Rattle.extent_map.specs.declared.space_notes.SpaceNotes.{SpaceNotes}
 use Rattle.table_trees.specs.SpaceChanges.{MakesChanges}
@@ -22,10 +21,12 @@ use Rattle.mdc_ast.specs.FittingRows.{RowFits}
 use Rattle.mdc_sound.specs.Placing.Spot.{OtherBlock}
 use Rattle.mdc_sound.specs.RunningFull.{InsertRunsFull, putting_changes}
 use Rattle.mdc_sound.specs.SoundDatabase.{IsSoundBetweenChanges, with_table_page}
-use Rattle.mdc_sound.specs.StandingTable.{BreaksTable, IsReadyTable, IsTableSpace, RoomNote, TableForests, pages_of, spots_of}
+use Rattle.mdc_sound.specs.StandingTable.{BreaksExpected, IsReadyTable, IsTableSpace, RoomNote, TableForests, pages_of, spots_of}
 use Rattle.mdc_sound.specs.StandsForDatabase.{PagesStandFor}
 use Rattle.mdc_sound.proofs.NextNumberLemmas.{with_next}
+use Rattle.cell_change.specs.ExpectedTables.{HasSoundIndexes}
 use Rattle.cell_change.specs.RowChanges.{InsertsRow}
+use Rattle.cell_change.proofs.RowChangesLemmas.{indexes_here}
 use Rattle.statement_rows.specs.RowsOfStatement.{AnyPage, BreaksReady, IsReadyBetween, NothingMore}
 use Rattle.statement_rows.proofs.InsertingRowsLemmas.{InsertsOn, full_at_first, inserts_more}
 use Rattle.statement_rows.proofs.RowDamageLemmas.{runs_on_rows}
@@ -96,11 +97,12 @@ module _ {S : Type 0} (g : Ghosts S) (shape : Shape) (before mid : SpaceNotes) (
 
   pub row_run : (new : S) (fault : Option StoreFault) → def_mid ≡ with_next def def_mid.next
       → RunsOverPages g AnyPage AnyPage (BreaksReady g shape before room_of old def NothingMore) old middle None
-      → RunsOverPages g (IsTableSpace g shape middle def_mid) (IsTableSpace g shape middle def_mid) (BreaksTable g shape middle def_mid) middle new fault
+      → RunsOverPages g (IsTableSpace g shape middle def_mid) (IsTableSpace g shape middle def_mid) (BreaksExpected g shape middle def_mid (HasSoundIndexes g shape middle def_mid)) middle new fault
       → RunsOverPages g AnyPage AnyPage (BreaksReady g shape before room_of old def NothingMore) old new fault
   row_run new fault is first second =
-      runs_on_rows g shape before room_of old middle def def_mid def_mid.next is NothingMore NothingMore
+      runs_on_rows g shape before room_of old middle def def_mid def_mid.next is NothingMore (HasSoundIndexes g shape middle def_mid)
       (λ owners forests ready expected.
       let on = leads_here owners forests ready in
-      (on.rows.owners_now, on.rows.forests_now, on.rows.ready.ready.stands, tt))
-      first (runs_wider second (λ p low mine. mine) (λ p mine. mine) (λ damage breaks. record { names = breaks.names; broken = λ owners forests st expected. breaks.broken owners forests st }))
+      let here = on.rows.ready in
+      (on.rows.owners_now, on.rows.forests_now, here.ready.stands, indexes_here g shape middle def_mid on.rows.owners_now on.rows.forests_now here.sound here.ready.stands))
+      first second

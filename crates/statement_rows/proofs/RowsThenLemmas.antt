@@ -92,7 +92,6 @@ module _ {S : Type 0} (g : Ghosts S) where
     owners_now = owners;
     forests_now = forests;
     changes = same_table g shape s def owners forests ready.ready.stands;
-    records = refl;
     now = ready;
     space = [];
     places = places (spots_of g shape s def owners forests);
@@ -115,7 +114,6 @@ module _ {S : Type 0} (g : Ghosts S) where
     forests_now = second.forests_now;
     changes = changes_table_then g shape old middle def owners forests first.owners_now first.forests_now first.changes new second.owners_now second.forests_now
         (back shape mid noted middle new def next first.owners_now second.owners_now first.forests_now second.forests_now second.changes) no_block longer still_longer;
-    records = second.records ∙ first.records;
     now = second.now;
     space = first.space ++ second.space;
     places = places _ _ _ first.space second.space first.places second.places;

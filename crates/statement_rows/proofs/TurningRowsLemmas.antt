@@ -103,7 +103,6 @@ module _ {S : Type 0} (g : Ghosts S) (shape : Shape) (before now : SpaceNotes) (
     owners_now = turns.owners_now;
     forests_now = turns.forests_now;
     changes = turns.changes;
-    records = turns.records;
     now = record { ready = record { stands = turns.changes.stands; notes = turns.changes.notes ready.ready.notes; rooms = turns.rooms }; sound = sound };
     space = turns.space.changes;
     places = λ rows more is rest. TurnsRowsBy.one turns.space.turns rest;
@@ -184,7 +183,7 @@ module _ {S : Type 0} (g : Ghosts S) where
             (λ was space is. TurnsRowsBy def (block_slot_count shape def) was (map turned_row all) space is) (with_row one.row) (with_rows (rows_of_turned (one ∷ rest))) (with_rows (rows_of_turned rest))
             (with_rows (rows_of_turned all)) on.rows (one_turned g shape mid next room_mid room_next middle new def one to now trees ready turns works touches sound stands_for)
             (turns_then g shape mid next room_mid room_next middle new def one to now trees ready turns (map turned_row rest))
-            (turns_no_block g shape middle new def now trees room_next one.hit.row one.row one.hit.rid to ready.ready.stands turns) (λ table. refl) works.no_shorter;
+            (turns_no_block g shape middle new def now trees ready.ready.stands turns.owners_now turns.forests_now turns.mid one.hit.row one.row one.hit.rid to turns.turns turns.claims) (λ table. refl) works.no_shorter;
         has = rows_stay g shape mid next room_mid room_next middle new def one to now trees ready turns (places_of rest) on.has;
         full_on = λ full. on.full_on (full_behind g shape mid next room_mid room_next middle new def one to now trees ready turns rest on.has.rising full);
       }

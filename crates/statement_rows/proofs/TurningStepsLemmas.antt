@@ -21,8 +21,10 @@ use Rattle.mdc_sound.specs.StandingTable.{BreaksExpected, IsReadyTable, RoomNote
 use Rattle.mdc_sound.specs.StandsForDatabase.{PagesStandFor, with_row}
 use Rattle.mdc_table.specs.KnownBlocks.{IsExpectedSpace}
 use Rattle.table_blocks.specs.BlockSteps.{HasThisRow}
+use Rattle.cell_change.specs.ExpectedTables.{WithSoundIndexes}
 use Rattle.cell_change.specs.RowChanges.{ChangesOneRow, row_in_place}
-use Rattle.cell_change.proofs.ChangeRunsLemmas.{touches_of_row}
+use Rattle.cell_change.proofs.OneTableLemmas.{touches_of_expected}
+use Rattle.cell_change.proofs.RowChangesLemmas.{indexes_here}
 use Rattle.cell_change.proofs.ChangedRowLemmas.{full_as}
 use Rattle.statement_rows.specs.RowsAndSpace.{TurnsRowsBy}
 use Rattle.statement_rows.specs.RowsOfStatement.{AnyPage, BreaksReady, ChangesRowsOf, HasTheseRows, IsReadyBetween, with_rows}
@@ -59,18 +61,25 @@ module _ {S : Type 0} (g : Ghosts S) (shape : Shape) (before : SpaceNotes) (room
   turning_at noted room_now s i one turning low is = subst (IsTurning noted room_now s) (rest_at all i one low is) turning
 
   module _ (noted : SpaceNotes) (room_now : Entry → RoomNote) (s : S) (one : Turned) (rest : List Turned) (turning : IsTurning noted room_now s (one ∷ rest)) where
+    -- the next row lies in its place
+    abbrev pub This : List Kind → TableForests → Type 0
+    This = HasThisRow g shape s def one.hit.rid one.hit.row
+
     -- the call that makes the next row another, behind all calls before it
     pub runs_one : (new : S) (fault : Option StoreFault)
-        → RunsOverPages g (IsExpectedSpace g shape s def (HasThisRow g shape s def one.hit.rid one.hit.row)) (IsExpectedSpace g shape s def (HasThisRow g shape s def one.hit.rid one.hit.row)) (BreaksExpected g shape s def (HasThisRow g shape s def one.hit.rid one.hit.row)) s new fault
+        → RunsOverPages g (IsExpectedSpace g shape s def This) (IsExpectedSpace g shape s def This) (BreaksExpected g shape s def (WithSoundIndexes g shape s def This)) s new fault
         → RunsOverPages g AnyPage AnyPage (BreaksReady g shape before room_of old def HasAll) old new fault
     runs_one new fault =
-        runs_on_rows g shape before room_of old s def def def.next refl HasAll (HasThisRow g shape s def one.hit.rid one.hit.row)
-        (λ owners forests ready has. let on = turning.turns owners forests ready has in (on.rows.owners_now, on.rows.forests_now, on.rows.ready.ready.stands, on.has.each.0))
+        runs_on_rows g shape before room_of old s def def def.next refl HasAll (WithSoundIndexes g shape s def This)
+        (λ owners forests ready has.
+        let on = turning.turns owners forests ready has in
+        let here = on.rows.ready in
+        (on.rows.owners_now, on.rows.forests_now, here.ready.stands, (on.has.each.0, indexes_here g shape s def on.rows.owners_now on.rows.forests_now here.sound here.ready.stands)))
         turning.runs
 
     -- the next row has become another
     pub turning_goes_on : (then : SpaceNotes) (room_then : Entry → RoomNote) (new : S) (to : Rid)
-        → RunsOverPages g (IsExpectedSpace g shape s def (HasThisRow g shape s def one.hit.rid one.hit.row)) (IsExpectedSpace g shape s def (HasThisRow g shape s def one.hit.rid one.hit.row)) (BreaksExpected g shape s def (HasThisRow g shape s def one.hit.rid one.hit.row)) s new None
+        → RunsOverPages g (IsExpectedSpace g shape s def This) (IsExpectedSpace g shape s def This) (BreaksExpected g shape s def (WithSoundIndexes g shape s def This)) s new None
         → ((owners : List Kind) (forests : TableForests) → IsReadyTable g shape noted room_now s def owners forests → HasThisRow g shape s def one.hit.rid one.hit.row owners forests
         → ChangesOneRow g shape noted then room_then s new def one.hit.row one.row one.hit.rid to owners forests)
         → ((owners : List Kind) (forests : TableForests) → IsReadyTable g shape noted room_now s def owners forests → HasThisRow g shape s def one.hit.rid one.hit.row owners forests
@@ -88,7 +97,7 @@ module _ {S : Type 0} (g : Ghosts S) (shape : Shape) (before : SpaceNotes) (room
           let here = on.rows.ready in
           let this = on.has.each.0 in
           turns_more g shape before noted then room_now room_then old s new def all one rest to owners forests on (changes now trees here.ready this) run.works
-          (touches_of_row g shape s new def now trees here.ready.stands one.hit.rid one.hit.row this run.touches) (sound now trees here.ready this here.sound)
+          (touches_of_expected g shape s new def This now trees here.ready.stands this run.touches) (sound now trees here.ready this here.sound)
           (stands_for now trees here.ready this here.sound);
     }
 

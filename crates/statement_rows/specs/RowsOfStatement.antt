@@ -42,13 +42,12 @@ pub record KeepsTablePages (old new : PageList) : Type 0 where
 -- Rows of one table were changed one after the other. The table stands with right notes, the pages are sound as they are between
 -- two changes of rows, the table's blocks were changed as `Places` says, trees took no more space than the changes that it
 -- says with that, and whatever plain database the pages stood for, they stand for the one whose table is changed so. Table pages
--- stay, and so do the trees of the record indexes and the blocks of other tables.
+-- stay, and so do the blocks of other tables.
 pub record ChangesRowsOf {S : Type 0} (g : Ghosts S) (shape : Shape) (before noted : SpaceNotes) (room_of : Entry → RoomNote) (old new : S) (def def_now : TableDef)
     (owners : List Kind) (forests : TableForests) (Places : List Spot → List SpaceChange → List Spot → Type 0) (change : PlainTable → PlainTable) : Type 0 where
   pub owners_now : List Kind
   pub forests_now : TableForests
   pub changes : ChangesTable g shape before noted old new def owners forests owners_now forests_now
-  pub records : forests_now.indexes ≡ forests.indexes
   pub now : IsReadyBetween g shape noted room_of new def_now owners_now forests_now
   pub space : List SpaceChange
   pub places : Places (spots_of g shape old def owners forests) space (spots_of g shape new def_now owners_now forests_now)

@@ -1,5 +1,5 @@
 // The rows of an UPDATE.
-ghost use Rattle.std.specs.Prelude.{◌≡◌, [], List, false, map, IfErr, OnOk};
+ghost use Rattle.std.specs.Prelude.{◌≡◌, List, false, map, IfErr, OnOk};
 ghost use Rattle.std.specs.List.{AllByRecursion};
 ghost use Rattle.store_api.specs.Causes.{store_fault_in};
 ghost use Rattle.store_api.specs.RunsOverPages.{RunsOverPages};
@@ -28,8 +28,8 @@ pub struct Turned {
     pub row: Row,
 }
 
-/// Makes rows others, by rising row number. Each of them was read, and becomes one that fits the definition and has its number. It
-/// claims no more pages than the rows ask for, and `Full` says that an UPDATE of them runs full. After a fault `undo` goes back to
+/// Makes rows others, by rising row number, with their entries in the record indexes. Each of them was read, and becomes one that fits
+/// the definition and has its number. It claims no more pages than the rows ask for, and `Full` says that an UPDATE of them runs full. After a fault `undo` goes back to
 /// a mark, and the notes of free space and of the rooms are to be forgotten.
 pub fn change_rows<P: Pages>(
     alloc: Global,
@@ -41,7 +41,6 @@ pub fn change_rows<P: Pages>(
     turned: &[Turned],
 ) -> Result<(), SpaceFault>
     requires defined { IsTableDef def.now.number def.now }
-    requires no_indexes { def.now.indexes ≡ [] }
     requires may { AllByRecursion (MayTurn def.now) turned.now }
     requires going { (P.state pages.old).ended ≡ false }
     ensures changes { OnOk result ((owners : List Kind) (forests : TableForests) → IsReadyBetween P.Pages shape notes.old (room_of rooms.old) pages.old def.now owners forests

@@ -1,5 +1,5 @@
 // The rows of a DELETE.
-ghost use Rattle.std.specs.Prelude.{◌≡◌, [], List, false, length, map, OnOk};
+ghost use Rattle.std.specs.Prelude.{◌≡◌, List, false, length, map, OnOk};
 ghost use Rattle.store_api.specs.Causes.{fault_of};
 ghost use Rattle.store_api.specs.RunsOverPages.{RunsOverPages};
 ghost use Rattle.extent_map.specs.declared.kind.Kind.{Kind};
@@ -17,7 +17,8 @@ use mdc_table::{Hit, Rooms};
 use std::alloc::Global;
 use store_api::{Pages, Shape, StoreFault};
 
-/// Deletes rows, which are given with their places, by rising row number. It claims no page, and trees change as the rows ask for.
+/// Deletes rows, which are given with their places, by rising row number, and their entries in the record indexes. It claims no page,
+/// and trees change as the rows ask for.
 /// After a fault `undo` goes back to a mark, and the notes of free space and of the rooms are to be forgotten.
 pub fn delete_rows<P: Pages>(
     alloc: Global,
@@ -29,7 +30,6 @@ pub fn delete_rows<P: Pages>(
     hits: &[Hit],
 ) -> Result<(), StoreFault>
     requires defined { IsTableDef def.now.number def.now }
-    requires no_indexes { def.now.indexes ≡ [] }
     requires read { HaveReadValues def.now.columns hits.now }
     requires going { (P.state pages.old).ended ≡ false }
     ensures deletes { OnOk result ((owners : List Kind) (forests : TableForests) → IsReadyBetween P.Pages shape notes.old (room_of rooms.old) pages.old def.now owners forests

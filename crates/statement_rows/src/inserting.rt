@@ -1,5 +1,5 @@
 // The rows of an INSERT.
-ghost use Rattle.std.specs.Prelude.{◌≡◌, ◌+◌, ◌<◌, ◌^◌, [], List, false, length, IfErr, OnErr, OnOk};
+ghost use Rattle.std.specs.Prelude.{◌≡◌, ◌+◌, ◌<◌, ◌^◌, List, false, length, IfErr, OnErr, OnOk};
 ghost use Rattle.std.specs.List.{AllByRecursion};
 ghost use Rattle.store_api.specs.Causes.{store_fault_in};
 ghost use Rattle.store_api.specs.RunsOverPages.{RunsOverPages};
@@ -23,8 +23,8 @@ use mdc_values::{List, Value};
 use std::alloc::Global;
 use store_api::{Pages, Shape};
 
-/// Inserts rows of these values, which fit the definition, numbered from the table's next number on. It claims no more pages than
-/// the rows ask for, and `Full` says that an INSERT of them runs full. After a fault the definition is as it was, `undo` goes back
+/// Inserts rows of these values, which fit the definition, numbered from the table's next number on, and enters them in the record
+/// indexes. It claims no more pages than the rows ask for, and `Full` says that an INSERT of them runs full. After a fault the definition is as it was, `undo` goes back
 /// to a mark, and the notes of free space and of the rooms are to be forgotten.
 pub fn insert_rows<P: Pages>(
     alloc: Global,
@@ -36,7 +36,6 @@ pub fn insert_rows<P: Pages>(
     tuples: List<List<Value>>,
 ) -> Result<(), SpaceFault>
     requires defined { IsTableDef def.old.number def.old }
-    requires no_indexes { def.old.indexes ≡ [] }
     requires fit { AllByRecursion (RowFits def.old) (numbered def.old.next tuples) }
     requires more { def.old.next + length tuples < 2 ^ 64 }
     requires going { (P.state pages.old).ended ≡ false }
@@ -69,7 +68,6 @@ fn insert_each<P: Pages>(
     tuples: List<List<Value>>,
 ) -> Result<(), SpaceFault>
     requires defined { IsTableDef def.old.number def.old }
-    requires no_indexes { def.old.indexes ≡ [] }
     requires fit { AllByRecursion (RowFits def.old) (numbered def.old.next tuples) }
     requires more { def.old.next + length tuples < 2 ^ 64 }
     requires going { (P.state pages.old).ended ≡ false }

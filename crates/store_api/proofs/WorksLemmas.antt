@@ -16,6 +16,7 @@ pub record Stays (old new : StoreState) : Type 0 where
   pub base : new.base ≡ old.base
   pub ended : new.ended ≡ old.ended
   pub told : new.told ≡ old.told
+  pub file : new.file ≡ old.file
   pub beside : new.beside ≡ old.beside
 
 -- a store that tells no contents shows as many pages
@@ -26,7 +27,7 @@ length-seen false pages = length-replicate (length pages) []
 -- each call but `commit` and `tell` is an equation of this form
 pub stays_as : (old new : StoreState) (work : List (List ℕ)) (marked : Option (List (List ℕ))) (hand : Option (List ℕ)) (prepared : Bool) (fetched : Option (List ℕ))
     → new ≡ record old { work = work; marked = marked; hand = hand; prepared = prepared; fetched = fetched } → Stays old new
-stays_as old new work marked hand prepared fetched is = rw is (record { is_told = refl; base = refl; ended = refl; told = refl; beside = refl })
+stays_as old new work marked hand prepared fetched is = rw is (record { is_told = refl; base = refl; ended = refl; told = refl; file = refl; beside = refl })
 
 -- the base is left alone, where it and the bytes told are the same
 pub only_base_along : (old new : StoreState) (pages : Option (List (List ℕ))) (told : List ℕ) → new.base ≡ old.base → new.told ≡ old.told
@@ -42,7 +43,7 @@ only_base_at_rest s pages told going rest = subst (λ ended. MatchBool ended (Ba
 
 module _ {S : Type 0} {g : Ghosts S} where
   pub steady_none : {s : S} → Steady g s s
-  steady_none = record { is_told = refl; base = refl; ended = refl; told = refl; beside = refl; disk_faults = omega arith; say_faults = refl; time = over_time_none }
+  steady_none = record { is_told = refl; base = refl; ended = refl; told = refl; file = refl; beside = refl; disk_faults = omega arith; say_faults = refl; time = over_time_none }
 
   pub steady_then : {old middle new : S} → Steady g old middle → Steady g middle new → Steady g old new
   steady_then {old} {middle} {new} first second = record {
@@ -50,6 +51,7 @@ module _ {S : Type 0} {g : Ghosts S} where
     base = second.base ∙ first.base;
     ended = second.ended ∙ first.ended;
     told = second.told ∙ first.told;
+    file = second.file ∙ first.file;
     beside = second.beside ∙ first.beside;
     disk_faults = omega (arith, first.disk_faults, second.disk_faults);
     say_faults = second.say_faults ∙ first.say_faults;
@@ -71,6 +73,7 @@ module _ {S : Type 0} {g : Ghosts S} where
     base = stays.base;
     ended = stays.ended;
     told = stays.told;
+    file = stays.file;
     beside = stays.beside;
     disk_faults = disk;
     say_faults = say;

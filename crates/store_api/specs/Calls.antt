@@ -67,15 +67,15 @@ Undoes old new = new ≡ record old { work = unwrap_or old.marked old.work; mark
 abbrev pub Prepares : StoreState → StoreState → Type 0
 Prepares old new = new ≡ record old { hand = None; prepared = true }
 
--- the work is the new base
+-- the work is the new base, and the file may be another
 abbrev pub Commits : StoreState → StoreState → Type 0
-Commits old new = new ≡ record old { base = old.work; marked = None; hand = None; prepared = false }
+Commits old new = new ≡ record old { base = old.work; marked = None; hand = None; prepared = false; file = new.file }
 
--- The store takes no further call. Its base is what it was, or the work.
+-- The store takes no further call. Its base is what it was, or the work, and the file may be another.
 abbrev pub Ends : StoreState → StoreState → Type 0
 Ends old new =
     (base : List (List ℕ)) × ((base ≡ old.base) ⊎ (base ≡ old.work))
-    × (new ≡ record old { base = base; hand = None; prepared = false; ended = true })
+    × (new ≡ record old { base = base; hand = None; prepared = false; ended = true; file = new.file })
 
 -- the work is the base again, and no mark is open
 abbrev pub RollsBack : StoreState → StoreState → Type 0

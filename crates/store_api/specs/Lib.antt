@@ -3,6 +3,7 @@ pub mod Causes
 pub mod Extents
 pub mod Faults
 pub mod Fetching
+pub mod Format
 pub mod Frame
 pub mod History
 pub mod Lending

@@ -16,6 +16,7 @@ mem_state_of s = record {
   ended = false;
   told = Some s.told.items;
   fetched = Some s.fetched.items;
+  file = None;
   beside = nothing_beside;
 }
 
@@ -35,5 +36,6 @@ fresh_store pages = record {
   ended = false;
   told = Some [];
   fetched = Some [];
+  file = None;
   beside = nothing_beside;
 }

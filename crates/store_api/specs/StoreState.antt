@@ -31,6 +31,8 @@ pub record StoreState : Type 0 where
   pub told : Option (List ℕ)
   -- the numbers of the pages that were brought to hand, in order, where they are told
   pub fetched : Option (List ℕ)
+  -- the bytes of its file, where it has one that is told. Only `commit` changes them.
+  pub file : Option (List ℕ)
   -- what lies beside the pages
   pub beside : Beside
 

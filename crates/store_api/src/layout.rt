@@ -3,6 +3,9 @@
 /// How many bytes a page has.
 pub const PAGE_BYTES: usize = 4096;
 
+/// The version of the format, which the root page states.
+pub const VERSION: u32 = 1;
+
 /// The root page, which states how many pages there are.
 pub const ROOT_PAGE: u32 = 0;
 

@@ -40,7 +40,8 @@ pub trait Store: Pages {
         ensures time { OverTime Self.clock Self.left (OnlyBase (Self.state self.old)) self.old self.new };
 
     /// Makes the work the base. A crash within it leaves the one or the other, and after a fault so does each later
-    /// crash: the store then takes no further call. Where no page was written, it can't fail, and no time passes.
+    /// crash: the store then takes no further call. Where no page was written, it can't fail, no time passes, and the file
+    /// has the bytes that it had.
     fn commit(&mut self) -> Result<(), DeviceFault>
         requires going { (Self.state self.old).ended ≡ false }
         requires prepared { (Self.state self.old).prepared ≡ true }
@@ -48,6 +49,7 @@ pub trait Store: Pages {
         ensures err { OnErr result (Ends (Self.state self.old) (Self.state self.new)) }
         ensures written { OnOk result (Self.written self.new ≡ 0) }
         ensures quiet { Self.written self.old ≡ 0 → IsOk result × (Self.clock self.new ≡ Self.clock self.old) }
+        ensures keeps_file { Self.written self.old ≡ 0 → (Self.state self.new).file ≡ (Self.state self.old).file }
         ensures disk_faults { CountsFault (IsErr result) (Self.disk_faults self.old) (Self.disk_faults self.new) }
         ensures say_faults { Self.say_faults self.new ≡ Self.say_faults self.old }
         ensures time { OverTime Self.clock Self.left (BaseOrWork (Self.state self.old)) self.old self.new }

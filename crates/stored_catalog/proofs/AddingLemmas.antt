@@ -1,43 +1,38 @@
 -- A table more: what stands around its empty place, and how its trees and its table page close the database again.
-use Rattle.std.proofs.Common.{◌≡◌, ◌≢◌, ◌<◌, ◌+◌, ◌/◌, inl, inr, ℕ, zero, suc, List, [], ◌∷◌, Option, Some, None, length, length-set, map, set, sum_by, refl, ap, arith, sym, ◌∙◌, subst}
-use Rattle.std.specs.Prelude.{AllPairs, IsTrue, flat_map, slice_get}
+use Rattle.std.proofs.Common.{◌≡◌, ◌≢◌, ◌<◌, ◌+◌, ◌/◌, inr, ℕ, zero, suc, List, [], ◌∷◌, Option, Some, None, length, map, set, refl, ap, arith, sym, ◌∙◌, subst}
+use Rattle.std.specs.Prelude.{AllPairs, flat_map, slice_get}
 use Rattle.std.specs.List.{AllByRecursion, AllZip}
-use Rattle.std.proofs.lemmas.Bool.{cases_eq}
 use Rattle.std.proofs.lemmas.List.Sorted.{IsPermutation-refl}
-use Rattle.std.proofs.lemmas.List.Sums.{sum_by-cons}
-use Rattle.std.proofs.lemmas.Option.{same_Some}
-use Rattle.mdc_words.proofs.PlacesLemmas.{slice_get-set_same, slice_get-set_other}
 use Rattle.mdc_ast.specs.declared.definition.IndexDef.{IndexDef}
 use Rattle.mdc_ast.specs.declared.definition.TableDef.{TableDef}
 use Rattle.store_api.specs.StoreState.{zero_page}
 use Rattle.store_api.specs.declared.shape.Shape.{Shape}
-use Rattle.extent_map.specs.Kinds.{is_used_place}
-use Rattle.extent_map.specs.Owners.{IsUsedPage, extent_of, owner_of, place_in_extent}
+use Rattle.extent_map.specs.Owners.{owner_of}
 use Rattle.extent_map.specs.declared.kind.Kind.{Kind}
-use Rattle.extent_map.specs.declared.kind.Kind.TheVariants.{Free, Block, Index}
+use Rattle.extent_map.specs.declared.kind.Kind.TheVariants.{Block}
 use Rattle.extent_map.proofs.HoldsMapLemmas.{on_map}
-use Rattle.entry_tree.specs.Forest.{Forest, times}
-use Rattle.entry_tree.proofs.ForestLemmas.{once_same}
+use Rattle.entry_tree.specs.Forest.{Forest}
 use Rattle.mdc_ast.specs.TableLimits.{IsTableDef}
 use Rattle.table_page.specs.TablePage.{table_page}
 use Rattle.table_page.proofs.TablePageLemmas.{no_blank_table}
-use Rattle.table_trees.specs.TableTrees.{TreePlace, rising_parts, tree_places}
-use Rattle.table_trees.specs.ToldPages.{HasTree, PageList}
-use Rattle.mdc_sound.specs.BlockRules.{AreTableBlockIndexesSound, AreTableIndexesSound, IsBlockIndexSound}
+use Rattle.table_trees.specs.TableTrees.{rising_parts, tree_places}
+use Rattle.table_trees.specs.ToldPages.{PageList}
+use Rattle.mdc_sound.specs.BlockRules.{AreTableBlockIndexesSound, IsBlockIndexSound}
 use Rattle.mdc_sound.specs.SoundDatabase.{KeepAllRules}
-use Rattle.mdc_sound.specs.SpaceRules.{DatabaseView, EachTable, IsBlockMapSound, IsIndexKind, IsIndexPage, IsOwnerThere, IsTablePlaceSound, tables_there, times_in_trees}
+use Rattle.mdc_sound.specs.SpaceRules.{DatabaseView, IsBlockMapSound, IsOwnerThere, IsTablePlaceSound, tables_there}
 use Rattle.mdc_sound.specs.StandsForDatabase.{HoldsPlace}
 use Rattle.mdc_sound.specs.TablePages.{IsTableThere, table_page_at}
 use Rattle.mdc_sound.specs.TableRows.{PlacedRow}
 use Rattle.mdc_sound.specs.TableViews.{TableView, trees_of_table}
-use Rattle.mdc_sound.proofs.SpaceRulesLemmas.{range_at, range_each, range_length, used_or_not}
+use Rattle.mdc_sound.proofs.SpaceRulesLemmas.{range_at, range_length}
 use Rattle.mdc_sound.proofs.StandingTableLemmas.{block_below, map_of_rules}
 use Rattle.stored_catalog.specs.AroundTable.{HasNoBlocks, StandsBut, view_with}
 use Rattle.stored_catalog.specs.NewTables.{empty_table, empty_tree, empty_trees, own_places}
 use Rattle.stored_catalog.specs.StoredDefinitions.{with_stored}
 use Rattle.stored_catalog.specs.TableSteps.{IsNameFree, plain_empty}
 use Rattle.stored_catalog.proofs.AroundTableLemmas.{around_kept, page_around, page_written}
-use Rattle.stored_catalog.proofs.NewTablesLemmas.{StandsBetween, each_between, empty_trees_all, indexes_between, names_between, own_places_all, stands_between, sum_between}
+use Rattle.stored_catalog.proofs.ClosedTableLemmas.{closed_with}
+use Rattle.stored_catalog.proofs.NewTablesLemmas.{StandsBetween, empty_trees_all, indexes_between, names_between, own_places_all, stands_between}
 
 -- ---- opening
 
@@ -103,21 +98,6 @@ module _ (shape : Shape) (pages : PageList) (view : DatabaseView) (keeps : KeepA
 
 -- ---- closing
 
-used_is_index : (j : ℕ) (kind : Kind) → IsTrue (is_used_place j kind) → IsIndexKind kind
-used_is_index j Free is = absurd cc
-used_is_index j (Block t) is = absurd cc
-used_is_index j (Index used) is = tt
-
--- where the pages of empty trees are in use, their roots are pages of index extents
-roots_in_indexes : (shape : Shape) (owners : List Kind) (places : List TreePlace) → ((p : ℕ) → 0 < sum_by (times p) (empty_trees places) → IsUsedPage shape owners p)
-    → AllByRecursion (λ place. IsIndexPage shape owners place.root) places
-roots_in_indexes shape owners [] used = tt
-roots_in_indexes shape owners (place ∷ places) used =
-    let here = used place.root (omega (arith, once_same place.root, sum_by-cons (times place.root) (empty_tree place.root) (empty_trees places))) in (
-      record { page = here.page; index = used_is_index (place_in_extent shape place.root) (owner_of owners (extent_of shape place.root)) here.used },
-      roots_in_indexes shape owners places (λ p some. used p (omega (arith, some, sum_by-cons (times p) (empty_tree place.root) (empty_trees places)))),
-    )
-
 -- indexes without entries, where there are no rows
 no_entries : (pages : PageList) (def : TableDef) (dims : List (List ℕ)) (roots : List ℕ) → length roots ≡ length dims
     → AllZip (λ dim index. IsBlockIndexSound def [] (rising_parts dim) index) dims (map empty_tree roots)
@@ -154,28 +134,21 @@ module _ (shape : Shape) (pages : PageList) (owners : List Kind) (def : TableDef
 closed_around : (shape : Shape) (pages : PageList) (view : DatabaseView) (t : ℕ) (def : TableDef) → StandsBut shape pages view t (own_places def) (empty_trees (own_places def))
     → HasNoBlocks view.owners t → IsTableDef t def → def.indexes ≡ [] → IsNameFree view def.name → table_page_at pages t ≡ table_page def
     → KeepAllRules shape pages (view_with view view.owners t (Some (empty_table def)))
-closed_around shape pages view t def st none limits no_indexes free printed = record {
-  first = record {
-    rule1 = st.root;
-    rule2 = record { count = st.extents.count; each = λ i low. record { held = st.extents.pages i low; owned = λ e on. owner_there (owner_of view.owners e) e refl } };
-    rule3 = record {
-      each = range_each (IsTablePlaceSound shape pages view.owners) 0 16 (set view.places t (Some table)) (length-set view.places t (Some table) ∙ st.count) place_sound;
-      tables_differ = subst (λ tables. AllPairs (λ a b. a.name ≢ b.name) (map (λ (other : TableView). other.def) tables)) (sym between.are)
-          (names_between between.front between.back table (subst (λ tables. AllPairs (λ a b. a.name ≢ b.name) (map (λ (other : TableView). other.def) tables)) between.were st.tables_differ)
-          (subst (AllByRecursion (λ other. other.def.name ≢ def.name)) between.were free));
-      indexes_differ = subst (AllPairs (λ a b. a.name ≢ b.name)) same_indexes st.indexes_differ;
-    };
-    rule4 = all_with (λ other. AllZip (HasTree pages) (tree_places other.def) (trees_of_table other)) st.trees_stand held;
-    rule5 = λ p. record { used = λ used. times_with p ∙ st.used p used; others = λ unused. times_with p ∙ st.unused p unused };
-    rule6 = all_with (λ other. IsBlockMapSound shape view.owners other.def other.map) st.block_maps (empty_map shape pages view.owners def no_indexes limits.roots.one_each none_own);
-    rule7 = all_with _ st.rows tt;
-    rule8 = record { used = all_with _ st.counts.used tt; idle = all_with _ st.counts.idle tt };
-    rule9 = all_with _ st.cells tt;
-    rule10 = all_with (AreTableBlockIndexesSound shape pages) st.block_indexes (empty_indexes shape pages view.owners def no_indexes limits.roots.one_each none_own);
-  };
-  rule11 = all_with (AreTableIndexesSound shape pages) st.record_indexes (no_record_trees _ def.indexes no_indexes);
-  rule12 = record { numbers = all_with _ st.keys.numbers (record { below_next = tt; differ = no_pairs (λ (a b : PlacedRow). a.row.number ≢ b.row.number) }); unique = all_with _ st.keys.unique (none_of _ def.indexes no_indexes) };
-}
+closed_around shape pages view t def st none limits no_indexes free printed = closed_with shape pages view t table stands (record {
+  defines = record { limits = limits; printed = printed };
+  tables_differ = subst (λ tables. AllPairs (λ a b. a.name ≢ b.name) (map (λ (other : TableView). other.def) tables)) (sym between.are)
+      (names_between between.front between.back table (subst (λ tables. AllPairs (λ a b. a.name ≢ b.name) (map (λ (other : TableView). other.def) tables)) between.were st.tables_differ)
+      (subst (AllByRecursion (λ other. other.def.name ≢ def.name)) between.were free));
+  indexes_differ = subst (AllPairs (λ a b. a.name ≢ b.name)) same_indexes st.indexes_differ;
+  block_map = empty_map shape pages view.owners def no_indexes limits.roots.one_each none_own;
+  rows = tt;
+  used_counts = tt;
+  idle_counts = tt;
+  cells = tt;
+  block_indexes = empty_indexes shape pages view.owners def no_indexes limits.roots.one_each none_own;
+  record_indexes = no_record_trees _ def.indexes no_indexes;
+  numbers = record { below_next = tt; differ = no_pairs (λ (a b : PlacedRow). a.row.number ≢ b.row.number) };
+}) (none_of _ def.indexes no_indexes)
   where
     table : TableView
     table = empty_table def
@@ -186,45 +159,15 @@ closed_around shape pages view t def st none limits no_indexes free printed = re
     none_own : HasNoBlocks view.owners def.number
     none_own = subst (HasNoBlocks view.owners) (sym limits.stands) none
 
-    all_with : (P : TableView → Type 0) → EachTable view P → P table → AllByRecursion P (tables_there (set view.places t (Some table)))
-    all_with P all here = subst (AllByRecursion P) (sym between.are) (each_between P between.front between.back table (subst (AllByRecursion P) between.were all) here)
-
-    trees_same : trees_of_table table ≡ empty_trees (own_places def)
-    trees_same = empty_trees_all def limits.roots.one_each
-
-    held : AllZip (HasTree pages) (tree_places def) (trees_of_table table)
-    held = subst (λ places. AllZip (HasTree pages) places (trees_of_table table)) (sym (own_places_all def no_indexes)) (subst (AllZip (HasTree pages) (own_places def)) (sym trees_same) st.held)
-
-    times_with : (p : ℕ) → times_in_trees p (view_with view view.owners t (Some table)) ≡ times_in_trees p view + sum_by (times p) (empty_trees (own_places def))
-    times_with p =
-        ap (sum_by (λ other. sum_by (times p) (trees_of_table other))) between.are
-        ∙ (sum_between (λ other. sum_by (times p) (trees_of_table other)) between.front between.back table
-        ∙ (ap (λ n. n + sum_by (times p) (trees_of_table table)) (ap (sum_by (λ other. sum_by (times p) (trees_of_table other))) (sym between.were)) ∙ ap (λ trees. times_in_trees p view + sum_by (times p) trees) trees_same))
+    stands : StandsBut shape pages view t (tree_places def) (trees_of_table table)
+    stands = subst (λ trees. StandsBut shape pages view t (tree_places def) trees) (sym (empty_trees_all def limits.roots.one_each))
+        (subst (λ places. StandsBut shape pages view t places (empty_trees (own_places def))) (sym (own_places_all def no_indexes)) st)
 
     same_indexes : flat_map (λ (d : TableDef). d.indexes) (map (λ (other : TableView). other.def) (tables_there view.places))
         ≡ flat_map (λ (d : TableDef). d.indexes) (map (λ (other : TableView). other.def) (tables_there (set view.places t (Some table))))
     same_indexes =
         ap (λ tables. flat_map (λ (d : TableDef). d.indexes) (map (λ (other : TableView). other.def) tables)) between.were
         ∙ (indexes_between between.front between.back table no_indexes ∙ ap (λ tables. flat_map (λ (d : TableDef). d.indexes) (map (λ (other : TableView). other.def) tables)) (sym between.are))
-
-    used_root : (p : ℕ) → 0 < sum_by (times p) (empty_trees (own_places def)) → IsUsedPage shape view.owners p
-    used_root p some = elim (used_or_not shape view.owners p) [ inl used ↦ used | inr unused ↦ absurd (omega (arith, some, st.unused p unused)) ]
-
-    owner_there : (kind : Kind) (e : ℕ) → owner_of view.owners e ≡ kind → IsOwnerThere pages kind
-    owner_there Free e is = tt
-    owner_there (Block u) e is = elim (st.owned e u is) [ inl same ↦ absurd (none e (is ∙ ap Block same)) | inr there ↦ there ]
-    owner_there (Index used) e is = tt
-
-    here_sound : IsTablePlaceSound shape pages view.owners t (Some table)
-    here_sound = (record { limits = limits; printed = printed }, subst (AllByRecursion (λ place. IsIndexPage shape view.owners place.root)) (sym (own_places_all def no_indexes)) (roots_in_indexes shape view.owners (own_places def) used_root))
-
-    place_sound : (i : ℕ) (place : Option TableView) → slice_get (set view.places t (Some table)) i ≡ Some place → IsTablePlaceSound shape pages view.owners (0 + i) place
-    place_sound i place at = let same : i ≡ 0 + i = omega arith in subst (λ v. IsTablePlaceSound shape pages view.owners v place) same (elim (cases_eq i t) [
-      | inl here ↦
-          let is = same_Some (Some table) place (sym (slice_get-set_same view.places t (Some table) (omega (arith, st.within, st.count))) ∙ (ap (slice_get (set view.places t (Some table))) (sym here) ∙ at)) in
-          subst (λ v. IsTablePlaceSound shape pages view.owners v place) (sym here) (subst (IsTablePlaceSound shape pages view.owners t) is here_sound)
-      | inr other ↦ st.each i place other (sym (slice_get-set_other view.places t (Some table) i other) ∙ at)
-    ])
 
 -- the table without rows stands where its trees do, and its page says so
 pub closed_adding : (shape : Shape) (pages : PageList) (view : DatabaseView) (t : ℕ) (def : TableDef) → StandsBut shape pages view t (own_places def) (empty_trees (own_places def))

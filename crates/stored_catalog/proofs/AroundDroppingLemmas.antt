@@ -40,7 +40,7 @@ module _ {S : Type 0} (g : Ghosts S) (s : S) (told : IsTrue (g.state s).is_told)
   trees_of_list (place ∷ places) [] h = absurd h
   trees_of_list (place ∷ places) (t ∷ trees) h = (told_of_tree g s told place t h.0, trees_of_list places trees h.1)
 
-  list_of_trees : (places : List TreePlace) (trees : List Forest) → AllZip (HoldsTreeAt g s) places trees → AllZip (HasTree (pages_of g s)) places trees
+  pub list_of_trees : (places : List TreePlace) (trees : List Forest) → AllZip (HoldsTreeAt g s) places trees → AllZip (HasTree (pages_of g s)) places trees
   list_of_trees [] [] h = tt
   list_of_trees [] (t ∷ trees) h = absurd h
   list_of_trees (place ∷ places) [] h = absurd h

@@ -112,13 +112,13 @@ set_back (first ∷ defs) zero def place at = ap (λ p. p ∷ defs) (sym (same_S
 set_back (first ∷ defs) (suc t) def place at = ap (λ more. first ∷ more) (set_back defs t def place at)
 
 -- what was put in a place stands there
-def_at-set : (defs : Definitions) (t : ℕ) (def : Option TableDef) → t < length defs → def_at (set defs t def) t ≡ def
+pub def_at-set : (defs : Definitions) (t : ℕ) (def : Option TableDef) → t < length defs → def_at (set defs t def) t ≡ def
 def_at-set [] t def low = absurd (omega arith)
 def_at-set (first ∷ defs) zero def low = refl
 def_at-set (first ∷ defs) (suc t) def low = def_at-set defs t def (omega (arith, low))
 
 -- what holds of each place holds with one written over
-range_set : {B : Type 0} (R : ℕ → B → Type 0) (a n t : ℕ) (ys : List B) (y : B) → AllZip R (range_with_len a n) ys → ((i : ℕ) → i ≡ a + t → R i y) → AllZip R (range_with_len a n) (set ys t y)
+pub range_set : {B : Type 0} (R : ℕ → B → Type 0) (a n t : ℕ) (ys : List B) (y : B) → AllZip R (range_with_len a n) ys → ((i : ℕ) → i ≡ a + t → R i y) → AllZip R (range_with_len a n) (set ys t y)
 range_set R a n t [] y all here = all
 range_set R a zero t (first ∷ ys) y all here = absurd all
 range_set R a (suc n) zero (first ∷ ys) y all here = (here a (omega arith), all.1)

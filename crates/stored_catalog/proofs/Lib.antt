@@ -2,6 +2,7 @@ pub mod AddingLemmas
 pub mod AroundDroppingLemmas
 pub mod AroundTableLemmas
 pub mod BlocksInMapLemmas
+pub mod ClosedTableLemmas
 pub mod DroppingLemmas
 pub mod DroppingRunsLemmas
 pub mod EnteringLemmas
@@ -9,6 +10,7 @@ pub mod FreedTreesLemmas
 pub mod FreeingRunsLemmas
 pub mod GivenBlocksLemmas
 pub mod GivingRunsLemmas
+pub mod IndexNamesLemmas
 pub mod LeftDefinitionsLemmas
 pub mod LoadingLemmas
 pub mod MadeTablesLemmas
@@ -20,3 +22,4 @@ pub mod NumberingLemmas
 pub mod OpenedTableLemmas
 pub mod SavingLemmas
 pub mod TablesAroundLemmas
+pub mod TakenIndexesLemmas

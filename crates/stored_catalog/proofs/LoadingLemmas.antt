@@ -44,7 +44,7 @@ put_as_it_is defs t def limits = ap (λ d. slice_set defs t (Some d)) (with_numb
 -- ---- names
 
 -- names of the same bytes are one
-one_name : (a b : Name) → is_same a b ≡ true → a ≡ b
+pub one_name : (a b : Name) → is_same a b ≡ true → a ≡ b
 one_name a b same = ap name_with ((bytes_eq-Decides a.0 b.0).0 same)
   where
     name_with : List ℕ → Name
@@ -73,7 +73,7 @@ name_taken defs place def holder n is found at same =
       mine = def;
       stands = stands;
       is_mine = is;
-      same = one_name holder.name def.name (found_named def.name defs 0 n n holder (omega arith) (at ∙ ap Some (sym same)) stands);
+      same = inl (one_name holder.name def.name (found_named def.name defs 0 n n holder (omega arith) (at ∙ ap Some (sym same)) stands));
       names = refl;
     }
 

@@ -100,7 +100,7 @@ made_keep : (shape : Shape) (owners : List Kind) (places : List TreePlace) → l
 made_keep shape owners places count claims = keeps_claims shape owners (roots_in places) [] (empty_trees places) count claims (λ p. omega (arith, times_empty p places))
 
 -- two kinds that are blocks of the same tables
-block_back : (one other : Kind) (t : ℕ) → table_of_block one ≡ table_of_block other → one ≡ Block t → other ≡ Block t
+pub block_back : (one other : Kind) (t : ℕ) → table_of_block one ≡ table_of_block other → one ≡ Block t → other ≡ Block t
 block_back one Free t same is = absurd (let e : None ≡ Some t = sym same ∙ ap table_of_block is in cc)
 block_back one (Block u) t same is = let e : Some u ≡ Some t = sym same ∙ ap table_of_block is in ap Block (same_Some u t e)
 block_back one (Index used) t same is = absurd (let e : None ≡ Some t = sym same ∙ ap table_of_block is in cc)
@@ -113,7 +113,7 @@ no_blocks_made shape owners places t count claims none e is = none e (block_back
 -- ---- changes of space
 
 -- changes after changes
-goes_then : (shape : Shape) (old mid new : PageList) (first second : List SpaceChange) → FoldsTo (MakesChange shape) old first mid → FoldsTo (MakesChange shape) mid second new
+pub goes_then : (shape : Shape) (old mid new : PageList) (first second : List SpaceChange) → FoldsTo (MakesChange shape) old first mid → FoldsTo (MakesChange shape) mid second new
     → FoldsTo (MakesChange shape) old (first ++ second) new
 goes_then shape old mid new [] [] goes more = goes ∙ more
 goes_then shape old mid new [] (change ∷ second) goes more = (

@@ -1,7 +1,10 @@
 -- The definitions of a database's tables on its table pages (docs/FORMAT.md, "Table pages"): page 1 + t has that of table t, and
 -- zeros alone where there is no table.
-use Rattle.std.specs.Prelude.{◌≡◌, ◌≢◌, ◌≤◌, ◌<◌, ◌⊎◌, ℕ, ◌+◌, List, length, Option, Some, None, slice_set}
+use Rattle.std.specs.Prelude.{◌≡◌, ◌≢◌, ◌≤◌, ◌<◌, ◌⊎◌, ℕ, ◌+◌, List, [], ◌∷◌, length, Contains, Option, Some, None, slice_set}
 use Rattle.std.specs.List.{AllZip, range_with_len}
+use Rattle.std.specs.Option.{option_or}
+use Rattle.catalog.specs.IndexPlaces.{index_place_of}
+use Rattle.mdc_ast.specs.declared.definition.IndexDef.{IndexDef}
 use Rattle.mdc_ast.specs.declared.definition.TableDef.{TableDef}
 use Rattle.mdc_ast.specs.Definitions.{Definitions, def_at}
 use Rattle.store_api.specs.Frame.{HoldsPage}
@@ -63,15 +66,27 @@ pub record IsNoDefinition {S : Type 0} (g : Ghosts S) (s : S) (t : ℕ) (damage 
 abbrev pub BreaksTablePage : {S : Type 0} → Ghosts S → S → ℕ → Damage → Type 0
 BreaksTablePage g s t damage = LacksTablePage g s t damage ⊎ IsNoDefinition g s t damage
 
--- these are the pages of tables t and u, which have one name
+-- two definitions have record indexes of one name
+pub record HaveOneIndexName (a b : TableDef) : Type 0 where
+  pub index : IndexDef
+  pub other : IndexDef
+  pub in_first : Contains a.indexes index
+  pub in_second : Contains b.indexes other
+  pub same : index.name ≡ other.name
+
+-- two definitions have one name, or a record index each of one name
+abbrev pub ShareAName : TableDef → TableDef → Type 0
+ShareAName a b = (a.name ≡ b.name) ⊎ HaveOneIndexName a b
+
+-- these are the pages of tables t and u, which share a name
 pub record HaveOneName (t u : ℕ) (first second : List ℕ) : Type 0 where
   pub def : TableDef
   pub other : TableDef
   pub is_first : IsTablePageOf t def first
   pub is_second : IsTablePageOf u other second
-  pub same : def.name ≡ other.name
+  pub same : ShareAName def other
 
--- rule 3: table page t and a later one, where they are told, have definitions of one name
+-- rule 3: table page t and a later one, where they are told, have definitions that share a name
 pub record IsNameTwice {S : Type 0} (g : Ghosts S) (s : S) (t : ℕ) (damage : Damage) : Type 0 where
   pub page : damage.page ≡ 1 + t
   pub rule : damage.rule ≡ 3
@@ -80,16 +95,21 @@ pub record IsNameTwice {S : Type 0} (g : Ghosts S) (s : S) (t : ℕ) (damage : D
   pub within : later < 16
   pub twice : (first second : List ℕ) → HoldsPage g s (1 + t) first → HoldsPage g s (1 + later) second → HaveOneName t later first second
 
--- one of the 16 does, or it is the lower of two of one name
+-- one of the 16 does, or it is the lower of two that share a name
 abbrev pub BreaksTablePages : {S : Type 0} → Ghosts S → S → Damage → Type 0
 BreaksTablePages g s damage = (t : ℕ) × (t < 16) × (BreaksTablePage g s t damage ⊎ IsNameTwice g s t damage)
 
--- the fault names, by rule 3, the table page of a definition in the list that has the name of this one
+-- the fault names, by rule 3, the table page of a definition in the list that shares a name with this one
 pub record IsNameTaken (defs : Definitions) (def : Option TableDef) (fault : StoreFault) : Type 0 where
   pub place : ℕ
   pub holder : TableDef
   pub mine : TableDef
   pub stands : def_at defs place ≡ Some holder
   pub is_mine : def ≡ Some mine
-  pub same : holder.name ≡ mine.name
+  pub same : ShareAName holder mine
   pub names : fault ≡ Damaged (record { page = 1 + place; rule = 3 })
+
+-- the first of these record indexes whose name one in the list has: where that one is
+abbrev pub taken_index : Definitions → List IndexDef → Option (ℕ × ℕ)
+taken_index defs [] = None
+taken_index defs (index ∷ indexes) = option_or (index_place_of defs index.name) (taken_index defs indexes)

@@ -168,8 +168,8 @@ fn make_dimensions<P: Pages>(
     Ok(roots)
 }
 
-/// Makes a tree without entries, and answers its root.
-fn make_tree<P: Pages>(
+/// Makes a tree without entries, and answers its root. `Full` says that it asks for more than there is.
+pub fn make_tree<P: Pages>(
     alloc: Global,
     shape: Shape,
     notes: &mut SpaceNotes,

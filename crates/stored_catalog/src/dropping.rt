@@ -1,5 +1,5 @@
 // A table less.
-ghost use Rattle.std.specs.Prelude.{◌≡◌, ◌+◌, ◌<◌, ◌∷◌, [], List, length, false, None, IsTrue, IsSome, IfSome, OnErr, OnOk};
+ghost use Rattle.std.specs.Prelude.{◌≡◌, ◌+◌, ◌<◌, ◌∷◌, [], List, length, false, None, IsTrue, IsSome, OnErr, OnOk};
 ghost use Rattle.mdc_ast.specs.Database.{Database, with_place};
 ghost use Rattle.mdc_ast.specs.Definitions.{def_at, without_def};
 ghost use Rattle.store_api.specs.Causes.{fault_of};
@@ -30,7 +30,7 @@ use mdc_ast::TableDef;
 use std::alloc::Global;
 use store_api::rules::BLOCK_MAPS_RULE;
 use store_api::{Damage, Pages, Shape, StoreFault};
-use table_trees::{block_index_tree, block_map_tree};
+use table_trees::{block_index_tree, block_map_tree, record_tree};
 
 /// Drops the table in a place: its blocks and the pages of its trees are given back, and its table page is zeros. Rows aren't
 /// looked at. Damaged names a part of the table. After a fault the catalog is as it was, `undo` goes back to a mark, and the
@@ -46,7 +46,6 @@ pub fn drop_table<P: Pages>(
     requires place { table < 16 }
     requires there { IsSome (def_at catalog.old table) }
     requires catalog { AreWithinLimits catalog.old }
-    requires no_indexes { IfSome (def_at catalog.old table) (λ def. def.indexes ≡ []) }
     requires going { (P.state pages.old).ended ≡ false }
     ensures left { OnOk result (catalog.new ≡ without_def catalog.old table) }
     ensures kept { OnErr result (catalog.new ≡ catalog.old) }
@@ -79,7 +78,6 @@ fn unmake_table<P: Pages>(
 ) -> Result<(), StoreFault>
     requires place { table < 16 }
     requires defined { IsTableDef table def.now }
-    requires no_indexes { def.now.indexes ≡ [] }
     requires going { (P.state pages.old).ended ≡ false }
     ensures clears { OnOk result (IsTrue (P.state pages.old).is_told → DefinesTable (P.state pages.old).work table def.now → table_page_at (P.state pages.new).work table ≡ zero_page) }
     ensures drops { OnOk result (IsTrue (P.state pages.old).is_told → DefinesTable (P.state pages.old).work table def.now → (view : DatabaseView) → KeepAllRules shape (P.state pages.old).work view
@@ -141,7 +139,7 @@ fn give_blocks_in<P: Pages>(
     Ok(())
 }
 
-/// Gives all pages of the trees of a table back, which has no record index.
+/// Gives all pages of the trees of a table back, those of its record indexes too.
 fn free_trees<P: Pages>(
     alloc: Global,
     shape: Shape,
@@ -150,7 +148,6 @@ fn free_trees<P: Pages>(
     def: &TableDef,
 ) -> Result<(), StoreFault>
     requires defined { IsTableDef def.now.number def.now }
-    requires no_indexes { def.now.indexes ≡ [] }
     requires going { (P.state pages.old).ended ≡ false }
     ensures frees { OnOk result ((owners : List Kind) (trees : List Forest) → StandTrees P.Pages shape pages.old owners (tree_places def.now) trees
         → FreesTrees P.Pages shape notes.old notes.new pages.new owners trees) }
@@ -161,6 +158,9 @@ fn free_trees<P: Pages>(
     block_map_tree(alloc, def).free_all(shape, notes, pages)?;
     for index in 0..def.dims.len() + 1 {
         block_index_tree(alloc, def, index).free_all(shape, notes, pages)?;
+    }
+    for number in 0..def.indexes.len() {
+        record_tree(alloc, def, number).free_all(shape, notes, pages)?;
     }
     Ok(())
 }

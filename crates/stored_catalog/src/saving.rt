@@ -32,12 +32,8 @@ pub fn save_table<P: Pages>(catalog: &Catalog, pages: &mut P, table: u8) -> Resu
     }
 }
 
-/// Makes a table page that of a definition.
-pub(crate) fn write_def<P: Pages>(
-    pages: &mut P,
-    table: u8,
-    def: &TableDef,
-) -> Result<(), StoreFault>
+/// Makes a table page that of a definition. Damaged names page 0 where there is no such page.
+pub fn write_def<P: Pages>(pages: &mut P, table: u8, def: &TableDef) -> Result<(), StoreFault>
     requires limits { IsTableDef table def.now }
     requires place { table < 16 }
     requires going { (P.state pages.old).ended ≡ false }

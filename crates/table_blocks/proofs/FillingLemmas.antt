@@ -180,13 +180,13 @@ module _ {S : Type 0} {g : Ghosts S} (shape : Shape) (old : S) (def : TableDef) 
       pub fills : (row : Row) (new : S) (slot : ℕ) → rows ≡ line.rows + 1 → RowFits def row
           → RunsOverPages g (IsPageOfBlock shape line.block) (IsPageOfBlock shape line.block) (BreaksAround g shape mid def line.block (HasEmptySlot g shape mid def line.block)) mid new None
           → length (g.state new).work ≡ length (g.state mid).work
-          → ((slots : List (Option Row)) → HoldsRows g shape mid def line.block slots → PutsFirst g shape mid new def line.block row slots (Some slot))
+          → ((slots : List (Option Row)) → HoldsRows g shape old def line.block slots → HoldsRows g shape mid def line.block slots → PutsFirst g shape mid new def line.block row slots (Some slot))
           → (noted : SpaceNotes) (owners : List Kind) (forests : TableForests) → StandsTable g shape old def owners forests → HasRoomAt g shape old def line row owners forests
           → FillsSlot g shape noted old new def (record { block = line.block; slot = slot }) row owners forests
       fills row new slot more fits run same_count puts noted owners forests st at =
           let opened = opens row owners forests st at in
           let o = opened.0.here in
-          let put = puts o.slots (rows_between same_change shape old mid def line rows defined low tree root width there changes count replaced owners forests st o.slots o.now.rows) in
+          let put = puts o.slots o.now.rows (rows_between same_change shape old mid def line rows defined low tree root width there changes count replaced owners forests st o.slots o.now.rows) in
           let slots = set o.slots slot (Some row) in
           let counted : rows ≡ count_rows slots = omega (arith, more, o.counted, count_filled o.slots slot row put.0.within (put.0.is_it None)) in
           let cell = cell_filled o.slots slot o.values fits o.now.cell opened.1 (omega (arith, counted, more)) in

@@ -1,3 +1,4 @@
+pub mod AlongLemmas
 pub mod AroundLemmas
 pub mod BeginningSpaceLemmas
 pub mod BegunSlotsLemmas
@@ -35,6 +36,7 @@ pub mod NewBlockSpaceLemmas
 pub mod OpeningLemmas
 pub mod OtherBlocksLemmas
 pub mod OverwritingLemmas
+pub mod SeatsLemmas
 pub mod SeenSlotsLemmas
 pub mod SpotChangesLemmas
 pub mod SuchSlotsLemmas

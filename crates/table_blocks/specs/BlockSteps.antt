@@ -96,13 +96,6 @@ pub record FillsSlot {S : Type 0} (g : Ghosts S) (shape : Shape) (noted : SpaceN
   pub lowest : IsLowestAt IsEmptySlot slots rid.slot None
   pub turns : TurnsSpot g SameSpot shape noted noted old new def rid.block (UsedBlock (slice_set slots rid.slot (Some row))) owners forests owners forests_now
 
--- The row lies in the lowest slot that was empty of a Used block, whatever the block's cell.
-pub record PutsInUsed {S : Type 0} (g : Ghosts S) (shape : Shape) (old new : S) (def : TableDef) (rid : Rid) (row : Row) (owners : List Kind) (forests : TableForests) : Type 0 where
-  pub slots : List (Option Row)
-  pub was : slice_index_or (spots_of g shape old def owners forests) rid.block OtherBlock ≡ UsedBlock slots
-  pub lowest : IsLowestAt IsEmptySlot slots rid.slot None
-  pub held : HoldsRows g shape new def rid.block (slice_set slots rid.slot (Some row))
-
 -- The row that lay in a place was taken out, and a block without rows is Free; after that trees may have given extents back.
 pub record EmptiesSlot {S : Type 0} (g : Ghosts S) (shape : Shape) (before noted : SpaceNotes) (old new : S) (def : TableDef) (rid : Rid) (row : Row) (owners : List Kind) (forests : TableForests) : Type 0 where
   pub owners_now : List Kind

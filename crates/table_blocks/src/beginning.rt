@@ -1,5 +1,5 @@
 // A block comes into use with its first row.
-ghost use Rattle.std.specs.Prelude.{◌≡◌, ◌<◌, List, Contains, false, IfErr, IfOk, OnOk};
+ghost use Rattle.std.specs.Prelude.{◌≡◌, ◌<◌, List, Contains, false, IfErr, IfOk, OnOk, slice_index_or};
 ghost use Rattle.store_api.specs.Causes.{store_fault_in};
 ghost use Rattle.store_api.specs.RunsOverPages.{RunsOverPages};
 ghost use Rattle.extent_map.specs.Damages.{IfFull, store_part_of};
@@ -9,9 +9,9 @@ ghost use Rattle.mdc_ast.specs.TableLimits.{IsTableDef};
 ghost use Rattle.block_map.specs.MapLines.{free_blocks};
 ghost use Rattle.table_trees.specs.SpaceChanges.{MakesChanges, RunsFull, added_entries};
 ghost use Rattle.mdc_ast.specs.FittingRows.{RowFits};
-ghost use Rattle.mdc_sound.specs.Placing.Spot.{FreeBlock, FreeExtent};
+ghost use Rattle.mdc_sound.specs.Placing.Spot.{FreeBlock, FreeExtent, OtherBlock};
 ghost use Rattle.mdc_sound.specs.RunningFull.{block_changes, block_listings};
-ghost use Rattle.mdc_sound.specs.StandingTable.{BreaksExpected, BreaksTable, IsSpaceOfBlock, IsTreeSpaceOfTable, MeetsNoFree, StandsTable, TableForests, pages_of};
+ghost use Rattle.mdc_sound.specs.StandingTable.{BreaksExpected, BreaksTable, IsSpaceOfBlock, IsTreeSpaceOfTable, MeetsNoFree, StandsTable, TableForests, pages_of, spots_of};
 ghost use Rattle.table_blocks.specs.AroundBlock.{StandsAround};
 ghost use Rattle.table_blocks.specs.BlockChanges.{BreaksAround, IsSpaceAround};
 ghost use Rattle.table_blocks.specs.BlockNow.{IsOwnBlock, IsUnlisted};
@@ -80,6 +80,8 @@ pub fn begin_new_block<P: Pages>(
     requires going { (P.state pages.old).ended ≡ false }
     ensures begins { IfOk result (λ block. (owners : List Kind) (forests : TableForests) → StandsTable P.Pages shape pages.old def.now owners forests
         → BeginsBlock P.Pages shape notes.old notes.new pages.old pages.new def.now block row.now owners forests) }
+    ensures free { IfOk result (λ block. (owners : List Kind) (forests : TableForests) → StandsTable P.Pages shape pages.old def.now owners forests
+        → slice_index_or (spots_of P.Pages shape pages.old def.now owners forests) block OtherBlock ≡ FreeExtent) }
     ensures lowest { IfOk result (λ block. (owners : List Kind) (forests : TableForests) → StandsTable P.Pages shape pages.old def.now owners forests → AreRightNotes shape notes.old owners → IsLowestFree owners block) }
     ensures full { IfErr result (λ fault. IfFull fault (λ cap. (cap ≡ shape.extents) × ((owners : List Kind) (forests : TableForests) → StandsTable P.Pages shape pages.old def.now owners forests
         → AreRightNotes shape notes.old owners → MeetsNoFree P.Pages shape pages.new))) }

@@ -1,6 +1,7 @@
 // A row more in a Used block.
-ghost use Rattle.std.specs.Prelude.{◌≡◌, ◌<◌, List, Option, Some, None, false, length, IfOk, IfSome, slice_index_or};
+ghost use Rattle.std.specs.Prelude.{◌≡◌, ◌<◌, List, Option, Some, None, false, length, IfOk, IfSome, OnOk, slice_index_or};
 ghost use Rattle.store_api.specs.Causes.{fault_of};
+ghost use Rattle.store_api.specs.Frame.{NoPage};
 ghost use Rattle.store_api.specs.RunsOverPages.{RunsOverPages};
 ghost use Rattle.extent_map.specs.declared.kind.Kind.{Kind};
 ghost use Rattle.extent_map.specs.declared.space_notes.SpaceNotes.{SpaceNotes};
@@ -14,11 +15,12 @@ ghost use Rattle.mdc_sound.specs.Placing.Spot.{OtherBlock};
 ghost use Rattle.mdc_sound.specs.RunningFull.{block_changes};
 ghost use Rattle.mdc_sound.specs.StandingTable.{BreaksExpected, BreaksTable, IsBlockOrMapPage, IsPageOfBlock, StandsTable, TableForests, pages_of, spots_of};
 ghost use Rattle.table_blocks.specs.BlockChanges.{BreaksAround};
-ghost use Rattle.table_blocks.specs.BlockSteps.{FillsSlot, HasEmptySlot, HasRoomAt, IsBlockOfCell, PutsInUsed};
+ghost use Rattle.table_blocks.specs.BlockSteps.{FillsSlot, HasEmptySlot, HasRoomAt};
+ghost use Rattle.table_blocks.specs.Seats.{HasSeat};
 
 use crate::faults::miscounted;
-use block_map::{BlockMap, BlockRow, BlockState};
-use block_rows::put_first;
+use block_map::{BlockMap, BlockRow, BlockState, FoundRow};
+use block_rows::{find_seat, put_first, put_slot};
 use mdc_ast::{Row, TableDef};
 use mdc_values::Rid;
 use row_page::capacity;
@@ -67,8 +69,15 @@ pub fn put_in_block<P: Pages>(
     })
 }
 
-/// Puts a row into the lowest empty slot of a Used block of its cell, and answers where it lies. None where the block isn't a Used
-/// one of the table, or has no empty slot: then nothing is changed. It claims no page.
+/// Where a row goes in a Used block of its cell: the block's row in the block map, and the lowest empty slot.
+#[derive(Drop)]
+pub(crate) struct Seat {
+    pub(crate) line: FoundRow,
+    pub(crate) slot: u16,
+}
+
+/// Puts a row into the lowest empty slot of a Used block of the table that is of the row's cell by the row in its lowest slot, and
+/// answers where it lies. None where the block is no such block, or has no room: then nothing is changed. It claims no page.
 pub fn put_if_room<P: Pages>(
     alloc: Global,
     def: &TableDef,
@@ -82,28 +91,82 @@ pub fn put_if_room<P: Pages>(
     requires within { block < shape.extents }
     requires going { (P.state pages.old).ended ≡ false }
     ensures block { IfOk result (λ put. IfSome put (λ rid. rid.block ≡ block)) }
-    ensures puts { IfOk result (λ put. IfSome put (λ rid. (owners : List Kind) (forests : TableForests) → StandsTable P.Pages shape pages.old def.now owners forests
-        → PutsInUsed P.Pages shape pages.old pages.new def.now rid row.now owners forests)) }
     ensures fills { IfOk result (λ put. IfSome put (λ rid. (noted : SpaceNotes) (owners : List Kind) (forests : TableForests) → StandsTable P.Pages shape pages.old def.now owners forests
-        → IsBlockOfCell P.Pages shape pages.old def.now block row.now owners forests
         → HasRoomFor def.now row.now (slice_index_or (spots_of P.Pages shape pages.old def.now owners forests) block OtherBlock) × FillsSlot P.Pages shape noted pages.old pages.new def.now rid row.now owners forests)) }
     ensures makes { IfOk result (λ put. IfSome put (λ rid. (owners : List Kind) (forests : TableForests) → StandsTable P.Pages shape pages.old def.now owners forests
-        → IsBlockOfCell P.Pages shape pages.old def.now block row.now owners forests
         → MakesChanges shape (pages_of P.Pages pages.old) (block_changes def.now row.now block (slice_index_or (spots_of P.Pages shape pages.old def.now owners forests) block OtherBlock)) (pages_of P.Pages pages.new))) }
-    ensures no_room { IfOk result (λ put. put ≡ None → (owners : List Kind) (forests : TableForests) → StandsTable P.Pages shape pages.old def.now owners forests
-        → HasRoomFor def.now row.now (slice_index_or (spots_of P.Pages shape pages.old def.now owners forests) block OtherBlock) → ⊥) }
     ensures kept { IfOk result (λ put. put ≡ None → (P.state pages.new).work ≡ (P.state pages.old).work) }
     ensures count { length (P.state pages.new).work ≡ length (P.state pages.old).work }
     ensures runs { RunsOverPages P.Pages (IsBlockOrMapPage P.Pages shape pages.old def.now block) (IsBlockOrMapPage P.Pages shape pages.old def.now block)
         (BreaksTable P.Pages shape pages.old def.now) pages.old pages.new (fault_of result) }
 {
-    let slots = shape.extent_pages * u32::from(capacity(&def.columns));
     let map = BlockMap::at(alloc, def.roots.map);
-    let Some(_had) = map.count_row(pages, block, slots)? else {
+    let Some(seat) = seat_in_block(def, shape, &map, pages, block, row)? else {
         return Ok(None);
     };
-    let slot = put_counted(def, shape, pages, block, row)?;
+    put_in_seat(def, shape, &map, pages, block, &seat, row)?;
+    let slot = seat.slot;
     Ok(Some(Rid { block, slot }))
+}
+
+/// The seat of a row in a block. None where the block isn't a Used one of the table that is of the row's cell by the row in its lowest
+/// slot, or has no room. The block map is asked first, and the block's pages are looked at only where it is the table's own.
+fn seat_in_block<P: Pages>(
+    def: &TableDef,
+    shape: Shape,
+    map: &BlockMap,
+    pages: &mut P,
+    block: u32,
+    row: &Row,
+) -> Result<Option<Seat>, StoreFault>
+    requires defined { IsTableDef def.now.number def.now }
+    requires fits { RowFits def.now row.now }
+    requires root { map.now.tree.root ≡ def.now.roots.map }
+    requires within { block < shape.extents }
+    requires going { (P.state pages.old).ended ≡ false }
+    ensures seat { IfOk result (λ found. IfSome found (HasSeat P.Pages shape pages.new def.now map.now.tree block row.now)) }
+    ensures same { (P.state pages.new).work ≡ (P.state pages.old).work }
+    ensures runs { RunsOverPages P.Pages NoPage (IsBlockOrMapPage P.Pages shape pages.old def.now block) (BreaksTable P.Pages shape pages.old def.now) pages.old pages.new (fault_of result) }
+{
+    let slots = shape.extent_pages * u32::from(capacity(&def.columns));
+    let Some(line) = map.find_room(pages, block, slots)? else {
+        return Ok(None);
+    };
+    let Some(slot) = find_seat(def, shape, pages, block, row)? else {
+        return Ok(None);
+    };
+    Ok(Some(Seat { line, slot }))
+}
+
+/// Puts a row into its seat in a block, and counts it.
+fn put_in_seat<P: Pages>(
+    def: &TableDef,
+    shape: Shape,
+    map: &BlockMap,
+    pages: &mut P,
+    block: u32,
+    seat: &Seat,
+    row: &Row,
+) -> Result<(), StoreFault>
+    requires defined { IsTableDef def.now.number def.now }
+    requires fits { RowFits def.now row.now }
+    requires root { map.now.tree.root ≡ def.now.roots.map }
+    requires within { block < shape.extents }
+    requires seat { HasSeat P.Pages shape pages.old def.now map.now.tree block row.now seat.now }
+    requires going { (P.state pages.old).ended ≡ false }
+    ensures fills { OnOk result ((noted : SpaceNotes) (owners : List Kind) (forests : TableForests) → StandsTable P.Pages shape pages.old def.now owners forests
+        → HasRoomFor def.now row.now (slice_index_or (spots_of P.Pages shape pages.old def.now owners forests) block OtherBlock)
+        × FillsSlot P.Pages shape noted pages.old pages.new def.now (record { block = block; slot = seat.now.slot }) row.now owners forests) }
+    ensures makes { OnOk result ((owners : List Kind) (forests : TableForests) → StandsTable P.Pages shape pages.old def.now owners forests
+        → MakesChanges shape (pages_of P.Pages pages.old) (block_changes def.now row.now block (slice_index_or (spots_of P.Pages shape pages.old def.now owners forests) block OtherBlock)) (pages_of P.Pages pages.new)) }
+    ensures count { length (P.state pages.new).work ≡ length (P.state pages.old).work }
+    ensures runs { RunsOverPages P.Pages (IsBlockOrMapPage P.Pages shape pages.old def.now block) (IsBlockOrMapPage P.Pages shape pages.old def.now block)
+        (BreaksTable P.Pages shape pages.old def.now) pages.old pages.new (fault_of result) }
+{
+    map.count_found(pages, &seat.line)?;
+    let slot = seat.slot;
+    put_slot(def, shape, pages, Rid { block, slot }, row)?;
+    Ok(())
 }
 
 /// Puts a row into the lowest empty slot of a block whose line counts it already, and answers that slot. Damaged where no slot is

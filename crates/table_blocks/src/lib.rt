@@ -1,7 +1,7 @@
 //! One block of a table changed, while the rest of the table stands.
 //!
 //! A block comes into use with its first row (`begin_free_block`, `begin_new_block`), takes rows (`put_in_block`, and
-//! `put_if_room` where it isn't known yet whether it has room), has rows written over (`overwrite_row`, and
+//! `put_if_room` where it isn't known yet whether it is of the cell and has room), has rows written over (`overwrite_row`, and
 //! `overwrite_row_of_used` where it is known to be Used), and loses rows until it is Free without the last one (`take_row`). It goes
 //! out of use as a whole too, whatever rows it holds (`release_block`): Free, or Pending, while record indexes still name it. Each
 //! call changes that block, its line in the block map and its entries in the block indexes, and leaves the record indexes.

@@ -9,6 +9,7 @@ use Rattle.mdc_ast.specs.declared.definition.ColumnDef.{ColumnDef}
 use Rattle.mdc_ast.specs.declared.definition.IndexDef.{IndexDef}
 use Rattle.mdc_ast.specs.declared.definition.KeyPart.{KeyPart}
 use Rattle.mdc_ast.specs.declared.definition.TableDef.{TableDef}
+use Rattle.store_api.specs.Format.{Format, first_format}
 use Rattle.key_codec.specs.Keys.{ArePartsOf, key_bytes, width_of_parts}
 use Rattle.entry_tree.specs.declared.tree.Tree.{Tree}
 
@@ -37,9 +38,13 @@ pub record TreePlace : Type 0 where
   pub root : ℕ
   pub width : ℕ
 
--- the block map; its entries are a block of four bytes, a state of one and a number of rows of two
+-- the block map in a format
+abbrev pub map_place_in : Format → TableDef → TreePlace
+map_place_in format def = record { root = def.roots.map; width = format.map_width }
+
+-- the block map in the format of the file
 abbrev pub map_place : TableDef → TreePlace
-map_place def = record { root = def.roots.map; width = 7 }
+map_place def = map_place_in first_format def
 
 -- the composite index, by all dimension columns
 abbrev pub composite_place : TableDef → TreePlace

@@ -22,6 +22,7 @@ telling pages = record {
   ended = false;
   told = None;
   fetched = None;
+  file = None;
   beside = nothing_beside;
 }
 

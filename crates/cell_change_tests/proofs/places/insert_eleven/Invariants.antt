@@ -1,11 +1,10 @@
-use Rattle.std.proofs.Common.{◌≡◌, false, []}
+use Rattle.std.proofs.Common.{◌≡◌, false}
 use Rattle.mdc_ast.specs.TableLimits.{IsTableDef}
 use Rattle.cell_change_tests.proofs.places.insert_eleven.Given as goal
 
--- the definition stays one of a table without indexes, and the store goes on
+-- the definition stays within the limits, and the store goes on
 abbrev pub invariant-loop-i : goal.invariant-loop-i
 invariant-loop-i g l = record {
   defined : IsTableDef l.table.def.number l.table.def;
-  no_indexes : l.table.def.indexes ≡ [];
   going : (g.P.Pages.state l.pages).ended ≡ false;
 }

@@ -4,10 +4,11 @@ use Rattle.row_page.specs.RowPage.{count_rows}
 use Rattle.table_trees.specs.SpaceChanges.{MakesChanges}
 use Rattle.mdc_sound.specs.RunningFull.{taking_changes}
 use Rattle.mdc_sound.specs.StandsForDatabase.{without_row}
-use Rattle.checked_table.proofs.EndingLemmas.{end_row_change, end_unkept, whole_back}
+use Rattle.table_blocks.specs.BlockSteps.{HasThisRow}
+use Rattle.checked_table.proofs.EndingLemmas.{end_expected_change, end_unkept, whole_back}
 use Rattle.checked_table.proofs.ExactDamageLemmas.{answers_none}
 use Rattle.checked_table.proofs.MarkedChangesLemmas.{whole_kept}
-use Rattle.checked_table.proofs.SamePagesLemmas.{deletes_between, if_stood, lies_there, ready_there, row_there, said_between, sound_there, stands_for_there, stays_back, stays_between}
+use Rattle.checked_table.proofs.SamePagesLemmas.{deletes_between, if_stood, lies_there, ready_there, row_there, said_between, sound_there, stands_for_there, stands_there, stays_back, stays_between}
 use Rattle.checked_table.proofs.deleting.delete_row.Goals as goal
 
 pub returns-in-Ok-keep_or_undo : goal.returns-in-Ok-keep_or_undo
@@ -21,7 +22,7 @@ returns-in-Ok-keep_or_undo g c =
       makes = λ owners forests ready slots lies.
           said_between first keeps.pages (λ was is. MakesChanges shape was (taking_changes def c.args.row.now c.args.rid (count_rows slots)) is)
           (c.in-Ok.ensures.makes owners forests (ready_there first ready) slots (lies_there shape def owners forests first lies));
-      stay = λ owners forests ready. stays_between first keeps.pages (c.delete_row.ensures.stay owners forests (ready_there first ready));
+      stay = λ owners forests st. stays_between first keeps.pages (c.delete_row.ensures.stay owners forests (stands_there first st));
       sound = λ owners forests ready has sound. sound_there keeps.pages (c.in-Ok.ensures.sound owners forests (ready_there first ready) (row_there first has) (sound_there first sound));
       stands_for = λ owners forests ready has sound db is.
           stands_for_there c.args.shape def (changed_at db def.number (without_row c.args.row.now.number)) keeps.pages
@@ -40,5 +41,8 @@ returns-in-Err-keep_or_undo g c =
 pub returns-in-Err : goal.returns-in-Err
 returns-in-Err g c =
     let undone = c.undo_change.ensures in
-    let ends = end_row_change c.begin_change.ensures c.in-Err.ensures.runs undone.undoes undone.device undone.forgets undone.exact c.requires.defined c.requires.place in
+    let first = c.begin_change.ensures.pages in
+    let this = HasThisRow g.P.Pages c.args.shape c.args.pages.now c.args.def.now c.args.rid c.args.row.now in
+    let marked = HasThisRow g.P.Pages c.args.shape c.begin_change.new.pages c.args.def.now c.args.rid c.args.row.now in
+    let ends = end_expected_change this marked (λ owners forests has. row_there first has) c.begin_change.ensures c.in-Err.ensures.runs undone.undoes undone.device undone.forgets undone.exact c.requires.defined c.requires.place in
     record { deletes = tt; makes = tt; stay = λ owners forests ready. stays_back ends.left.pages.same; sound = tt; stands_for = tt; count = ap length ends.left.pages.same; exact = ends.left.exact; whole = whole_back ends }

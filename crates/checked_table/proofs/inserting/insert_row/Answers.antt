@@ -9,7 +9,7 @@ use Rattle.mdc_sound.specs.Placing.Spot.{OtherBlock}
 use Rattle.mdc_sound.specs.RunningFull.{InsertRunsFull, putting_changes}
 use Rattle.free_space.specs.RoomNotes.{room_of}
 use Rattle.checked_table.specs.ExactDamage.{JudgesFault}
-use Rattle.checked_table.proofs.EndingLemmas.{end_change, end_unkept, full_back, whole_back}
+use Rattle.checked_table.proofs.EndingLemmas.{end_indexed_change, end_unkept, full_back, whole_back}
 use Rattle.checked_table.proofs.ExactDamageLemmas.{answers_none}
 use Rattle.checked_table.proofs.MarkedChangesLemmas.{whole_kept}
 use Rattle.checked_table.proofs.SamePagesLemmas.{if_stood, inserts_between, ready_there, said_between, sound_there, stands_for_there, stays_between}
@@ -58,7 +58,7 @@ returns-in-Err g c =
     let undo = c.undo_space_change in
     let undone = undo.ensures in
     let judges = subst (λ (d : TableDef). JudgesFault g.P.Pages shape d undo.new.pages (store_part_of c.in-Err.fault) (store_part_of undo.result)) c.in-Err.ensures.kept undone.exact in
-    let ends = end_change c.begin_change.ensures c.in-Err.ensures.runs undone.undoes undone.device undone.forgets judges c.requires.defined c.requires.place in
+    let ends = end_indexed_change c.begin_change.ensures c.in-Err.ensures.runs undone.undoes undone.device undone.forgets judges c.requires.defined c.requires.place in
     let RunsFull : PageList → Type 0 = λ work. InsertRunsFull shape work def (c.args.row.now ∷ []) in
     record {
       inserts = tt;

@@ -9,7 +9,7 @@ use Rattle.checked_table.specs.MissingPlaces.{LacksPlace}
 use Rattle.checked_table.proofs.EndingLemmas.{end_change, end_unkept, full_back, whole_back}
 use Rattle.checked_table.proofs.ExactDamageLemmas.{answers_none, lacks_place}
 use Rattle.checked_table.proofs.MarkedChangesLemmas.{whole_kept}
-use Rattle.checked_table.proofs.SamePagesLemmas.{if_stood, places_between, ready_there, said_between, stays_between}
+use Rattle.checked_table.proofs.SamePagesLemmas.{if_stood, places_between, ready_there, said_between, stands_there, stays_between}
 use Rattle.checked_table.proofs.placing.place_row.Goals as goal
 
 pub returns-in-Ok-keep_or_undo : goal.returns-in-Ok-keep_or_undo
@@ -25,7 +25,7 @@ returns-in-Ok-keep_or_undo g c =
       makes = λ owners forests ready.
           said_between first keeps.pages (λ was is. MakesChanges shape was (block_changes def c.args.row.now rid.block (slice_index_or (table_spots shape was def owners forests.map) rid.block OtherBlock)) is)
           (c.in-Ok.ensures.makes owners forests (ready_there first ready));
-      stay = λ owners forests ready. stays_between first keeps.pages (c.in-Ok.ensures.stay owners forests (ready_there first ready));
+      stay = λ owners forests ready. stays_between first keeps.pages (c.in-Ok.ensures.stay owners forests (stands_there first ready.stands));
       exact = answers_none g.P.Pages shape def c.args.pages.now;
       whole = whole_kept c.begin_change.ensures c.in-Ok.ensures.runs (λ p. if_stood first) keeps c.in-Ok-keep_or_undo.ensures.device;
     }

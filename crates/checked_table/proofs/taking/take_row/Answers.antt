@@ -5,7 +5,7 @@ use Rattle.mdc_sound.specs.RunningFull.{left_changes}
 use Rattle.checked_table.proofs.EndingLemmas.{end_row_change, end_unkept, whole_back}
 use Rattle.checked_table.proofs.ExactDamageLemmas.{answers_none}
 use Rattle.checked_table.proofs.MarkedChangesLemmas.{whole_kept}
-use Rattle.checked_table.proofs.SamePagesLemmas.{changes_between, if_stood, lies_there, ready_there, row_there, said_between, stands_there, stays_back, stays_between, takes_between}
+use Rattle.checked_table.proofs.SamePagesLemmas.{if_stood, lies_there, out_between, ready_there, row_there, said_between, stands_there, stays_back, stays_between, takes_between}
 use Rattle.checked_table.proofs.taking.take_row.Goals as goal
 
 pub returns-in-Ok-keep_or_undo : goal.returns-in-Ok-keep_or_undo
@@ -16,13 +16,11 @@ returns-in-Ok-keep_or_undo g c =
     let keeps = c.in-Ok-keep_or_undo.ensures.keeps in
     record {
       takes = λ owners forests ready has. takes_between first keeps.pages (c.in-Ok.ensures.takes owners forests (ready_there first ready) (row_there first has));
-      leaves = λ owners forests st has.
-          let left = c.in-Ok.ensures.leaves owners forests (stands_there first st) (row_there first has) in
-          (left.0, left.1, changes_between first keeps.pages left.2, left.3);
+      leaves = λ owners forests st has. out_between first keeps.pages (c.in-Ok.ensures.leaves owners forests (stands_there first st) (row_there first has));
       makes = λ owners forests ready slots lies.
           said_between first keeps.pages (λ was is. MakesChanges shape was (left_changes def c.args.row.now c.args.rid.block (count_rows slots)) is)
-          (c.in-Ok.ensures.makes owners forests (ready_there first ready) slots (lies_there shape def owners forests first lies));
-      stay = λ owners forests ready. stays_between first keeps.pages (c.take_row.ensures.stay owners forests (ready_there first ready));
+          (c.in-Ok.ensures.makes owners forests (stands_there first ready.stands) slots (lies_there shape def owners forests first lies));
+      stay = λ owners forests ready. stays_between first keeps.pages (c.take_row.ensures.stay owners forests (stands_there first ready.stands));
       count = ap length keeps.pages.same ∙ (c.take_row.ensures.count ∙ ap length first.same);
       exact = λ has. answers_none g.P.Pages shape def c.args.pages.now;
       whole = whole_kept c.begin_change.ensures c.in-Ok.ensures.runs (λ p. if_stood first) keeps c.in-Ok-keep_or_undo.ensures.device;

@@ -1,11 +1,13 @@
 -- The verdict on the store that was opened, or that of a refusal.
-use Rattle.std.proofs.Common.{◌≡◌, ℕ, List, Some, ap, inl, inr, refl, subst, ◌∙◌, arith}
+use Rattle.std.proofs.Common.{◌≡◌, ℕ, List, Option, Some, ap, inl, inr, refl, subst, ◌∙◌, arith}
+use Rattle.std.specs.Option.{option_map}
 use Rattle.mdc_words.proofs.FaultsLemmas.{counts_fault_as, counts_fault_then}
 use Rattle.mdc_outside.specs.Disk.{File, IsImage}
 use Rattle.store_api.specs.declared.shape.Shape.{Shape}
 use Rattle.table_trees.specs.ToldPages.{PageList}
 use Rattle.page_store.proofs.Judged.{served_formed}
 use Rattle.page_store.specs.Faults.{MayComeFirst}
+use Rattle.page_store.specs.Opened.{file_bytes, opened_bytes}
 use Rattle.page_store.specs.Standing.{pages_in}
 use Rattle.file_verdict.specs.Resting.{ComesToRest, StandsAsBefore}
 use Rattle.file_verdict.specs.SoundFile.{StatesExtents}
@@ -83,6 +85,13 @@ returns-in-Ok-clause-leaves g c = λ before said is told formed judged.
 pub returns-in-Ok-clause-left_alone : goal.returns-in-Ok-clause-left_alone
 returns-in-Ok-clause-left_alone g c = λ file is unserved. absurd (unserved (c.in-Ok.ensures.served file is).0)
 
+pub returns-in-Ok-clause-writes : goal.returns-in-Ok-clause-writes
+returns-in-Ok-clause-writes g c = λ file is.
+    let opened = c.in-Ok.ensures in
+    let after : file_bytes (g.H.Disk.file c.judge_store.result.host) ≡ Some (opened_bytes file.bytes) =
+    c.judge_store.ensures.same_bytes ∙ (opened.writes ∙ ap (λ (told : Option File). option_map opened_bytes (file_bytes told)) is) in
+    record { at_most = λ other. inr ((opened.served file is).0, after); opened = λ judged served. after }
+
 pub returns-in-Ok-clause-device : goal.returns-in-Ok-clause-device
 returns-in-Ok-clause-device g c = counts_fault_then c.in-Ok.ensures.count c.judge_store.ensures.device
 
@@ -118,6 +127,12 @@ returns-in-Err-clause-leaves g c = λ before said is told formed judged. elim c.
 
 pub returns-in-Err-clause-left_alone : goal.returns-in-Err-clause-left_alone
 returns-in-Err-clause-left_alone g c = λ file is unserved. (c.in-Err.ensures.unserved file is unserved, λ other. c.in-Err.ensures.untouched (λ fault. other (c.verdict_of_opening.ensures.device.1 fault)))
+
+pub returns-in-Err-clause-writes : goal.returns-in-Err-clause-writes
+returns-in-Err-clause-writes g c = λ file is. record {
+  at_most = λ other. inl (c.in-Err.ensures.untouched (λ fault. other (c.verdict_of_opening.ensures.device.1 fault)) ∙ ap file_bytes is);
+  opened = λ judged served. absurd (judged (c.verdict_of_opening.ensures.no_verdict (refused_served c.in-Err.field-0.fault file.bytes served (c.in-Err.ensures.refused file is))));
+}
 
 pub returns-in-Err-clause-device : goal.returns-in-Err-clause-device
 returns-in-Err-clause-device g c = counts_fault_as c.verdict_of_opening.ensures.device.0 c.verdict_of_opening.ensures.device.1 c.in-Err.ensures.cause

@@ -2,6 +2,7 @@
 use Rattle.std.proofs.Common.{◌≡◌, ◌≤◌, is_some, subst, sym, ◌∙◌, ap}
 use Rattle.std.proofs.lemmas.Result.{IfOk-weaker}
 use Rattle.page_store.proofs.BesideLemmas.{beside_of-attaches, beside_of-shape}
+use Rattle.page_store.specs.Opened.{file_bytes}
 use Rattle.file_verdict.proofs.JudgingLemmas.{found_counted, found_on_pages, left_base, same_beside}
 use Rattle.file_verdict.proofs.ToldLemmas.{stays_by_test, told_by_test}
 use Rattle.file_verdict.proofs.judging.judge_store.Given.{Over}
@@ -58,3 +59,6 @@ returns-clause-told g c =
 
 pub returns-clause-later : goal.returns-clause-later
 returns-clause-later g c = subst (λ host. g.H.Disk.clock c.args.store.host ≤ g.H.Disk.clock host) (sym c.close.ensures.same) c.check-verdict.ensures.runs.works.steady.time.later
+
+pub returns-clause-same_bytes : goal.returns-clause-same_bytes
+returns-clause-same_bytes g c = ap (λ host. file_bytes (g.H.Disk.file host)) c.close.ensures.same ∙ c.check-verdict.ensures.runs.works.steady.file

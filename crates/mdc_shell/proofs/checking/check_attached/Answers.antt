@@ -2,10 +2,12 @@
 use Rattle.std.proofs.Common.{◌≡◌, ◌∙◌, ℕ, List, Option, Some, Err, ap, subst, sym}
 use Rattle.mdc_outside.specs.Disk.{File, IsImage}
 use Rattle.page_file.proofs.LeavesLemmas.{sound_image}
+use Rattle.page_store.specs.Opened.{file_bytes}
 use Rattle.page_store.specs.Standing.{IsFormed}
 use Rattle.script_session.proofs.ToldLemmas.{same-told, told_then}
 use Rattle.file_verdict.specs.Resting.{StandsAsBefore}
 use Rattle.file_verdict.specs.SoundFile.{IsSoundFile}
+use Rattle.file_verdict.specs.Written.{IsSameOrOpened}
 use Rattle.file_verdict.proofs.RestingLemmas.{each_since, leaves_since}
 use Rattle.file_verdict.proofs.SoundFilesLemmas.{sound_standing}
 use Rattle.file_session.specs.Well.{IsWell}
@@ -70,6 +72,18 @@ returns-clause-keeps_unserved g c = λ before is not_served.
       after.2,
       λ not_failed. same_bytes _ _ before after.0 is after.1 (alone.1 (λ e. not_failed ((c.say_verdict.ensures.quiet (ap line_of_verdict e)).1 ∙ ap status_of_verdict e))),
     )
+
+pub returns-clause-writes : goal.returns-clause-writes
+returns-clause-writes g c = λ file is.
+    let verdict = c.judge_file-judged.result.verdict in
+    let judged = c.judge_file-judged.ensures.writes file is in
+    let same = ap file_bytes c.say_verdict.ensures.disk.same_file in
+    record {
+      at_most = λ not_failed.
+          subst (IsSameOrOpened file.bytes) (sym same) (judged.at_most (λ e. not_failed ((c.say_verdict.ensures.quiet (ap line_of_verdict e)).1 ∙ ap status_of_verdict e)));
+      opened = λ settled served.
+          same ∙ judged.opened (λ none. settled (subst IsUnsettled (sym (c.say_verdict.ensures.quiet (no_verdict-quiet verdict none)).1) (no_verdict-unsettled verdict none))) served;
+    }
 
 pub returns-clause-stands : goal.returns-clause-stands
 returns-clause-stands g c = λ before said is told formed settled.

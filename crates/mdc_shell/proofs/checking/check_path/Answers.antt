@@ -38,6 +38,9 @@ returns-in-Ok-clause-unserved g c = λ before said is told not_served.
 pub returns-in-Ok-clause-keeps_unserved : goal.returns-in-Ok-clause-keeps_unserved
 returns-in-Ok-clause-keeps_unserved g c = λ before is not_served. c.check_attached.ensures.keeps_unserved (opened before) (c.in-Ok.ensures.opened ∙ ap (option_map opened) is) not_served
 
+pub returns-in-Ok-clause-writes : goal.returns-in-Ok-clause-writes
+returns-in-Ok-clause-writes g c = λ file is. c.check_attached.ensures.writes (opened file) (c.in-Ok.ensures.opened ∙ ap (option_map opened) is)
+
 pub returns-in-Ok-clause-stands : goal.returns-in-Ok-clause-stands
 returns-in-Ok-clause-stands g c = λ before said is told formed settled.
     let lies = g.met.H.Host.lies_beside in
@@ -97,6 +100,9 @@ returns-in-Err-clause-unserved g c = λ before said is told not_served.
 pub returns-in-Err-clause-keeps_unserved : goal.returns-in-Err-clause-keeps_unserved
 returns-in-Err-clause-keeps_unserved g c = λ before is not_served.
     (before, attach_failed _ _ c.in-Err.ensures.file_failed ∙ is, sound_image (g.H.Disk.file c.args.host) before (g.met.H.Disk.sound c.args.host) is, λ not_failed. refl)
+
+pub returns-in-Err-clause-writes : goal.returns-in-Err-clause-writes
+returns-in-Err-clause-writes g c = λ file is. record { at_most = λ not_failed. absurd (not_failed refl); opened = λ settled served. absurd (settled (inl refl)) }
 
 pub returns-in-Err-clause-stands : goal.returns-in-Err-clause-stands
 returns-in-Err-clause-stands g c = λ before said is told formed settled. absurd (settled (inl refl))

@@ -1,7 +1,8 @@
-use Rattle.std.proofs.Common.{◌∙◌, Err, inl, inr, refl, sym}
+use Rattle.std.proofs.Common.{◌∙◌, Err, ap, inl, inr, refl, sym}
 use Rattle.mdc_words.specs.Time.{OverTime}
 use Rattle.mdc_words.proofs.TimeLemmas.{over_time_none}
 use Rattle.page_file.proofs.LeavesLemmas.{sound_image}
+use Rattle.page_store.specs.Opened.{file_bytes}
 use Rattle.file_verdict.specs.declared.unjudged.Unjudged.TheVariants as unjudged
 use Rattle.file_session.specs.declared.stop.FileStop.TheVariants.{Memory}
 use Rattle.mdc_shell.specs.Leaving.{LeftByCreate}
@@ -171,6 +172,11 @@ returns-in-Ok-None-clause-checks_formed g c = λ path line.
     let asked = rw (c.in-Ok-None.field-0-is, c.as_slice.ensures.value) at c.in-Ok-None.ensures in
     absurd (asked (CheckFile path) line)
 
+pub returns-in-Ok-None-clause-checks_writes : goal.returns-in-Ok-None-clause-checks_writes
+returns-in-Ok-None-clause-checks_writes g c = λ path line.
+    let asked = rw (c.in-Ok-None.field-0-is, c.as_slice.ensures.value) at c.in-Ok-None.ensures in
+    absurd (asked (CheckFile path) line)
+
 pub returns-in-Ok-None-clause-checks_stands : goal.returns-in-Ok-None-clause-checks_stands
 returns-in-Ok-None-clause-checks_stands g c = λ path line.
     let asked = rw (c.in-Ok-None.field-0-is, c.as_slice.ensures.value) at c.in-Ok-None.ensures in
@@ -219,6 +225,9 @@ returns-in-Err-clause-checks_sound g c = λ path line before is sound. inr (inr 
 
 pub returns-in-Err-clause-checks_formed : goal.returns-in-Err-clause-checks_formed
 returns-in-Err-clause-checks_formed g c = λ path line before said is told formed. checks_formed-before g.H.Disk before said _ c.args.host c.args.host (Err unjudged.Memory) tt told over_time_none
+
+pub returns-in-Err-clause-checks_writes : goal.returns-in-Err-clause-checks_writes
+returns-in-Err-clause-checks_writes g c = λ path line file is. record { at_most = λ not_failed. inl (ap file_bytes is); opened = λ settled served. absurd (settled (inr refl)) }
 
 pub returns-in-Err-clause-checks_stands : goal.returns-in-Err-clause-checks_stands
 returns-in-Err-clause-checks_stands g c = λ path line before said is told formed settled. absurd (settled (inr refl))

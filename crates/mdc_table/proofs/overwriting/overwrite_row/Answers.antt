@@ -21,13 +21,17 @@ pub returns-clause-overwrites : goal.returns-clause-overwrites
 returns-clause-overwrites g c =
     row_overwritten g.P.Pages c.args.shape c.args.pages.now c.overwrite_row.new.pages c.args.def.now c.args.rid c.args.row.now (room_of c.args.rooms.now) c.overwrite_row.result c.overwrite_row.ensures.overwrites
 
+pub returns-clause-leaves : goal.returns-clause-leaves
+returns-clause-leaves g c =
+    on_ok_weaker c.overwrite_row.result (λ turns noted owners forests was st has. (turns noted owners forests was has.slots st has.lies has.one_cell).changes) c.overwrite_row.ensures.overwrites
+
 pub returns-clause-makes : goal.returns-clause-makes
 returns-clause-makes g c =
     IfOk-weaker c.overwrite_row.result _ _ (λ done makes noted owners forests ready has. makes owners forests ready.stands has) c.overwrite_row.ensures.makes
 
 pub returns-clause-stay : goal.returns-clause-stay
-returns-clause-stay g c noted owners forests ready =
-    keeps_in_block c.args.shape c.args.pages.now c.args.pages.now c.overwrite_row.new.pages c.args.def.now owners forests refl refl ready.stands c.args.rid.block c.overwrite_row.ensures.runs.touches
+returns-clause-stay g c owners forests st =
+    keeps_in_block c.args.shape c.args.pages.now c.args.pages.now c.overwrite_row.new.pages c.args.def.now owners forests refl refl st c.args.rid.block c.overwrite_row.ensures.runs.touches
 
 pub returns-clause-runs : goal.returns-clause-runs
 returns-clause-runs g c =
@@ -38,13 +42,17 @@ returns-then-eq-clause-overwrites g c =
     row_overwritten g.P.Pages c.args.shape c.args.pages.now c.overwrite_row_of_used.new.pages c.args.def.now c.args.rid c.args.row.now (room_of c.args.rooms.now) c.overwrite_row_of_used.result
     c.overwrite_row_of_used.ensures.overwrites
 
+pub returns-then-eq-clause-leaves : goal.returns-then-eq-clause-leaves
+returns-then-eq-clause-leaves g c =
+    on_ok_weaker c.overwrite_row_of_used.result (λ turns noted owners forests was st has. (turns noted owners forests was has.slots st has.lies has.one_cell).changes) c.overwrite_row_of_used.ensures.overwrites
+
 pub returns-then-eq-clause-makes : goal.returns-then-eq-clause-makes
 returns-then-eq-clause-makes g c =
     IfOk-weaker c.overwrite_row_of_used.result _ _ (λ done makes noted owners forests ready has. makes owners forests ready.stands has) c.overwrite_row_of_used.ensures.makes
 
 pub returns-then-eq-clause-stay : goal.returns-then-eq-clause-stay
-returns-then-eq-clause-stay g c noted owners forests ready =
-    keeps_but_one c.args.shape c.args.pages.now c.args.pages.now c.overwrite_row_of_used.new.pages c.args.def.now owners forests refl refl ready.stands c.args.rid.block c.overwrite_row_of_used.ensures.runs.touches
+returns-then-eq-clause-stay g c owners forests st =
+    keeps_but_one c.args.shape c.args.pages.now c.args.pages.now c.overwrite_row_of_used.new.pages c.args.def.now owners forests refl refl st c.args.rid.block c.overwrite_row_of_used.ensures.runs.touches
 
 pub returns-then-eq-clause-runs : goal.returns-then-eq-clause-runs
 returns-then-eq-clause-runs g c =

@@ -2,13 +2,17 @@ use Rattle.std.proofs.Common.{◌≡◌, None, Some, subst}
 use Rattle.store_api.proofs.RunsOverPagesLemmas.{runs_exit_as}
 use Rattle.extent_map.specs.Damages.{store_part_of}
 use Rattle.entry_tree.proofs.ClaimsLemmas.{if_err_by}
+use Rattle.std.specs.Prelude.{slice_index_or}
 use Rattle.block_map.specs.BlockMaps.{FindsFree}
+use Rattle.mdc_sound.specs.Placing.Spot.{OtherBlock}
+use Rattle.mdc_sound.specs.StandingTable.{spots_of}
 use Rattle.mdc_sound.proofs.StandingTableLemmas.{stands_same}
 use Rattle.table_blocks.specs.BlockSteps.{HasFreeBlock}
 use Rattle.free_space.proofs.TableRunsLemmas.{holds_block_map, runs_broken}
+use Rattle.mdc_table.proofs.AnyPlaceLemmas.{is_free_block, new_block_free}
 use Rattle.mdc_table.proofs.KeptBlocksLemmas.{if_ok_all, keeps_in_space, keeps_in_trees, runs_of_space, runs_of_trees}
 use Rattle.mdc_table.proofs.NextBlocksLemmas.{begins_free, begins_new, full_along, full_result_along, past_breaks, runs_in_space, runs_space_expecting, runs_space_then}
-use Rattle.mdc_table.proofs.RowSpaceLemmas.{free_block_full, free_block_makes, new_block_full, new_block_makes}
+use Rattle.mdc_table.proofs.RowSpaceLemmas.{free_block_full, free_block_makes, new_block_full, new_block_makes, spot_of_free_block}
 use Rattle.mdc_table.proofs.StandingBlocksLemmas.{runs_map}
 use Rattle.mdc_table.proofs.placing.begin_block.Goals as goal
 
@@ -27,6 +31,10 @@ returns-in_default-clause-begins g c =
     begins_new g.P.Pages shape c.args.notes.now c.begin_new_block.new.notes s c.first_free.new.pages c.begin_new_block.new.pages def c.args.row.now c.begin_new_block.result c.in_ok-block.ensures.runs.works.steady.is_told c.first_free.ensures.same
     (λ owners forests st. subst (FindsFree forests.map 0) c.in_default.is (c.in_ok-block.ensures.found forests.map (holds_block_map shape s def map.tree owners forests c.at-map.ensures map.seven st) st.map.entries))
     c.begin_new_block.ensures.begins c.begin_new_block.ensures.lowest
+
+pub returns-in_default-clause-free : goal.returns-in_default-clause-free
+returns-in_default-clause-free g c =
+    new_block_free g.P.Pages c.args.shape c.args.pages.now c.first_free.new.pages c.args.def.now c.in_ok-block.ensures.runs.works.steady.is_told c.first_free.ensures.same c.begin_new_block.result c.begin_new_block.ensures.free
 
 pub returns-in_default-clause-full : goal.returns-in_default-clause-full
 returns-in_default-clause-full g c =
@@ -116,6 +124,15 @@ returns-clause-begins g c owners forests st =
     let lowest = subst (FindsFree forests.map 0) c.in-Some.is (c.in_ok-block.ensures.found forests.map (holds_block_map shape s def map.tree owners forests c.at-map.ensures map.seven st) st.map.entries) in
     begins_free shape c.args.notes.now c.begin_free_block.new.notes s c.first_free.new.pages c.begin_free_block.new.pages def owners forests told same c.in-Some.block c.args.row.now lowest
     (c.in_ok-begin_free_block.ensures.begins owners forests (stands_same shape s c.first_free.new.pages def owners forests told same st) lowest.free)
+
+pub returns-clause-free : goal.returns-clause-free
+returns-clause-free g c owners forests st =
+    let map = c.at-map.result in
+    let shape = c.args.shape in
+    let def = c.args.def.now in
+    let s = c.args.pages.now in
+    let lowest = subst (FindsFree forests.map 0) c.in-Some.is (c.in_ok-block.ensures.found forests.map (holds_block_map shape s def map.tree owners forests c.at-map.ensures map.seven st) st.map.entries) in
+    is_free_block (slice_index_or (spots_of g.P.Pages shape s def owners forests) c.in-Some.block OtherBlock) (spot_of_free_block shape s def owners forests st c.in-Some.block lowest)
 
 pub returns-clause-runs : goal.returns-clause-runs
 returns-clause-runs g c =

@@ -6,7 +6,7 @@ use Rattle.mdc_sound.specs.StandingTable.{RoomNote, spots_of}
 use Rattle.free_space.specs.FoundRoom.{FindsRoom}
 use Rattle.free_space.specs.RoomNotes.{room_of}
 use Rattle.mdc_table.proofs.NextBlocksLemmas.{runs_in_space}
-use Rattle.mdc_table.proofs.SearchedRoomLemmas.{SearchesRoom, block_makes, block_placed, block_run, block_stays, next_full, next_makes, next_placed, next_run, next_stays}
+use Rattle.mdc_table.proofs.SearchedRoomLemmas.{SearchesRoom, block_anywhere, block_makes, block_placed, block_run, block_stays, next_anywhere, next_full, next_makes, next_placed, next_run, next_stays}
 use Rattle.mdc_table.proofs.placing.place_by_search.Given.{Over}
 use Rattle.mdc_table.proofs.placing.place_by_search.Goals.{In_ok-line}
 use Rattle.mdc_table.proofs.placing.place_by_search.Goals as goal
@@ -50,13 +50,17 @@ pub returns-in_default-clause-places : goal.returns-in_default-clause-places
 returns-in_default-clause-places g c =
     next_placed (searched g (goal.at.returns-in_default-clause-places g c).In_ok-line) c.in_default.is c.args.notes.now c.begin_block.new.notes c.begin_block.new.pages c.note.new.self c.in_ok-block.block c.in_ok-block.ensures.begins c.note.ensures
 
+pub returns-in_default-clause-anywhere : goal.returns-in_default-clause-anywhere
+returns-in_default-clause-anywhere g c =
+    next_anywhere (searched g (goal.at.returns-in_default-clause-anywhere g c).In_ok-line) c.args.notes.now c.begin_block.new.notes c.begin_block.new.pages c.in_ok-block.block c.in_ok-block.ensures.begins c.in_ok-block.ensures.free
+
 pub returns-in_default-clause-makes : goal.returns-in_default-clause-makes
 returns-in_default-clause-makes g c =
     next_makes (searched g (goal.at.returns-in_default-clause-makes g c).In_ok-line) c.args.notes.now c.begin_block.new.pages c.in_ok-block.block c.in_ok-block.ensures.makes
 
 pub returns-in_default-clause-stay : goal.returns-in_default-clause-stay
 returns-in_default-clause-stay g c =
-    next_stays (searched g (goal.at.returns-in_default-clause-stay g c).In_ok-line) c.args.notes.now c.begin_block.new.pages c.in_ok-block.block c.in_ok-block.ensures.stay
+    next_stays (searched g (goal.at.returns-in_default-clause-stay g c).In_ok-line) c.begin_block.new.pages c.in_ok-block.block c.in_ok-block.ensures.stay
 
 pub returns-in_default-clause-runs : goal.returns-in_default-clause-runs
 returns-in_default-clause-runs g c = next_run (searched g (goal.at.returns-in_default-clause-runs g c).In_ok-line) c.in_ok-block.ensures.runs
@@ -73,6 +77,11 @@ returns-clause-places g c =
     let put = c.in_ok-put_in_block.ensures in
     block_placed (searched g (goal.at.returns-clause-places g c).In_ok-line) c.in-Some.line c.in-Some.is c.args.notes.now c.put_in_block.new.pages c.note-2.new.self c.in_ok-put_in_block.field-0 put.block (put.fills c.args.notes.now) c.note-2.ensures
 
+pub returns-clause-anywhere : goal.returns-clause-anywhere
+returns-clause-anywhere g c =
+    let put = c.in_ok-put_in_block.ensures in
+    block_anywhere (searched g (goal.at.returns-clause-anywhere g c).In_ok-line) c.in-Some.line c.in-Some.is c.args.notes.now c.put_in_block.new.pages c.in_ok-put_in_block.field-0 put.block (put.fills c.args.notes.now)
+
 pub returns-clause-makes : goal.returns-clause-makes
 returns-clause-makes g c =
     let put = c.in_ok-put_in_block.ensures in
@@ -81,7 +90,7 @@ returns-clause-makes g c =
 pub returns-clause-stay : goal.returns-clause-stay
 returns-clause-stay g c =
     let put = c.in_ok-put_in_block.ensures in
-    block_stays (searched g (goal.at.returns-clause-stay g c).In_ok-line) c.in-Some.line c.in-Some.is c.args.notes.now c.put_in_block.new.pages c.in_ok-put_in_block.field-0.block put.block put.runs.touches
+    block_stays (searched g (goal.at.returns-clause-stay g c).In_ok-line) c.in-Some.line c.in-Some.is c.put_in_block.new.pages c.in_ok-put_in_block.field-0.block put.block put.runs.touches
 
 pub returns-clause-runs : goal.returns-clause-runs
 returns-clause-runs g c = block_run (searched g (goal.at.returns-clause-runs g c).In_ok-line) c.in-Some.line c.in-Some.is c.in_ok-put_in_block.ensures.runs

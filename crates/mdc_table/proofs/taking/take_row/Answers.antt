@@ -3,7 +3,7 @@ use Rattle.store_api.proofs.RunsOverPagesLemmas.{runs_exit, runs_none}
 use Rattle.free_space.specs.RoomNotes.{room_of}
 use Rattle.free_space.proofs.TableRunsLemmas.{runs_broken}
 use Rattle.mdc_table.proofs.KeptBlocksLemmas.{keeps_in_block, runs_of_block}
-use Rattle.mdc_table.proofs.TakingRowsLemmas.{not_this_row_there, row_taken, row_taken_of_several}
+use Rattle.mdc_table.proofs.TakingRowsLemmas.{not_this_row_there, row_taken, row_taken_of_several, taken_anywhere}
 use Rattle.mdc_table.proofs.taking.take_row.Goals.{then-rid-shape-via-then-rid-shape, then-rid-shape-via-else-rid-shape+then-from-slots}
 use Rattle.mdc_table.proofs.taking.take_row.Goals as goal
 
@@ -16,8 +16,8 @@ returns-then-rid-shape-clause-runs g c =
     ]))
 
 pub returns-in_err-take_row-clause-stay : goal.returns-in_err-take_row-clause-stay
-returns-in_err-take_row-clause-stay g c owners forests ready =
-    keeps_in_block c.args.shape c.args.pages.now c.args.pages.now c.take_row.new.pages c.args.def.now owners forests refl refl ready.stands c.args.rid.block c.in_err-take_row.ensures.runs.touches
+returns-in_err-take_row-clause-stay g c owners forests st =
+    keeps_in_block c.args.shape c.args.pages.now c.args.pages.now c.take_row.new.pages c.args.def.now owners forests refl refl st c.args.rid.block c.in_err-take_row.ensures.runs.touches
 
 pub returns-in_err-take_row-clause-runs : goal.returns-in_err-take_row-clause-runs
 returns-in_err-take_row-clause-runs g c =
@@ -36,25 +36,25 @@ returns-clause-takes g c owners forests ready has =
 
 pub returns-then-left-slots-clause-leaves : goal.returns-then-left-slots-clause-leaves
 returns-then-left-slots-clause-leaves g c owners forests st has =
-    let empties = c.in_ok-take_row.ensures.takes owners forests st has in (empties.owners_now, empties.forests_now, empties.turns.changes, empties.turns.records)
+    taken_anywhere c.args.shape c.args.notes.now c.take_row.new.notes c.args.pages.now c.take_row.new.pages c.args.def.now c.args.rid c.args.row.now owners forests (c.in_ok-take_row.ensures.takes owners forests st has)
 
 pub returns-clause-leaves : goal.returns-clause-leaves
 returns-clause-leaves g c owners forests st has =
-    let empties = c.in_ok-take_row.ensures.takes owners forests st has in (empties.owners_now, empties.forests_now, empties.turns.changes, empties.turns.records)
+    taken_anywhere c.args.shape c.args.notes.now c.take_row.new.notes c.args.pages.now c.take_row.new.pages c.args.def.now c.args.rid c.args.row.now owners forests (c.in_ok-take_row.ensures.takes owners forests st has)
 
 pub returns-then-left-slots-clause-makes : goal.returns-then-left-slots-clause-makes
-returns-then-left-slots-clause-makes g c owners forests ready slots lies = c.in_ok-take_row.ensures.makes owners forests ready.stands slots lies
+returns-then-left-slots-clause-makes g c = c.in_ok-take_row.ensures.makes
 
 pub returns-clause-makes : goal.returns-clause-makes
-returns-clause-makes g c owners forests ready slots lies = c.in_ok-take_row.ensures.makes owners forests ready.stands slots lies
+returns-clause-makes g c = c.in_ok-take_row.ensures.makes
 
 pub returns-then-left-slots-clause-stay : goal.returns-then-left-slots-clause-stay
-returns-then-left-slots-clause-stay g c owners forests ready =
-    keeps_in_block c.args.shape c.args.pages.now c.args.pages.now c.take_row.new.pages c.args.def.now owners forests refl refl ready.stands c.args.rid.block c.in_ok-take_row.ensures.runs.touches
+returns-then-left-slots-clause-stay g c owners forests st =
+    keeps_in_block c.args.shape c.args.pages.now c.args.pages.now c.take_row.new.pages c.args.def.now owners forests refl refl st c.args.rid.block c.in_ok-take_row.ensures.runs.touches
 
 pub returns-clause-stay : goal.returns-clause-stay
-returns-clause-stay g c owners forests ready =
-    keeps_in_block c.args.shape c.args.pages.now c.args.pages.now c.take_row.new.pages c.args.def.now owners forests refl refl ready.stands c.args.rid.block c.in_ok-take_row.ensures.runs.touches
+returns-clause-stay g c owners forests st =
+    keeps_in_block c.args.shape c.args.pages.now c.args.pages.now c.take_row.new.pages c.args.def.now owners forests refl refl st c.args.rid.block c.in_ok-take_row.ensures.runs.touches
 
 pub returns-then-left-slots-clause-runs : goal.returns-then-left-slots-clause-runs
 returns-then-left-slots-clause-runs g c = runs_of_block c.args.shape c.args.def.now {fault = None} c.args.rid.block c.in_ok-take_row.ensures.runs

@@ -1,9 +1,10 @@
 -- The sync has all on the disk, so what is found then is what the file read as before.
 use Rattle.std.proofs.Common.{inl, inr, refl, ap, ◌∙◌}
-use Rattle.std.proofs.lemmas.Result.{IfOk-weaker, IfErr-weaker}
+use Rattle.std.proofs.lemmas.Result.{IfOk-weaker, IfErr-weaker, on_ok_weaker}
+use Rattle.std.specs.Option.{option_map}
 use Rattle.mdc_outside.specs.Disk.{settled}
 use Rattle.page_store.specs.declared.fault.OpenFault.TheVariants.{Device}
-use Rattle.page_store.specs.Opened.{file_bytes}
+use Rattle.page_store.specs.Opened.{file_bytes, opened_bytes}
 use Rattle.page_file.proofs.LeavesLemmas.{sound_image}
 use Rattle.page_file.proofs.LeavesLemmas.{runs_leave}
 use Rattle.page_store.proofs.Openings.{opens, read_leaves, on_ok, if_err, if_err_as, settled_bytes, settled_told}
@@ -47,3 +48,6 @@ returns-clause-opens g c = on_ok c.recover.result (opens c.in_ok-settle.ensures.
 
 pub returns-clause-opens_or_leaves : goal.returns-clause-opens_or_leaves
 returns-clause-opens_or_leaves g c = if_err c.recover.result (λ fault. inl (opens c.in_ok-settle.ensures.settled c.settle.ensures.runs (g.met.D.Disk.only_now c.settle.new.disk) c.recover.ensures.leaves))
+
+pub returns-clause-writes : goal.returns-clause-writes
+returns-clause-writes g c = on_ok_weaker c.recover.result (λ written. written ∙ ap (option_map opened_bytes) (settled_bytes _ _ c.in_ok-settle.ensures.settled)) c.recover.ensures.writes

@@ -1,6 +1,7 @@
 -- Where no journal counts, the file rests as it was found; else it rests after the repair, and stands for the same pages.
 use Rattle.std.proofs.Common.{ap, sym, refl, ◌∙◌}
 use Rattle.page_store.specs.declared.fault.OpenFault.TheVariants.{Device}
+use Rattle.page_store.proofs.BroughtLemmas.{opened_closed, opened_home}
 use Rattle.page_store.proofs.Openings.{if_err, if_err_as}
 use Rattle.page_store.proofs.Judged.{found_at_rest, rests_as_found, served_formed}
 use Rattle.page_store.proofs.Repairs.{home_keeps, home_rests, keeps_then, looked_leaves}
@@ -59,3 +60,13 @@ returns-in_err-found-clause-unserved g c = if_err c.from_residual.result (λ fau
 pub returns-in_err-bring_home-clause-unserved : goal.returns-in_err-bring_home-clause-unserved
 returns-in_err-bring_home-clause-unserved g c =
     if_err c.from_residual-in_err-bring_home.result (λ fault file is unserved. absurd (unserved (c.in_ok-found.ensures.served file is).0))
+
+pub returns-in_default-clause-writes : goal.returns-in_default-clause-writes
+returns-in_default-clause-writes g c =
+    opened_closed _ _ c.inspect.ensures.same (λ file is. rw c.in_default.is at (c.in_ok-found.ensures.served file is).1)
+
+pub returns-clause-writes : goal.returns-clause-writes
+returns-clause-writes g c =
+    opened_home c.lend.result _ _ _ c.inspect.ensures.same c.in_ok-bring_home.ensures.brought (λ file is.
+    let counting = rw c.in-Some.is at (c.in_ok-found.ensures.served file is).1 in
+    (counting.0, c.lend.ensures ∙ (ap (λ journal. journal.images) c.in-Some.journal-is ∙ counting.2)))

@@ -1,6 +1,8 @@
 -- What counts stands still while it is written home.
+use Rattle.std.proofs.lemmas.Result.{on_ok_weaker}
 use Rattle.page_file.proofs.LeavesLemmas.{leaves_as}
 use Rattle.page_file.proofs.LeavesLemmas.{sound_image}
+use Rattle.page_store.proofs.BroughtLemmas.{brought}
 use Rattle.page_store.proofs.Calls.{home_leaves, closed_leaves, closed_at_rest, ready_to_close}
 use Rattle.page_store.proofs.Reaches.{home_reaches, gate_reaches, no_longer_then}
 use Rattle.page_store.proofs.write_through.bring_home.Goals as goal
@@ -29,3 +31,7 @@ returns-clause-reach g c =
     no_longer_then (home_reaches c.args.images.now (λ f is. sound_image _ f (g.met.D.Disk.sound c.home.new.disk) is) c.requires.counts c.requires.formed c.home.ensures.runs)
     (gate_reaches (λ f is. sound_image _ f (g.met.D.Disk.sound c.close_gate.new.disk) is) (ready_to_close c.args.images.now (home_leaves c.args.images.now (λ f is. sound_image _ f (g.met.D.Disk.sound c.home.new.disk) is) c.requires.counts c.requires.formed c.home.ensures.runs) c.in_ok-home.ensures.home)
     c.close_gate.ensures.runs)
+
+pub returns-clause-brought : goal.returns-clause-brought
+returns-clause-brought g c =
+    on_ok_weaker c.close_gate.result (brought c.args.images.now (g.D.Disk.file c.close_gate.new.disk) c.home.ensures.runs c.in_ok-home.ensures.written) c.close_gate.ensures.written

@@ -1,10 +1,7 @@
 use Rattle.std.proofs.Common.{refl}
 use Rattle.store_api.proofs.RunsOverPagesLemmas.{runs_exit, runs_wider}
-use Rattle.script_engine.proofs.DefinedTablesLemmas.{no_dropping_damage, no_indexes_at, removed, served_less}
+use Rattle.script_engine.proofs.DefinedTablesLemmas.{no_dropping_damage, removed, served_less}
 use Rattle.script_engine.proofs.defining.remove.Goals as goal
-
-pub drop_table-requires-clause-no_indexes : goal.drop_table-requires-clause-no_indexes
-drop_table-requires-clause-no_indexes g c = no_indexes_at c.args.tables.now.catalog c.args.table c.requires.served
 
 pub returns-in_err-drop_table-clause-runs : goal.returns-in_err-drop_table-clause-runs
 returns-in_err-drop_table-clause-runs g c =

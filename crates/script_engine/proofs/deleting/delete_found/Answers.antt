@@ -25,9 +25,6 @@ returns-in_err-hits-clause-runs g c =
 pub delete_rows-requires-clause-defined : goal.delete_rows-requires-clause-defined
 delete_rows-requires-clause-defined g c = (served_def c.args.tables.now.catalog c.args.table c.in-Some.def.now c.requires.served c.in-Some.ensures).limits
 
-pub delete_rows-requires-clause-no_indexes : goal.delete_rows-requires-clause-no_indexes
-delete_rows-requires-clause-no_indexes g c = (served_def c.args.tables.now.catalog c.args.table c.in-Some.def.now c.requires.served c.in-Some.ensures).no_indexes
-
 pub delete_rows-requires-clause-read : goal.delete_rows-requires-clause-read
 delete_rows-requires-clause-read g c = subst (HaveReadValues c.in-Some.def.now.columns) (sym c.as_slice.ensures.value) c.in_ok-hits.ensures.keyed
 

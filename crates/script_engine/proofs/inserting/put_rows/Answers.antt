@@ -21,10 +21,6 @@ pub insert_rows-result-requires-clause-defined : goal.insert_rows-result-require
 insert_rows-result-requires-clause-defined g c =
     (served_def c.args.tables.now.catalog c.args.table c.in-Some.def c.requires.served (sym c.in-Some.ensures.taken)).limits
 
-pub insert_rows-result-requires-clause-no_indexes : goal.insert_rows-result-requires-clause-no_indexes
-insert_rows-result-requires-clause-no_indexes g c =
-    (served_def c.args.tables.now.catalog c.args.table c.in-Some.def c.requires.served (sym c.in-Some.ensures.taken)).no_indexes
-
 pub insert_rows-result-requires-clause-fit : goal.insert_rows-result-requires-clause-fit
 insert_rows-result-requires-clause-fit g c =
     let at = sym c.in-Some.ensures.taken in

@@ -65,9 +65,6 @@ turned_rows-requires g c =
 pub change_rows-requires-clause-defined : goal.change_rows-requires-clause-defined
 change_rows-requires-clause-defined g c = (served_def c.args.tables.now.catalog c.args.table c.in-Some.def.now c.requires.served c.in-Some.ensures).limits
 
-pub change_rows-requires-clause-no_indexes : goal.change_rows-requires-clause-no_indexes
-change_rows-requires-clause-no_indexes g c = (served_def c.args.tables.now.catalog c.args.table c.in-Some.def.now c.requires.served c.in-Some.ensures).no_indexes
-
 pub change_rows-requires-clause-may : goal.change_rows-requires-clause-may
 change_rows-requires-clause-may g c =
     let def = c.in-Some.def.now in

@@ -1,10 +1,10 @@
-use Rattle.std.proofs.Common.{◌≡◌, ◌∙◌, ◌+◌, suc, [], None, Some, drop, ap, arith, sym, subst}
+use Rattle.std.proofs.Common.{◌≡◌, ◌∙◌, ◌+◌, suc, [], None, Some, drop, length, ap, arith, sym, subst}
 use Rattle.std.specs.Prelude.{slice_get}
 use Rattle.store_api.proofs.RunsOverPagesLemmas.{runs_exit, runs_none}
 use Rattle.table_trees.specs.TableTrees.{place_of_tree, tree_places}
 use Rattle.mdc_sound.proofs.DefinitionTreesLemmas.{has_block_indexes}
 use Rattle.stored_catalog.proofs.FreedTreesLemmas.{FreesSome, frees_all, frees_more, frees_none}
-use Rattle.stored_catalog.proofs.FreeingRunsLemmas.{freeing_run, index_at, no_more_places}
+use Rattle.stored_catalog.proofs.FreeingRunsLemmas.{freeing_run, index_at, no_more_places, parts_at, record_at}
 use Rattle.stored_catalog.proofs.dropping.free_trees.Goals as goal
 
 pub returns-in_err-free_all-clause-runs : goal.returns-in_err-free_all-clause-runs
@@ -50,10 +50,47 @@ loop-index-preserved g c =
           c.loop-index.invariant.frees {fault = None} c.loop-index.invariant.runs c.in_ok-free_all-2.ensures.runs;
     }
 
+pub loop-number-init : goal.loop-number-init
+loop-number-init g c =
+    let all : suc c.loop-index.index ≡ length c.args.def.now.dims + 2 + 0 = omega (arith, c.loop-index-test.false, c.loop-index.auto.index-end, c.len-index-end.ensures) in
+    record {
+      frees = λ owners trees st.
+          subst (λ n. FreesSome g.P.Pages c.args.shape c.args.notes.now c.loop-index.notes c.loop-index.pages owners trees (drop n (tree_places c.args.def.now))) all (c.loop-index.invariant.frees owners trees st);
+      count = c.loop-index.invariant.count;
+      runs = c.loop-index.invariant.runs;
+    }
+
+pub record_tree-requires-clause-parts : goal.record_tree-requires-clause-parts
+record_tree-requires-clause-parts g c which at = parts_at c.args.def.now.columns c.args.def.now.indexes c.loop-number.number which c.requires.defined.indexes.good at
+
+pub returns-in_err-free_all-3-clause-runs : goal.returns-in_err-free_all-3-clause-runs
+returns-in_err-free_all-3-clause-runs g c =
+    runs_exit c.from_residual-in_err-free_all-3.result c.from_residual-in_err-free_all-3.ensures.1
+    (freeing_run g.P.Pages c.args.shape c.args.notes.now c.loop-number.notes c.args.pages.now c.loop-number.pages c.args.def.now (length c.args.def.now.dims + 2 + c.loop-number.number) c.record_tree.result
+    (record_at c.args.def.now c.loop-number.number c.record_tree.result (has_block_indexes c.args.def.now.number c.args.def.now c.requires.defined) c.record_tree.ensures)
+    c.loop-number.invariant.frees c.loop-number.invariant.runs c.in_err-free_all-3.ensures.runs)
+
+pub loop-number-preserved : goal.loop-number-preserved
+loop-number-preserved g c =
+    let n = length c.args.def.now.dims + 2 + c.loop-number.number in
+    let at : slice_get (tree_places c.args.def.now) n ≡ Some (place_of_tree c.record_tree.result) =
+    record_at c.args.def.now c.loop-number.number c.record_tree.result (has_block_indexes c.args.def.now.number c.args.def.now c.requires.defined) c.record_tree.ensures in
+    let next : suc n ≡ length c.args.def.now.dims + 2 + (c.loop-number.number + 1) = omega arith in
+    record {
+      frees = λ owners trees st.
+          subst (λ n. FreesSome g.P.Pages c.args.shape c.args.notes.now c.free_all-in-loop-number.new.notes c.free_all-in-loop-number.new.pages owners trees (drop n (tree_places c.args.def.now))) next
+          (frees_more g.P.Pages c.args.shape c.args.notes.now c.loop-number.notes c.loop-number.pages owners trees (tree_places c.args.def.now) n c.record_tree.result at
+          (c.loop-number.invariant.frees owners trees st) c.free_all-in-loop-number.new.notes c.free_all-in-loop-number.new.pages
+          c.in_ok-free_all-3.ensures.freed c.in_ok-free_all-3.ensures.runs.works.steady.is_told c.in_ok-free_all-3.ensures.runs.touches);
+      count = c.free_all-in-loop-number.ensures.count ∙ c.loop-number.invariant.count;
+      runs = freeing_run g.P.Pages c.args.shape c.args.notes.now c.loop-number.notes c.args.pages.now c.loop-number.pages c.args.def.now n c.record_tree.result at
+          c.loop-number.invariant.frees {fault = None} c.loop-number.invariant.runs c.in_ok-free_all-3.ensures.runs;
+    }
+
 pub returns-clause-frees : goal.returns-clause-frees
 returns-clause-frees g c owners trees st =
-    let none : drop (suc c.loop-index.index) (tree_places c.args.def.now) ≡ [] =
-    no_more_places c.args.def.now c.loop-index.index (has_block_indexes c.args.def.now.number c.args.def.now c.requires.defined) c.requires.no_indexes
-    (omega (arith, c.loop-index-test.false, c.len-index-end.ensures)) in
-    frees_all g.P.Pages c.args.shape c.args.notes.now c.loop-index.notes c.loop-index.pages owners trees
-    (subst (FreesSome g.P.Pages c.args.shape c.args.notes.now c.loop-index.notes c.loop-index.pages owners trees) none (c.loop-index.invariant.frees owners trees st))
+    let none : drop (length c.args.def.now.dims + 2 + c.loop-number.number) (tree_places c.args.def.now) ≡ [] =
+    no_more_places c.args.def.now (length c.args.def.now.dims + 2 + c.loop-number.number) (has_block_indexes c.args.def.now.number c.args.def.now c.requires.defined)
+    (omega (arith, c.loop-number-test.false, c.len-number-end.ensures)) in
+    frees_all g.P.Pages c.args.shape c.args.notes.now c.loop-number.notes c.loop-number.pages owners trees
+    (subst (FreesSome g.P.Pages c.args.shape c.args.notes.now c.loop-number.notes c.loop-number.pages owners trees) none (c.loop-number.invariant.frees owners trees st))

@@ -35,6 +35,7 @@ loop-t-preserved g c =
           (holds_of_more stored t c.loop-t.catalog def few (inv.loads told) (subst (λ pages. IsStoredPlace pages t def) inv.same (found.told (inv.runs.works.steady.is_told ∙ told))));
       limits = subst (HoldsBefore IsWithinLimits (t + 1)) (sym put.puts) (holds_of_more IsWithinLimits t c.loop-t.catalog def few inv.limits found.limits);
       names = put.names inv.names;
+      index_names = put.index_names inv.index_names;
       same = c.load_def.ensures.same ∙ inv.same;
       going = found.runs.works.steady.ended ∙ inv.going;
       runs = runs_over_page {fault = None} t few inv.same inv.runs found.runs;

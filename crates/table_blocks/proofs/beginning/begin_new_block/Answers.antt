@@ -1,6 +1,9 @@
 use Rattle.store_api.proofs.RunsOverPagesLemmas.{runs_exit_as}
 use Rattle.extent_map.specs.Damages.{store_part_of}
 use Rattle.entry_tree.proofs.ClaimsLemmas.{if_err_by}
+use Rattle.mdc_sound.specs.Placing.Spot.{OtherBlock}
+use Rattle.mdc_sound.specs.StandingTable.{pages_of}
+use Rattle.mdc_sound.proofs.TableSpotsLemmas.{free_spot}
 use Rattle.table_blocks.proofs.NewBlockLemmas.{ClaimsNewBlock, EntersNewBlock, begins_new, claim_run, enter_full, enter_run, fill_full, fill_run, where_claimed}
 use Rattle.table_blocks.proofs.NewBlockSpaceLemmas.{claim_asks, entry_asks, new_full, new_makes}
 use Rattle.table_blocks.proofs.beginning.begin_new_block.Given.{Over}
@@ -70,6 +73,11 @@ returns-in_err-fill_begun-clause-runs_full g c =
     let at = goal.at.returns-in_err-fill_begun-clause-runs_full g c in
     if_err_by c.from_residual-in_err-fill_begun.result c.in_err-fill_begun.field-0.0 _ c.from_residual-in_err-fill_begun.ensures.1
     (new_full (claimed g at.After-first_line) (entered g at.In_ok-enter) c.args.row.now c.in_err-fill_begun.field-0.0 c.in_err-fill_begun.ensures.runs_full)
+
+pub returns-clause-free : goal.returns-clause-free
+returns-clause-free g c owners forests st =
+    let made = claimed g (goal.at.returns-clause-free g c).After-first_line in
+    free_spot c.args.shape (pages_of g.P.Pages c.args.pages.now) c.args.def.now owners forests.map c.in_ok-block.block OtherBlock c.in_ok-block.ensures.within (made.claims owners forests st).free
 
 pub returns-clause-makes : goal.returns-clause-makes
 returns-clause-makes g c =

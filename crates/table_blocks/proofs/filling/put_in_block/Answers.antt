@@ -35,7 +35,7 @@ returns-clause-fills g c =
     let replaced = c.in_ok-replace.ensures in
     fills c.args.shape c.args.pages.now c.args.def.now c.args.line c.requires.defined c.requires.within (omega arith) map.tree c.at-map.ensures map.seven
     c.replace.new.pages c.in-Some.rows replaced.there replaced.changes replaced.count replaced.runs c.args.row.now c.put_counted.new.pages c.in_ok-slot.slot c.in-Some.ensures.1 c.requires.fits
-    c.in_ok-slot.ensures.runs c.in_ok-slot.ensures.count c.in_ok-slot.ensures.puts
+    c.in_ok-slot.ensures.runs c.in_ok-slot.ensures.count (λ slots was now. c.in_ok-slot.ensures.puts slots now)
 
 pub returns-clause-runs : goal.returns-clause-runs
 returns-clause-runs g c =

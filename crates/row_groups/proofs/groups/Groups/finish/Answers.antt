@@ -1,7 +1,7 @@
 use Rattle.std.proofs.Common.{sym, subst}
 use Rattle.row_groups.specs.declared.fault.GroupFault.TheVariants.{Memory}
 use Rattle.row_groups.specs.Answers.{IsOutgrown}
-use Rattle.row_groups.specs.Gathering.{AreGroupsOf, entries_of}
+use Rattle.row_groups.specs.Gathering.{AreGroupsOf}
 use Rattle.row_groups.specs.Shape.{shape_of}
 use Rattle.row_groups.proofs.LineLemmas.{answers_rows}
 use Rattle.row_groups.proofs.SumLemmas.{match_err_as}
@@ -12,5 +12,5 @@ returns-in_err-lines c = λ shape rows are numbers. match_err_as c.from_residual
 
 pub returns : goal.returns
 returns c = λ shape rows are numbers.
-    answers_rows shape rows (record { shape = shape_of c.self.inside.select.now; found = entries_of c.self.inside.found; lines = c.self.inside.lines.items }) c.in_ok-lines.lines.items c.answer_of.result IsOutgrown
-    (subst (AreGroupsOf shape rows) (sym c.self.view_is) are) numbers c.in_ok-lines.ensures.1 c.in_ok-lines.ensures.0 c.answer_of.ensures
+    answers_rows shape rows (record { shape = shape_of c.self.inside.select.now; found = c.self.inside.found; lines = c.self.inside.lines.items }) c.in_ok-lines.lines.items c.answer_of.result IsOutgrown
+    (subst (AreGroupsOf shape rows) (sym c.self.view_is) are) numbers c.in_ok-lines.ensures c.answer_of.ensures

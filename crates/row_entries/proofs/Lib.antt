@@ -1,0 +1,14 @@
+pub mod ChosenBitsLemmas
+pub mod ChosenLemmas
+pub mod ChosenTreesLemmas
+pub mod ComparedKeysLemmas
+pub mod EnteringLemmas
+pub mod LeavingLemmas
+pub mod PendingSpotsLemmas
+pub mod PlacesApartLemmas
+pub mod RenewingLemmas
+pub mod RowKeysLemmas
+pub mod SoundEntriesLemmas
+pub mod StandingRowsLemmas
+pub mod TableEntriesLemmas
+pub mod WalkLemmas

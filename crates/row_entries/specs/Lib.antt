@@ -1,0 +1,4 @@
+pub mod ChosenIndexes
+pub mod ChosenTrees
+pub mod RowEntries
+pub mod SoundEntries
