@@ -1,0 +1,2 @@
+pub mod LiveRids
+pub mod Twins
