@@ -1,0 +1,3 @@
+pub mod FilledIndexes
+pub mod IndexSteps
+pub mod IndexViews
