@@ -2,7 +2,7 @@
 use Rattle.std.specs.Prelude.{List, [], ◌∷◌, Option, Some, None, Result, Ok, Err}
 use Rattle.binder.specs.declared.objection.Objection.{Objection}
 use Rattle.binder.specs.declared.objection.Objection.TheVariants as said
-use Rattle.statement_meaning.specs.Cause.{Cause, TableExists, NoTable, NoColumn, ColumnTwice, Limit, NotGrouped, WrongType, OutOfRange, TextTooLong, NoDate, WrongCount, GivenGenerated}
+use Rattle.statement_meaning.specs.Cause.{Cause, TableExists, NoTable, NoColumn, ColumnTwice, IndexExists, NoIndex, Limit, NotGrouped, WrongType, OutOfRange, TextTooLong, NoDate, WrongCount, GivenGenerated}
 use Rattle.statement_meaning.specs.Judged.{fetch_name}
 
 -- the first of these causes, if there is one
@@ -16,6 +16,8 @@ objected (said.TableExists name) = TableExists name.now
 objected (said.NoTable name) = NoTable name.now
 objected (said.NoColumn name) = NoColumn name.now
 objected (said.ColumnTwice name) = ColumnTwice name.now
+objected (said.IndexExists name) = IndexExists name.now
+objected (said.NoIndex name) = NoIndex name.now
 objected (said.Limit n) = Limit n
 objected (said.NotGrouped name) = NotGrouped name.now
 objected (said.WrongType name) = WrongType name.now

@@ -31,8 +31,8 @@ const ROW_LIMIT: u64 = 1000;
 
 const ROW_HEAD: u64 = 10;
 
-// How many bytes a key has at most.
-const KEY_LIMIT: u64 = 128;
+/// How many bytes a key has at most.
+pub const KEY_LIMIT: u64 = 128;
 
 /// Judges the limits of a CREATE TABLE.
 #[tactic(auto, using(crate::proofs::FirstLemmas::first_steps))]
@@ -54,7 +54,8 @@ pub fn judge_limits<'a>(
     judge_dims(columns, dims)
 }
 
-fn judge_length<'a>(name: &Name) -> Result<(), Objection<'a>>
+/// Judges the length of a name that is made.
+pub fn judge_length<'a>(name: &Name) -> Result<(), Objection<'a>>
     ensures { first_of (judged.long_name name.now) ≡ said_by result }
 {
     if name.0.bytes().len() > NAME_LIMIT {

@@ -10,14 +10,14 @@ pub fn built(stmt: &Stmt) -> bool
 {
     match stmt {
         Stmt::CreateTable { columns, .. } => has_no_generated(columns.as_slice()),
-        Stmt::DropTable(_)
+        Stmt::CreateIndex { .. }
+        | Stmt::DropTable(_)
+        | Stmt::DropIndex(_)
         | Stmt::Insert { .. }
         | Stmt::Update { .. }
         | Stmt::Delete { .. }
         | Stmt::Query(_) => true,
-        Stmt::CreateIndex { .. }
-        | Stmt::DropIndex(_)
-        | Stmt::Explain(_)
+        Stmt::Explain(_)
         | Stmt::SetRollout(_)
         | Stmt::SetPlan(_)
         | Stmt::SetPace(_)

@@ -2,13 +2,14 @@
 ghost use Rattle.std.specs.Prelude.{◌≡◌, IfOk, MatchResult, Some, None};
 ghost use Rattle.statement_meaning.specs.Cause.{NoTable};
 ghost use Rattle.mdc_ast.specs.Definitions.{def_named};
-ghost use Rattle.statement_meaning.specs.Judged.{insert_judged, judged_of, query_judged, sets_judged};
-ghost use Rattle.statement_meaning.specs.Judging.{in_order, no_fault, on_table, then_judged, where_judged};
+ghost use Rattle.statement_meaning.specs.Judged.{index_judged, insert_judged, judged_of, query_judged, sets_judged};
+ghost use Rattle.statement_meaning.specs.Judging.{in_order, no_fault, on_defined, on_table, then_judged, where_judged};
 ghost use Rattle.binder.specs.Knowing.{Knows};
 ghost use Rattle.binder.specs.Saying.{objected, first_of, said_by};
 
 use crate::creation::judge_creation;
 use crate::filtering::judge_where;
+use crate::indexing::{judge_index, judge_index_drop};
 use crate::insertion::judge_insertion;
 use crate::known_names::KnownNames;
 use crate::literals::Class;
@@ -18,7 +19,7 @@ use crate::querying::{
 };
 use crate::updating::{judge_set_columns, judge_sets};
 use catalog::Catalog;
-use mdc_ast::{ColumnDef, InsertItem, Name, PredText, Select, SetText, Stmt, TableDef};
+use mdc_ast::{ColumnDef, InsertItem, KeyText, Name, PredText, Select, SetText, Stmt, TableDef};
 use mdc_values::{List, Memory};
 use std::alloc::Global;
 
@@ -36,7 +37,14 @@ pub fn judge<'a>(
             columns,
             dims,
         } => judge_creation(alloc, name, columns.as_slice(), dims.as_slice(), catalog),
+        Stmt::CreateIndex {
+            name,
+            table,
+            parts,
+            ..
+        } => Ok(judge_index_on(table, name, parts.as_slice(), catalog)),
         Stmt::DropTable(table) => Ok(judge_drop(table, catalog)),
+        Stmt::DropIndex(name) => Ok(judge_index_drop(name, catalog)),
         Stmt::Insert {
             table,
             columns,
@@ -47,9 +55,7 @@ pub fn judge<'a>(
         }
         Stmt::Delete { table, pred } => Ok(judge_delete(alloc, table, pred, catalog)),
         Stmt::Query(select) => judge_query(alloc, select, catalog),
-        Stmt::CreateIndex { .. }
-        | Stmt::DropIndex(_)
-        | Stmt::Explain(_)
+        Stmt::Explain(_)
         | Stmt::SetRollout(_)
         | Stmt::SetPlan(_)
         | Stmt::SetPace(_)
@@ -85,6 +91,18 @@ fn judge_drop<'a>(table: &'a Name, catalog: &'a Catalog) -> Result<(), Objection
 {
     table_named(table, catalog)?;
     Ok(())
+}
+
+fn judge_index_on<'a>(
+    table: &'a Name,
+    name: &'a Name,
+    parts: &'a [KeyText],
+    catalog: &'a Catalog,
+) -> Result<(), Objection<'a>>
+    ensures { first_of (in_order (on_defined table.now (def_named catalog.now table.now) (index_judged catalog.now name.now parts.now))) ≡ said_by result }
+{
+    let def = table_named(table, catalog)?;
+    judge_index(name, parts, def, catalog)
 }
 
 fn judge_insert<'a>(

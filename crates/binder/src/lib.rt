@@ -11,6 +11,8 @@ mod creation;
 mod creation_limits;
 mod filtering;
 mod forms;
+mod index_binding;
+mod indexing;
 mod insertion;
 mod judging;
 mod kinds;

@@ -9,13 +9,15 @@ use mdc_ast::{Name, Refusal};
 use mdc_values::{Chars, Memory};
 use std::alloc::Global;
 
-/// What is said against a statement, with the table, the column or the limit that it is about.
+/// What is said against a statement, with the table, the column, the index or the limit that it is about.
 #[derive(Debug, Drop)]
 pub enum Objection<'a> {
     TableExists(&'a Name),
     NoTable(&'a Name),
     NoColumn(&'a Name),
     ColumnTwice(&'a Name),
+    IndexExists(&'a Name),
+    NoIndex(&'a Name),
     Limit(u64),
     NotGrouped(&'a Name),
     WrongType(&'a Name),
@@ -37,6 +39,8 @@ pub fn refusal(alloc: Global, objection: &Objection<'_>) -> Result<Refusal, Memo
         Objection::NoTable(table) => naming(alloc, 21, table),
         Objection::NoColumn(column) => naming(alloc, 22, column),
         Objection::ColumnTwice(column) => naming(alloc, 23, column),
+        Objection::IndexExists(index) => naming(alloc, 24, index),
+        Objection::NoIndex(index) => naming(alloc, 25, index),
         Objection::Limit(limit) => keeping(alloc, 26, *limit),
         Objection::NotGrouped(column) => naming(alloc, 27, column),
         Objection::WrongType(column) => naming(alloc, 30, column),

@@ -24,7 +24,7 @@ pub fn bound_select(
         outs: bound_shown(alloc, columns, &select.list)?,
         pred: bound_where(alloc, columns, &select.pred)?,
         group: bound_group(alloc, columns, select.group.as_slice())?,
-        order: bound_order(alloc, columns, select.order.as_slice())?,
+        order: bound_keys(alloc, columns, select.order.as_slice())?,
         first: bound_first(select.first),
     })
 }
@@ -91,22 +91,23 @@ fn bound_group(alloc: Global, columns: &[ColumnDef], names: &[Name]) -> Result<L
     Ok(group)
 }
 
-fn bound_order(
+/// Columns with their directions, as an order or a key has them, by their places.
+pub fn bound_keys(
     alloc: Global,
     columns: &[ColumnDef],
     keys: &[KeyText],
 ) -> Result<List<KeyPart>, Memory>
     requires { length columns.now ≤ 16 }
-    ensures { IfOk result (λ order. order ≡ map (binding.bound_key columns.now) keys.now) }
+    ensures { IfOk result (λ bound. bound ≡ map (binding.bound_key columns.now) keys.now) }
 {
-    let mut order = List::new(alloc);
+    let mut bound = List::new(alloc);
     for key in keys {
-        order.push(KeyPart {
+        bound.push(KeyPart {
             column: the_place(columns, &key.column),
             descending: key.descending,
         })?;
     }
-    Ok(order)
+    Ok(bound)
 }
 
 // A number of more than 32 bits is refused before.

@@ -6,6 +6,7 @@ ghost use Rattle.mdc_ast.specs.ValidDatabase.{AreValidDefs};
 ghost use Rattle.statement_meaning.specs.Judged.{judged_of, targets};
 ghost use Rattle.statement_meaning.specs.Judging.{in_order};
 
+use crate::index_binding::{bound_drop_index, bound_index};
 use crate::query_binding::bound_select;
 use crate::row_binding::bound_tuples;
 use crate::set_binding::bound_sets;
@@ -13,7 +14,9 @@ use crate::table_binding::bound_table;
 use crate::targets::Targets;
 use crate::where_binding::bound_where;
 use catalog::Catalog;
-use mdc_ast::{Bound, ColumnDef, InsertItem, Name, PredText, Select, SetText, Stmt, TableDef};
+use mdc_ast::{
+    Bound, ColumnDef, InsertItem, KeyText, Name, PredText, Select, SetText, Stmt, TableDef,
+};
 use mdc_values::{List, Memory};
 use std::alloc::Global;
 
@@ -29,7 +32,14 @@ pub fn bound(alloc: Global, stmt: &Stmt, catalog: &Catalog) -> Result<Bound, Mem
             columns,
             dims,
         } => Ok(Bound::CreateTable(bound_table(alloc, name, columns.as_slice(), dims.as_slice())?)),
+        Stmt::CreateIndex {
+            name,
+            unique,
+            table,
+            parts,
+        } => bound_index_on(alloc, table, name, *unique, parts.as_slice(), catalog),
         Stmt::DropTable(table) => Ok(bound_drop(table, catalog)),
+        Stmt::DropIndex(name) => Ok(bound_drop_index(name, catalog)),
         Stmt::Insert {
             table,
             columns,
@@ -40,9 +50,7 @@ pub fn bound(alloc: Global, stmt: &Stmt, catalog: &Catalog) -> Result<Bound, Mem
         }
         Stmt::Delete { table, pred } => bound_delete(alloc, table, pred, catalog),
         Stmt::Query(select) => bound_query(alloc, select, catalog),
-        Stmt::CreateIndex { .. }
-        | Stmt::DropIndex(_)
-        | Stmt::Explain(_)
+        Stmt::Explain(_)
         | Stmt::SetRollout(_)
         | Stmt::SetPlan(_)
         | Stmt::SetPace(_)
@@ -82,6 +90,27 @@ fn bound_drop(table: &Name, catalog: &Catalog) -> Bound
         Some(def) => Bound::DropTable(def.number),
         None => Bound::Begin,
     }
+}
+
+fn bound_index_on(
+    alloc: Global,
+    table: &Name,
+    name: &Name,
+    unique: bool,
+    parts: &[KeyText],
+    catalog: &Catalog,
+) -> Result<Bound, Memory>
+    requires { AreValidDefs catalog.now }
+    ensures { IfOk result (λ bound. bound ≡ binding.bound_on catalog.now table.now
+        (λ place columns. Bound.CreateIndex place (binding.bound_index columns name.now unique parts.now))) }
+{
+    let Some(def) = table_there(table, catalog) else {
+        return Ok(Bound::Begin);
+    };
+    Ok(Bound::CreateIndex {
+        table: def.number,
+        index: bound_index(alloc, def.columns.as_slice(), name, unique, parts)?,
+    })
 }
 
 fn bound_insert(

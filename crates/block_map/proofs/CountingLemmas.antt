@@ -1,7 +1,7 @@
 -- The row of a Used block, and what counting one of its rows does.
-use Rattle.std.proofs.Common.{◌≡◌, ◌<◌, ◌^◌, ◌%◌, ℕ, [], ap, sym, ◌∙◌, subst, refl, inl}
+use Rattle.std.proofs.Common.{◌≡◌, ◌<◌, ◌≤◌, ◌^◌, ◌%◌, ◌⊎◌, ℕ, [], ap, sym, ◌∙◌, subst, refl, inl}
 use denote.Enum.Bare.{sameb}
-use Rattle.std.specs.Prelude.{Option, None, not, true, false}
+use Rattle.std.specs.Prelude.{Option, Some, None, IfNone, IfSome, not, true, false}
 use Rattle.std.proofs.Math.Nat.{mod-eq_of_lt}
 use Rattle.byteorder.specs.Numbers.{big_from-bytes}
 use Rattle.mdc_words.specs.ByteOrder.{Entry}
@@ -17,9 +17,9 @@ use Rattle.entry_tree.specs.HeldTrees.{BreaksTree, HoldsTree, IsTreePage}
 use Rattle.entry_tree.specs.declared.tree.Tree.{Tree}
 use Rattle.entry_tree.proofs.FindingLemmas.{found_still}
 use Rattle.entry_tree.proofs.ReadLeafLemmas.{breaks_still, holds_still, tree_page_still}
-use Rattle.block_map.specs.BlockMaps.{AnyMap, BreaksMapTree, HasRow, IsMapForm}
-use Rattle.block_map.specs.Counting.{FindsUsedRow, used_row}
-use Rattle.block_map.specs.FoundRows.{IsRowFound}
+use Rattle.block_map.specs.BlockMaps.{AnyMap, BreaksMapTree, FindsBlock, HasRow, IsMapForm}
+use Rattle.block_map.specs.Counting.{FindsUsedRow, HasRoom, IfUsed, LacksRoom, used_row}
+use Rattle.block_map.specs.FoundRows.{IsRowFound, LacksBlock, found_row}
 use Rattle.block_map.specs.MapChanges.{ChangesRowTo}
 use Rattle.block_map.specs.MapLines.{map_line}
 use Rattle.block_map.specs.MapRows.{row_entry, state_number}
@@ -99,3 +99,31 @@ module _ {S : Type 0} {g : Ghosts S} where
 -- a row that was found stands where it was as long as the pages are the same
 pub row_found_still : {S : Type 0} {g : Ghosts S} {old mid : S} {tree : Tree} (found : FoundRow) → Steady g old mid → (g.state mid).work ≡ (g.state old).work → IsRowFound g old tree found → IsRowFound g mid tree found
 row_found_still found steady same f = record { entry = f.entry; few = f.few; stands = found_still found.place steady same f.stands }
+
+-- ---- room is looked for
+
+module _ {S : Type 0} (g : Ghosts S) (old mid : S) (tree : Tree) (block most : ℕ) where
+  -- no row was found
+  pub full_where_none : (o : Option FoundRow) → IfNone o ((t : Forest) → HoldsTree g old tree t → LacksBlock block t)
+      → IfNone o ((t : Forest) → HoldsTree g old tree t → IsMapForm t → IfUsed block (λ rows. (most ≤ rows) ⊎ (rows ≡ 65535)) t)
+  full_where_none None lacks = λ t h form rows small has. absurd (lacks t h (used_row block rows) refl has)
+  full_where_none (Some found) lacks = tt
+
+  -- one without room
+  pub full_where_lacking : (o : Option FoundRow) → IfNone o ((t : Forest) → HoldsTree g old tree t → LacksBlock block t) → ((t : Forest) → HoldsTree g old tree t → FindsBlock t block (found_row o))
+      → IfSome o (λ found. found.row.block ≡ block) → IfSome o (IsRowFound g mid tree) → IfSome o (λ found. LacksRoom most found.row)
+      → (t : Forest) → HoldsTree g old tree t → IsMapForm t → IfUsed block (λ rows. (most ≤ rows) ⊎ (rows ≡ 65535)) t
+  full_where_lacking None lacks finds named stands lacking t h form rows small has = absurd (lacks t h (used_row block rows) refl has)
+  full_where_lacking (Some found) lacks finds named stands lacking t h form rows small has =
+      let there = (finds t h).1 in
+      let e = one_row t found.row (used_row block rows) form named there has in
+      let state = used_state found.row.state (sym (row_state found.row) ∙ ap (λ (v : Entry). (map_line v).state) e ∙ row_state (used_row block rows)) in
+      let used = subst (λ (r : BlockRow). HasRow r t) (used_is found.row block named state) there in
+      let same = used_once t block found.row.rows rows form stands.few small used has in
+      subst (λ (n : ℕ). (most ≤ n) ⊎ (n ≡ 65535)) same (lacking state)
+
+  -- one with room
+  pub finds_with_room : (o : Option FoundRow) → ((t : Forest) → HoldsTree g old tree t → FindsBlock t block (found_row o)) → IfSome o (λ found. found.row.block ≡ block) → IfSome o (IsRowFound g mid tree)
+      → IfSome o (λ found. HasRoom most found.row) → IfSome o (FindsUsedRow g old mid tree block)
+  finds_with_room None finds named stands room = tt
+  finds_with_room (Some found) finds named stands room = record { used = used_is found.row block named room.0; there = λ t h. (finds t h).1; stands = stands }

@@ -1,5 +1,5 @@
 -- The row of a Used block, by how many rows the block has.
-use Rattle.std.specs.Prelude.{◌≡◌, ◌<◌, ◌^◌, ℕ, Option, Some, None}
+use Rattle.std.specs.Prelude.{◌≡◌, ◌<◌, ◌≤◌, ◌^◌, ◌⊎◌, ℕ, Option, Some, None}
 use Rattle.store_api.specs.declared.pages.Pages.{Ghosts}
 use Rattle.entry_tree.specs.Forest.{Forest}
 use Rattle.entry_tree.specs.HeldTrees.{HoldsTree}
@@ -17,6 +17,14 @@ used_row block rows = record { block = block; state = Used; rows = rows }
 -- P of the number of rows, where a block map has the block as a Used one
 abbrev pub IfUsed : ℕ → (ℕ → Type 0) → Forest → Type 0
 IfUsed block P map_tree = (rows : ℕ) → rows < 2 ^ 16 → HasRow (used_row block rows) map_tree → P rows
+
+-- a row is that of a Used block with fewer rows than so many, and fewer than the highest number
+abbrev pub HasRoom : ℕ → BlockRow → Type 0
+HasRoom most row = (row.state ≡ Used) × (row.rows < most) × (row.rows < 65535)
+
+-- a row isn't that of a Used block, or has as many
+abbrev pub LacksRoom : ℕ → BlockRow → Type 0
+LacksRoom most row = row.state ≡ Used → (most ≤ row.rows) ⊎ (row.rows ≡ 65535)
 
 -- the row of a Used block that the map had, and where it stands now
 pub record FindsUsedRow {S : Type 0} (g : Ghosts S) (old new : S) (tree : Tree) (block : ℕ) (found : FoundRow) : Type 0 where

@@ -1,12 +1,12 @@
 // A Used block has a row more, or a row less.
-ghost use Rattle.std.specs.Prelude.{◌≡◌, ◌+◌, ◌-◌, ◌<◌, ◌≤◌, ◌⊎◌, length, false, IfOk, IfNone, IfSome, OnOk};
+ghost use Rattle.std.specs.Prelude.{◌≡◌, ◌+◌, ◌-◌, ◌<◌, ◌≤◌, ◌⊎◌, length, false, IsTrue, IfOk, IfNone, IfSome, OnOk};
 ghost use Rattle.store_api.specs.Causes.{fault_of};
 ghost use Rattle.store_api.specs.Frame.{NoPage};
 ghost use Rattle.store_api.specs.RunsOverPages.{RunsOverPages};
 ghost use Rattle.entry_tree.specs.Forest.{Forest};
 ghost use Rattle.entry_tree.specs.HeldTrees.{HoldsTree, IsTreePage};
 ghost use Rattle.block_map.specs.BlockMaps.{AnyMap, BreaksMapTree, HasRow, IsMapForm};
-ghost use Rattle.block_map.specs.Counting.{FindsUsed, FindsUsedRow, IfUsed, used_row};
+ghost use Rattle.block_map.specs.Counting.{FindsUsed, FindsUsedRow, HasRoom, IfUsed, LacksRoom, used_row};
 ghost use Rattle.block_map.specs.FoundRows.{IsRowFound};
 ghost use Rattle.block_map.specs.MapChanges.{ChangesRowTo};
 
@@ -31,17 +31,12 @@ impl BlockMap {
         ensures same { (P.state pages.new).work ≡ (P.state pages.old).work }
         ensures runs { RunsOverPages P.Pages NoPage (IsTreePage P.Pages pages.old self.now.tree) (BreaksMapTree P.Pages pages.old self.now.tree AnyMap) pages.old pages.new (fault_of result) }
     {
-        let Some(found) = self.find_used(pages, block)? else {
-            return Ok(None);
-        };
-        let had = found.row.rows;
-        if u32::from(had) >= most {
+        // What was found is large, so that it is moved as a whole, and as seldom as can be.
+        let found = self.find_row(pages, block)?;
+        if lacks_room(&found, most) {
             return Ok(None);
         }
-        if had == u16::MAX {
-            return Ok(None);
-        }
-        Ok(Some(found))
+        Ok(found)
     }
 
     /// Counts a row more in a Used block whose row was found, in pages that are as they were then, mostly without a search. It
@@ -110,4 +105,29 @@ impl BlockMap {
         }
         Ok(Some(found))
     }
+}
+
+/// Whether a row was found that isn't that of a Used block with room.
+fn lacks_room(found: &Option<FoundRow>, most: u32) -> bool
+    ensures lacks { IsTrue result → IfSome found.now (λ found. LacksRoom most found.row) }
+    ensures room { result ≡ false → IfSome found.now (λ found. HasRoom most found.row) }
+{
+    let Some(found) = found else {
+        return false;
+    };
+    !has_room(found.row, most)
+}
+
+/// Whether a row is that of a Used block with fewer rows than `most`, and fewer than the highest number.
+fn has_room(row: BlockRow, most: u32) -> bool
+    ensures room { IsTrue result → HasRoom most row }
+    ensures lacks { result ≡ false → LacksRoom most row }
+{
+    if row.state != BlockState::Used {
+        return false;
+    }
+    if u32::from(row.rows) >= most {
+        return false;
+    }
+    row.rows != u16::MAX
 }

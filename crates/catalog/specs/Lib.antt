@@ -1,2 +1,1 @@
-pub mod IndexPlaces
 pub mod Places

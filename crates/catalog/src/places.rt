@@ -1,8 +1,7 @@
 // A catalog in memory.
 ghost use Rattle.std.specs.Prelude.{◌≡◌, ◌<◌, length, None, Some, IfOk, IfSome, IsSome, MatchOption, is_none};
 ghost use Rattle.std.specs.List.{position_from};
-ghost use Rattle.mdc_ast.specs.Definitions.{def_at, def_named, empty_place, is_defined, is_same, no_tables, place_of, with_def, without_def};
-ghost use Rattle.catalog.specs.IndexPlaces.{index_in, index_place_of};
+ghost use Rattle.mdc_ast.specs.Definitions.{def_at, def_named, empty_place, index_in, index_place_of, is_defined, is_same, no_tables, place_of, with_def, without_def};
 
 use mdc_ast::{IndexDef, Name, TableDef};
 use mdc_values::Memory;

@@ -1,5 +1,5 @@
 use crate::Catalog;
-use mdc_ast::{Name, Roots, TableDef};
+use mdc_ast::{IndexDef, Name, Roots, TableDef};
 use mdc_values::{Chars, List, Memory};
 use std::alloc::Global;
 use std::test::Fail;
@@ -47,5 +47,46 @@ fn a_table_takes_the_lowest_empty_place(rt: HostRuntime) -> Result<(), Fail> {
     assert_eq!(rt; number_of(&catalog, &named(alloc, b"T")?), None);
     assert_eq!(rt; number_of(&catalog, &named(alloc, b"U")?), Some(1));
     assert_eq!(rt; entered(&mut catalog, table(alloc, b"V")?), Some(0));
+    Ok(())
+}
+
+/// A record index of that name, of no parts.
+fn index(alloc: Global, name: &[u8]) -> Result<IndexDef, Memory> {
+    Ok(IndexDef {
+        name: named(alloc, name)?,
+        unique: false,
+        parts: List::new(alloc),
+        root: 0,
+    })
+}
+
+/// A table of that name with two record indexes.
+fn indexed(alloc: Global, name: &[u8], one: &[u8], other: &[u8]) -> Result<TableDef, Memory> {
+    let mut def = table(alloc, name)?;
+    def.indexes.push(index(alloc, one)?)?;
+    def.indexes.push(index(alloc, other)?)?;
+    Ok(def)
+}
+
+/// A catalog of two tables with two record indexes each.
+fn four_indexes(alloc: Global) -> Result<Catalog, Memory> {
+    let mut catalog = Catalog::empty(alloc)?;
+    let first = indexed(alloc, b"T", b"I", b"J")?;
+    let second = indexed(alloc, b"U", b"K", b"L")?;
+    entered(&mut catalog, first);
+    entered(&mut catalog, second);
+    Ok(catalog)
+}
+
+fn found(alloc: Global, name: &[u8]) -> Result<Option<(u8, usize)>, Memory> {
+    Ok(four_indexes(alloc)?.index(&named(alloc, name)?))
+}
+
+#[test]
+fn an_index_is_found_with_its_table(rt: HostRuntime) -> Result<(), Fail> {
+    let alloc = rt.alloc();
+    assert_eq!(rt; found(alloc, b"J")?, Some((0, 1)));
+    assert_eq!(rt; found(alloc, b"K")?, Some((1, 0)));
+    assert_eq!(rt; found(alloc, b"T")?, None);
     Ok(())
 }

@@ -84,7 +84,7 @@ module _ {S : Type 0} {g : Ghosts S} where
   behind_claimed old tree t h p claimed behind (inr is) = is
 
   -- the way down changed nothing before the claims
-  grows_after : (shape : Shape) (old way new : S) (claimed : List ℕ) → (g.state way).is_told ≡ (g.state old).is_told → (g.state way).work ≡ (g.state old).work → Steady g way new → GrowsWith g shape way new claimed → GrowsWith g shape old new claimed
+  pub grows_after : (shape : Shape) (old way new : S) (claimed : List ℕ) → (g.state way).is_told ≡ (g.state old).is_told → (g.state way).work ≡ (g.state old).work → Steady g way new → GrowsWith g shape way new claimed → GrowsWith g shape old new claimed
   grows_after shape old way new claimed told same later grows = record {
     count = grows.count ∙ ap (λ (pages : List (List ℕ)). count_with shape (length pages) claimed) same;
     counted = λ was. grows.counted (counted_same told same was);

@@ -131,5 +131,6 @@ IsPruned-agree old new root t above kept gone same p =
       };
       trim = p.trim;
       entries = p.entries;
+      leaves = p.leaves;
       counts = p.counts;
     }

@@ -3,7 +3,7 @@ use Rattle.std.proofs.Common.{◌≡◌, ◌<◌, ◌≤◌, ◌+◌, ℕ, List,
 use Rattle.std.proofs.Common.{ne_eqb, length}
 use Rattle.std.specs.Prelude.{Some}
 use Rattle.entry_tree.specs.EntryBounds.{Bound}
-use Rattle.entry_tree.specs.Forest.{EachNode, Fits, Forest, HasNode, HoldsForest, leaf_entries, heads, once, times, ◌&◌}
+use Rattle.entry_tree.specs.Forest.{EachNode, Fits, Forest, HasNode, HoldsForest, filled_leaves, leaf_entries, heads, once, times, ◌&◌}
 use Rattle.entry_tree.specs.Forest.Forest.{Fork, Leaf, Nil}
 use Rattle.mdc_words.specs.ByteOrder.{Entry}
 use Rattle.node_page.specs.Node.{Node}
@@ -27,6 +27,11 @@ pub leaf_entries-and : (t u : Forest) → leaf_entries (t & u) ≡ leaf_entries 
 leaf_entries-and Nil u = refl
 leaf_entries-and (Leaf page items next) u = rw (leaf_entries-and next u, append_assoc)
 leaf_entries-and (Fork page seps kids next) u = rw (leaf_entries-and next u, append_assoc)
+
+pub filled_leaves-and : (t u : Forest) → filled_leaves (t & u) ≡ filled_leaves t ++ filled_leaves u
+filled_leaves-and Nil u = refl
+filled_leaves-and (Leaf page items next) u = rw (filled_leaves-and next u, append_assoc)
+filled_leaves-and (Fork page seps kids next) u = rw (filled_leaves-and next u, append_assoc)
 
 pub times-and : (n : ℕ) (t u : Forest) → times n (t & u) ≡ times n t + times n u
 times-and n Nil u = omega arith

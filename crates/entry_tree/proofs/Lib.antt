@@ -40,7 +40,9 @@ pub mod RemovalLemmas
 pub mod RemoveLemmas
 pub mod ReturnedPagesLemmas
 pub mod SearchLemmas
+pub mod SeenFullLemmas
 pub mod SeparatorsLemmas
+pub mod ShownLemmas
 pub mod SightLemmas
 pub mod SightOfLemmas
 pub mod SlotsLemmas
@@ -50,6 +52,7 @@ pub mod StandingLemmas
 pub mod StringsLemmas
 pub mod SublistLemmas
 pub mod SweepingLemmas
+pub mod SweptLeavesLemmas
 pub mod TreeChangesLemmas
 pub mod TreePlacesLemmas
 pub mod TreeRowLemmas

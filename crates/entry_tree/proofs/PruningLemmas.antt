@@ -6,16 +6,16 @@ use Rattle.mdc_words.specs.ByteOrder.{Entry}
 use Rattle.node_page.specs.Node.{Node}
 use Rattle.node_page.specs.Node.Node.{InnerNode, LeafNode}
 use Rattle.entry_tree.specs.EntryBounds.{Bound, Rises}
-use Rattle.entry_tree.specs.Forest.{EachNode, Fits, Forest, HasNode, HoldsEntry, HoldsForest, IsTree, IsTrimTree, leaf_entries, heads, once, times, ◌&◌}
+use Rattle.entry_tree.specs.Forest.{EachNode, Fits, Forest, HasNode, HoldsEntry, HoldsForest, IsTree, IsTrimTree, filled_leaves, leaf_entries, heads, once, times, ◌&◌}
 use Rattle.entry_tree.specs.Forest.Forest.{Fork, Leaf, Nil}
 use Rattle.entry_tree.specs.Pruning.{IsPruned}
-use Rattle.entry_tree.specs.TreePlaces.{AreMatched, Frame, entries_before, entries_behind, high_of, low_of, plug}
+use Rattle.entry_tree.specs.TreePlaces.{AreMatched, Frame, entries_before, entries_behind, leaves_before, leaves_behind, high_of, low_of, plug}
 use Rattle.entry_tree.proofs.DropLemmas.{child_dropped, collapsed, moved, node_of as node_at}
 use Rattle.entry_tree.proofs.FitsLemmas.{drop_first, drop_later}
-use Rattle.entry_tree.proofs.ForestLemmas.{EachNode-and, EachNode-from_and, Fits-count, leaf_entries-and, heads-and, once_same, times-and}
+use Rattle.entry_tree.proofs.ForestLemmas.{EachNode-and, EachNode-from_and, Fits-count, filled_leaves-and, leaf_entries-and, heads-and, once_same, times-and}
 use Rattle.entry_tree.proofs.LeavesLemmas.{HoldsEntry-moved}
 use Rattle.entry_tree.proofs.TreeChangesLemmas.{changed, leaf_change}
-use Rattle.entry_tree.proofs.TreePlacesLemmas.{EachNode-from_plug, Fits-plug, leaf_entries-plug, times-plug}
+use Rattle.entry_tree.proofs.TreePlacesLemmas.{EachNode-from_plug, Fits-plug, filled_leaves-plug, leaf_entries-plug, times-plug}
 
 -- a tree stays trim where what stands at a place of it does
 pub IsTrimTree-plug : (fs : List Frame) (t u : Forest) → (EachNode HoldsEntry t → EachNode HoldsEntry u) → (IsTrimTree t → IsTrimTree u) → IsTrimTree (plug fs t) → IsTrimTree (plug fs u)
@@ -44,6 +44,7 @@ pruned_leaf old new root page items kept above m w trim rises some there others 
           (leaf_change old new _ _ (plug above (Leaf page items Nil)) page items kept f.0.0 rises there others);
       trim = trimmed above some trim;
       entries = leaf_entries-plug above (Leaf page kept Nil) ∙ simp append-nil;
+      leaves = filled_leaves-plug above (Leaf page kept Nil) ∙ simp append-nil;
       counts = λ n. omega (arith, times-plug n above (Leaf page items Nil), times-plug n above (Leaf page kept Nil));
     }
   where
@@ -98,6 +99,11 @@ entries_without : (fs : List Frame) (page : ℕ) (more : List Entry) (left right
     → leaf_entries (plug fs (Fork page more (left & right) Nil)) ≡ (entries_before fs ++ leaf_entries left) ++ (leaf_entries right ++ entries_behind fs)
 entries_without fs page more left right = leaf_entries-plug fs (Fork page more (left & right) Nil) ∙ simp (leaf_entries-and, append-nil, append_assoc)
 
+-- and the leaves
+leaves_without : (fs : List Frame) (page : ℕ) (more : List Entry) (left right : Forest)
+    → filled_leaves (plug fs (Fork page more (left & right) Nil)) ≡ (leaves_before fs ++ filled_leaves left) ++ (filled_leaves right ++ leaves_behind fs)
+leaves_without fs page more left right = filled_leaves-plug fs (Fork page more (left & right) Nil) ∙ simp (filled_leaves-and, append-nil, append_assoc)
+
 -- a page that isn't that of a leaf
 apart_from : (n page : ℕ) (items : List Entry) → times n (Leaf page items Nil) ≡ 0 → n ≢ page
 apart_from n page items z e = let one : once n page ≡ 1 = subst (λ (v : ℕ). once v page ≡ 1) (sym e) (once_same page) in omega arith
@@ -122,6 +128,7 @@ pruned_fork old new root page items f fs m w trim some there others =
       trim = IsTrimTree-plug fs (Fork f.page (f.lows ++ f.highs) (f.left & Leaf page items f.right) Nil) (Fork f.page more (f.left & f.right) Nil)
           (λ k. (tt, less k.1, tt)) less trim;
       entries = entries_without fs f.page more f.left f.right;
+      leaves = leaves_without fs f.page more f.left f.right;
       counts = λ n. omega (
         arith,
         times-plug n fs (Fork f.page (f.lows ++ f.highs) (f.left & Leaf page items f.right) Nil),
@@ -136,11 +143,16 @@ pruned_fork old new root page items f fs m w trim some there others =
         let l = EachNode-from_and HoldsEntry f.left (Leaf page items f.right) k in
         EachNode-and HoldsEntry f.left f.right l.0 l.1.1
 
--- a tree on another page has the same entries, and its pages but for the one that it leaves
+-- a tree on another page has the same entries and leaves, and its pages but for the one that it leaves
 leaf_entries-moved : (page : ℕ) (child : Forest) → leaf_entries (moved page child) ≡ leaf_entries child
 leaf_entries-moved page Nil = refl
 leaf_entries-moved page (Leaf p items next) = refl
 leaf_entries-moved page (Fork p seps kids next) = refl
+
+filled_leaves-moved : (page : ℕ) (child : Forest) → filled_leaves (moved page child) ≡ filled_leaves child
+filled_leaves-moved page Nil = refl
+filled_leaves-moved page (Leaf p items next) = refl
+filled_leaves-moved page (Fork p seps kids next) = refl
 
 times-moved : (n page q : ℕ) (child : Forest) → heads child ≡ q ∷ [] → times n (moved page child) + once n q ≡ once n page + times n child
 times-moved n page q Nil e = cc
@@ -189,6 +201,8 @@ collapsed_over old new root page b items f fs m w trim fit e there others =
           (λ k. (trim_moved f.page b (f.left & f.right) e (less k.1)).0) (λ k. (trim_moved f.page b (f.left & f.right) e (less k)).1) trim;
       entries = leaf_entries-plug fs (moved f.page (f.left & f.right))
           ∙ rw (leaf_entries-moved f.page (f.left & f.right), leaf_entries-and) (simp append_assoc);
+      leaves = filled_leaves-plug fs (moved f.page (f.left & f.right))
+          ∙ rw (filled_leaves-moved f.page (f.left & f.right), filled_leaves-and) (simp append_assoc);
       counts = λ n. omega (
         arith,
         times-plug n fs (Fork f.page (f.lows ++ f.highs) (f.left & Leaf page items f.right) Nil),

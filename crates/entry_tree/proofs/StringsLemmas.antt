@@ -1,9 +1,10 @@
 -- Byte strings of one width that lie behind one another.
 use Rattle.std.proofs.Common.{Result, Ok, Err, OnOk, OnErr, ◌≡◌, ◌<◌, ◌≤◌, ◌+◌, ◌-◌, ◌*◌, ℕ, zero, suc, List, [], ◌∷◌, ◌++◌, ap, arith, sym, ◌∙◌, subst, length, get_or, take, drop}
-use Rattle.std.specs.Prelude.{true, false, Bool, if◌then◌else◌, nat_le, nat_lt, ◌==◌, ◌&&◌}
+use Rattle.std.specs.Prelude.{Some, None, true, false, Bool, if◌then◌else◌, nat_le, nat_lt, ◌==◌, ◌&&◌}
 use Rattle.std.proofs.Math.Nat.{add-mul, mul-le-mul_right, suc-mul, zero-mul}
 use Rattle.std.proofs.Math.Seq.{drop-append_seam, take-length}
 use Rattle.std.proofs.lemmas.List.{same_lists, length-take-le, length-drop, drop-drop, drop-take, get_or-drop, take-take, drop-append-le, take-append-le}
+use Rattle.std.proofs.lemmas.Option.{same_Some}
 use Rattle.std.proofs.lemmas.List.FromFn.{map-range_with_len_more}
 use Rattle.std.specs.Str.{bytes_eq}
 use Rattle.mdc_words.specs.ByteOrder.{Entry}
@@ -11,6 +12,7 @@ use Rattle.mdc_words.specs.Listed.{listed}
 use Rattle.mdc_words.proofs.ListedLemmas.{length-listed, get_or-listed, listed_same}
 use Rattle.node_page.specs.Node.{bytes_in, node_of, node_bytes, number_within, stated_entries, stated_inner, stated_leaf, stated_node}
 use Rattle.node_page.specs.Node.Node.{LeafNode, NoNode}
+use Rattle.node_page.specs.Looked.{SeenNode, looked, seen_if, seen_node}
 use Rattle.entry_tree.specs.Entries.{AreOfWidth, strings_in}
 
 -- the end of one of the rows
@@ -89,14 +91,31 @@ leaf_stated w page items e = go (bytes_eq page (node_bytes w (stated_node w page
         ((number_within 0 1 page == 73) && nat_lt 0 (stated_entries page) && nat_le (stated_entries page * (w + 4)) 4080) e
     go false e = cc
 
+-- the same of a leaf that a look shows
+pub leaf_shown : (w : ℕ) (page : List ℕ) (items : List Entry) → looked w page ≡ Some (seen_node w (LeafNode items)) → items ≡ listed (stated_entries page) (λ i. bytes_in (16 + i * w) w page)
+leaf_shown w page items e =
+    go (number_within 2 2 page == w) ((number_within 0 1 page == 76) && nat_le (stated_entries page * w) 4080)
+    ((number_within 0 1 page == 73) && nat_lt 0 (stated_entries page) && nat_le (stated_entries page * (w + 4)) 4080) e
+  where
+    go : (a b c : Bool) → (if a then seen_if w (if b then stated_leaf w (stated_entries page) page else (if c then stated_inner w (stated_entries page) page else NoNode)) else None) ≡ Some (seen_node w (LeafNode items))
+        → items ≡ listed (stated_entries page) (λ i. bytes_in (16 + i * w) w page)
+    go true true c e = let k = ap (λ (v : SeenNode). v.node) (same_Some _ _ e) in cc
+    go true false true e = let k = ap (λ (v : SeenNode). v.node) (same_Some _ _ e) in cc
+    go true false false e = cc
+    go false b c e = cc
+
 -- the entries from a place on, as they were copied
-pub taken : (w at count : ℕ) (page part : List ℕ) (items given : List Entry) → given ≡ strings_in w (count - at) part → part ≡ bytes_in (16 + at * w) ((count - at) * w) page
-    → node_of w page ≡ LeafNode items → count ≡ length items → at ≤ count → given ≡ drop at items
-taken w at count page part items given e p n c h =
-    let s = leaf_stated w page items n in
+pub taken_stated : (w at count : ℕ) (page part : List ℕ) (items given : List Entry) → given ≡ strings_in w (count - at) part → part ≡ bytes_in (16 + at * w) ((count - at) * w) page
+    → items ≡ listed (stated_entries page) (λ i. bytes_in (16 + i * w) w page) → count ≡ length items → at ≤ count → given ≡ drop at items
+taken_stated w at count page part items given e p s c h =
     let k : stated_entries page ≡ count = sym (c ∙ ap length s ∙ length-listed (stated_entries page) (λ i. bytes_in (16 + i * w) w page)) in
     e ∙ ap (strings_in w (count - at)) p ∙ drop-strings w count at page h
     ∙ ap (drop at) (ap (λ (m : ℕ). listed m (λ i. bytes_in (16 + i * w) w page)) (sym k) ∙ sym s)
+
+-- the same of a leaf
+pub taken : (w at count : ℕ) (page part : List ℕ) (items given : List Entry) → given ≡ strings_in w (count - at) part → part ≡ bytes_in (16 + at * w) ((count - at) * w) page
+    → node_of w page ≡ LeafNode items → count ≡ length items → at ≤ count → given ≡ drop at items
+taken w at count page part items given e p n c h = taken_stated w at count page part items given e p (leaf_stated w page items n) c h
 
 pub all_wide : (w : ℕ) (xs : List Entry) → ((k : ℕ) → k < length xs → length (get_or xs k []) ≡ w) → AreOfWidth w xs
 all_wide w [] h = tt

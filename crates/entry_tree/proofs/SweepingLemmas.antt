@@ -17,7 +17,7 @@ use Rattle.extent_map.specs.declared.kind.Kind.{Kind}
 use Rattle.extent_map.specs.declared.space_notes.SpaceNotes.{SpaceNotes}
 use Rattle.extent_map.proofs.HoldsMapLemmas.{holds_map_run}
 use Rattle.entry_tree.specs.EntryBounds.{Bound}
-use Rattle.entry_tree.specs.Forest.{Forest, IsTree, IsTrimTree, leaf_entries, times}
+use Rattle.entry_tree.specs.Forest.{Forest, IsTree, IsTrimTree, filled_leaf, filled_leaves, leaf_entries, times}
 use Rattle.entry_tree.specs.Forest.Forest.{Leaf, Nil}
 use Rattle.entry_tree.specs.HeldTrees.{nodes_in, HoldsTree}
 use Rattle.entry_tree.specs.LeafSpots.{IsItemSpot, IsParent}
@@ -25,14 +25,14 @@ use Rattle.entry_tree.specs.Pruning.{DropsLeaf, IsDropping, IsPruned, IsTreeOrMa
 use Rattle.entry_tree.specs.Standing.{StandsTree}
 use Rattle.entry_tree.specs.Sweeping.{IsFirstSpot, IsLeafSpot, PrunesLeaf, SweepsLeaf}
 use Rattle.entry_tree.specs.TreeChanges.{IsPut}
-use Rattle.entry_tree.specs.TreePlaces.{Frame, entries_before, entries_behind, plug}
+use Rattle.entry_tree.specs.TreePlaces.{Frame, entries_before, entries_behind, leaves_before, leaves_behind, plug}
 use Rattle.entry_tree.specs.declared.tree.Tree.{Tree}
 use Rattle.entry_tree.proofs.PruningLemmas.{pruned_leaf}
 use Rattle.entry_tree.proofs.RemovalLemmas.{spot_to_drop, stands_pruned}
 use Rattle.entry_tree.proofs.ReturnedPagesLemmas.{apart_from_map}
 use Rattle.entry_tree.proofs.SublistLemmas.{IsSublist, Rises-sublist}
-use Rattle.entry_tree.proofs.TreePlacesLemmas.{Fits-plug, leaf_entries-plug}
-use Rattle.entry_tree.proofs.UnsweptLemmas.{IsLeafPart, length-part, part_before, part_none, unswept-part}
+use Rattle.entry_tree.proofs.TreePlacesLemmas.{Fits-plug, filled_leaves-plug, leaf_entries-plug}
+use Rattle.entry_tree.proofs.UnsweptLemmas.{IsLeafPart, length-part, part_before, part_none, unswept-items, unswept-part}
 use Rattle.entry_tree.proofs.WayLemmas.{place_times}
 
 -- a leaf of a tree whose page is the same
@@ -68,6 +68,9 @@ only_spot {page = page} spot is owners t st =
 plain_entries : {t : Forest} (above : List Frame) (page : ℕ) (items : List Entry) → t ≡ plug above (Leaf page items Nil) → leaf_entries t ≡ entries_before above ++ (items ++ entries_behind above)
 plain_entries above page items whole = ap leaf_entries whole ∙ (leaf_entries-plug above (Leaf page items Nil) ∙ simp append-nil)
 
+pub plain_leaves : {t : Forest} (above : List Frame) (page : ℕ) (items : List Entry) → t ≡ plug above (Leaf page items Nil) → filled_leaves t ≡ leaves_before above ++ (filled_leaf items ++ leaves_behind above)
+plain_leaves above page items whole = ap filled_leaves whole ∙ (filled_leaves-plug above (Leaf page items Nil) ∙ simp append-nil)
+
 module _ {S : Type 0} {g : Ghosts S} {shape : Shape} {before : SpaceNotes} {s : S} {tree : Tree} {owners : List Kind} {t : Forest} where
   -- no entry goes
   pub prunes_none : {noted : SpaceNotes} (above : List Frame) (page : ℕ) (items kept : List Entry) → StandsTree g shape s tree owners t → t ≡ plug above (Leaf page items Nil) → kept ≡ items → noted ≡ before
@@ -79,6 +82,7 @@ module _ {S : Type 0} {g : Ghosts S} {shape : Shape} {before : SpaceNotes} {s : 
       tree = st.held.is_tree;
       trim = st.held.trim;
       entries = plain_entries above page items whole ∙ ap (λ (l : List Entry). entries_before above ++ (l ++ entries_behind above)) (sym is);
+      leaves = plain_leaves above page items whole ∙ ap (λ (l : List Entry). leaves_before above ++ (filled_leaf l ++ leaves_behind above)) (sym is);
       counts = λ n. omega arith;
     };
     stands = st;
@@ -148,6 +152,7 @@ sweeps_first {S} {g} {shape} {before} {noted} {new} {tree} {owners} {t} {nodes} 
       stands = p.stands;
       leaves = p.pruned.entries ∙ sym (unswept-part at blocks q);
       fewer = omega (arith, ap length p.pruned.entries, many, length-part at blocks q);
+      others = p.pruned.leaves ∙ ap (λ (l : List Entry). leaves_before f.spot.above ++ (filled_leaf l ++ leaves_behind f.spot.above)) (sym (unswept-items at blocks q));
       pages = p.pruned.counts;
       notes = p.notes;
     })

@@ -1,11 +1,11 @@
 -- Lemmas on a tree with a place in it.
 use Rattle.std.proofs.Common.{◌≡◌, ◌<◌, ◌+◌, ℕ, List, [], ◌∷◌, ◌++◌, refl, ap, arith, sym, ◌∙◌, subst, append_assoc, append-nil, length}
 use Rattle.std.specs.Prelude.{Some}
-use Rattle.entry_tree.proofs.ForestLemmas.{EachNode-agree, EachNode-and, EachNode-from_and, Fits-and, and_nil, leaf_entries-and, heads-and, once_same, times-and}
+use Rattle.entry_tree.proofs.ForestLemmas.{EachNode-agree, EachNode-and, EachNode-from_and, Fits-and, and_nil, filled_leaves-and, leaf_entries-and, heads-and, once_same, times-and}
 use Rattle.entry_tree.specs.EntryBounds.{Bound}
-use Rattle.entry_tree.specs.Forest.{EachNode, Fits, Forest, leaf_entries, heads, times, ◌&◌}
+use Rattle.entry_tree.specs.Forest.{EachNode, Fits, Forest, filled_leaves, leaf_entries, heads, times, ◌&◌}
 use Rattle.entry_tree.specs.Forest.Forest.{Fork, Leaf, Nil}
-use Rattle.entry_tree.specs.TreePlaces.{AreMatched, Frame, entries_before, entries_behind, first_or, high_of, last_or, low_of, plug, times_beside}
+use Rattle.entry_tree.specs.TreePlaces.{AreMatched, Frame, entries_before, entries_behind, leaves_before, leaves_behind, first_or, high_of, last_or, low_of, plug, times_beside}
 use Rattle.mdc_words.specs.ByteOrder.{Entry}
 use Rattle.node_page.specs.Node.{Node}
 use Rattle.node_page.specs.Node.Node.{InnerNode}
@@ -15,6 +15,12 @@ leaf_entries-plug [] t = simp append-nil
 leaf_entries-plug (f ∷ fs) t =
     leaf_entries-plug fs (Fork f.page (f.lows ++ f.highs) (f.left & (t & f.right)) Nil)
     ∙ simp (leaf_entries-and, append_assoc, append-nil)
+
+pub filled_leaves-plug : (fs : List Frame) (t : Forest) → filled_leaves (plug fs t) ≡ leaves_before fs ++ (filled_leaves t ++ leaves_behind fs)
+filled_leaves-plug [] t = simp append-nil
+filled_leaves-plug (f ∷ fs) t =
+    filled_leaves-plug fs (Fork f.page (f.lows ++ f.highs) (f.left & (t & f.right)) Nil)
+    ∙ simp (filled_leaves-and, append_assoc, append-nil)
 
 pub times-plug : (n : ℕ) (fs : List Frame) (t : Forest) → times n (plug fs t) ≡ times_beside n fs + times n t
 times-plug n [] t = omega arith

@@ -80,7 +80,7 @@ least_from x (y ∷ ys) = go (below y x) refl (least_from x ys)
     go true e r = r
     go false e r = (e, r)
 
-none_from : (x : Entry) (xs : List Entry) → entries_from x xs ≡ [] → AreUnder (Some x) xs
+pub none_from : (x : Entry) (xs : List Entry) → entries_from x xs ≡ [] → AreUnder (Some x) xs
 none_from x [] e = tt
 none_from x (y ∷ ys) e = go (below y x) refl e (none_from x ys)
   where
@@ -219,6 +219,17 @@ module _ {all : List Entry} {bound : Entry} {next : Bound} {from : ℕ} {before 
       (between_bounds bound next at blocks (drop from items) (AreAtLeast-from_and (Some bound) (drop from items) behind l.1).0 (AreUnder-drop next from items u))
       ∙ (ap (λ (k : List Entry). (before ++ take from items) ++ (filter (λ y. not (names_block blocks at y)) (drop from items) ++ k)) (kept_behind bound next at blocks behind (begins_behind (bound ∷ items) next behind p.begins))
       ∙ simp append_assoc)))))
+
+  -- the same of the leaf alone
+  pub unswept-items : (at : ℕ) (blocks : List ℕ) → IsLeafPart all bound next from before items behind → unswept bound next at blocks items ≡ without_blocks blocks at from items
+  unswept-items at blocks p =
+      let keep = λ (y : Entry). not (is_swept bound next at blocks y) in
+      let l = parts_lie p in
+      let u : AreUnder next items = (begins_under (bound ∷ items) next behind p.begins).1 in
+      ap (filter keep) (sym (take-append-drop from items))
+      ∙ (filter-append keep (take from items) (drop from items)
+      ∙ (ap (λ (k : List Entry). k ++ filter keep (drop from items)) (before_bound bound next at blocks (take from items) (AreUnder-from_and (Some bound) before (take from items) l.0).1)
+      ∙ ap (λ (k : List Entry). take from items ++ k) (between_bounds bound next at blocks (drop from items) (AreAtLeast-from_and (Some bound) (drop from items) behind l.1).0 (AreUnder-drop next from items u))))
 
   pub length-part : (at : ℕ) (blocks : List ℕ) → IsLeafPart all bound next from before items behind → length (before ++ (without_blocks blocks at from items ++ behind)) + count_named blocks at from items ≡ length all
   length-part at blocks p =

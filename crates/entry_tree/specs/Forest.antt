@@ -32,6 +32,17 @@ leaf_entries Nil = []
 leaf_entries (Leaf page items next) = items ++ leaf_entries next
 leaf_entries (Fork page seps kids next) = leaf_entries kids ++ leaf_entries next
 
+-- a leaf with these entries, and none where there are none
+abbrev pub filled_leaf : List Entry → List (List Entry)
+filled_leaf [] = []
+filled_leaf (x ∷ items) = (x ∷ items) ∷ []
+
+-- its leaves that hold an entry, in order, each by its entries
+abbrev pub filled_leaves : Forest → List (List Entry)
+filled_leaves Nil = []
+filled_leaves (Leaf page items next) = filled_leaf items ++ filled_leaves next
+filled_leaves (Fork page seps kids next) = filled_leaves kids ++ filled_leaves next
+
 -- 1 for the same page, and else 0
 abbrev pub once : ℕ → ℕ → ℕ
 once n page = if n == page then 1 else 0

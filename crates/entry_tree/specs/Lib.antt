@@ -8,6 +8,7 @@ pub mod HeldTrees
 pub mod LeafSpots
 pub mod Pruning
 pub mod Reading
+pub mod Shown
 pub mod Sight
 pub mod Slots
 pub mod Spots

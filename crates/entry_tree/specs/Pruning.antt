@@ -12,22 +12,23 @@ use Rattle.extent_map.specs.Owners.{AreRightNotes, IsUsedPage, without_page}
 use Rattle.extent_map.specs.declared.kind.Kind.{Kind}
 use Rattle.extent_map.specs.declared.space_notes.SpaceNotes.{SpaceNotes}
 use Rattle.entry_tree.specs.EntryBounds.{IsEntryOf, with_entry}
-use Rattle.entry_tree.specs.Forest.{Forest, leaf_entries, times, IsTree, IsTrimTree}
+use Rattle.entry_tree.specs.Forest.{Forest, filled_leaf, filled_leaves, leaf_entries, times, IsTree, IsTrimTree}
 use Rattle.entry_tree.specs.Forest.Forest.{Leaf, Nil}
 use Rattle.entry_tree.specs.HeldTrees.{nodes_in, BreaksTree}
 use Rattle.entry_tree.specs.Standing.{StandsTree}
-use Rattle.entry_tree.specs.TreePlaces.{AreMatched, Frame, entries_before, entries_behind, plug}
+use Rattle.entry_tree.specs.TreePlaces.{AreMatched, Frame, entries_before, entries_behind, leaves_before, leaves_behind, plug}
 use Rattle.entry_tree.specs.TreeChanges.{times_among}
 use Rattle.entry_tree.specs.Writing.{BreaksWhere}
 use Rattle.entry_tree.specs.declared.tree.Tree.{Tree}
 
--- The leaf at a place of t, below these nodes, has these entries now. Each page of t is in the tree afterwards or is gone from
+-- The leaf at a place of t, below these nodes, has these entries now, and all other leaves have those that they had. Each page of t is in the tree afterwards or is gone from
 -- it, and none is in it that wasn't.
 pub record IsPruned (new : ℕ → Node) (root : ℕ) (t : Forest) (above : List Frame) (kept : List Entry) (gone : List ℕ) : Type 0 where
   pub after : Forest
   pub tree : IsTree new root after
   pub trim : IsTrimTree after
   pub entries : leaf_entries after ≡ entries_before above ++ (kept ++ entries_behind above)
+  pub leaves : filled_leaves after ≡ leaves_before above ++ (filled_leaf kept ++ leaves_behind above)
   pub counts : (n : ℕ) → times n after + times_among n gone ≡ times n t
 
 -- a leaf with an entry at a place

@@ -11,7 +11,7 @@ use Rattle.extent_map.specs.Owners.{AreRightNotes}
 use Rattle.extent_map.specs.declared.kind.Kind.{Kind}
 use Rattle.extent_map.specs.declared.space_notes.SpaceNotes.{SpaceNotes}
 use Rattle.entry_tree.specs.EntryBounds.{Bound}
-use Rattle.entry_tree.specs.Forest.{Forest, leaf_entries, times}
+use Rattle.entry_tree.specs.Forest.{Forest, filled_leaf, filled_leaves, leaf_entries, times}
 use Rattle.entry_tree.specs.Forest.Forest.{Leaf, Nil}
 use Rattle.entry_tree.specs.HeldTrees.{nodes_in}
 use Rattle.entry_tree.specs.LeafSpots.{IsParent}
@@ -19,7 +19,7 @@ use Rattle.entry_tree.specs.Pruning.{IsPruned, without_pages}
 use Rattle.entry_tree.specs.Reading.{AreUnder, RestBegins, entries_from}
 use Rattle.entry_tree.specs.Standing.{StandsTree}
 use Rattle.entry_tree.specs.TreeChanges.{times_among}
-use Rattle.entry_tree.specs.TreePlaces.{AreMatched, Frame, entries_before, entries_behind, plug}
+use Rattle.entry_tree.specs.TreePlaces.{AreMatched, Frame, entries_before, entries_behind, leaves_before, leaves_behind, plug}
 use Rattle.entry_tree.specs.declared.naming.Named.{Named}
 use Rattle.entry_tree.specs.declared.tree.Tree.{Tree}
 
@@ -50,7 +50,7 @@ pub record IsFirstLeaf (t : Forest) (bound : Entry) (next : Bound) : Type 0 wher
   pub begins : RestBegins (bound ∷ items) next (entries_behind above)
 
 -- What a sweep of that leaf did. Exactly those entries are gone that lie from the bound on, before the next one, and name a
--- block; so many they were. The pages that the tree no longer has are given back.
+-- block; so many they were. All other leaves are as they were. The pages that the tree no longer has are given back.
 pub record SweepsLeaf {S : Type 0} (g : Ghosts S) (shape : Shape) (before noted : SpaceNotes) (new : S) (tree : Tree) (owners : List Kind) (t : Forest) (bound : Entry) (at : ℕ) (blocks : List ℕ) (removed : ℕ) (next : Bound) : Type 0 where
   pub first : IsFirstLeaf t bound next
   pub gone : List ℕ
@@ -58,8 +58,19 @@ pub record SweepsLeaf {S : Type 0} (g : Ghosts S) (shape : Shape) (before noted 
   pub stands : StandsTree g shape new tree (without_pages shape owners gone) after
   pub leaves : leaf_entries after ≡ unswept bound next at blocks (leaf_entries t)
   pub fewer : length (leaf_entries after) + removed ≡ length (leaf_entries t)
+  pub others : filled_leaves after ≡ leaves_before first.above ++ (filled_leaf (unswept bound next at blocks first.items) ++ leaves_behind first.above)
   pub pages : (n : ℕ) → times n after + times_among n gone ≡ times n t
   pub notes : AreRightNotes shape before owners → AreRightNotes shape noted (without_pages shape owners gone)
+
+-- 1 where there is an entry, and else 0
+abbrev pub one_if_any : List Entry → ℕ
+one_if_any [] = 0
+one_if_any (x ∷ items) = 1
+
+-- how many leaves have an entry from a bound on
+abbrev pub leaves_from : Entry → List (List Entry) → ℕ
+leaves_from bound [] = 0
+leaves_from bound (items ∷ leaves) = one_if_any (entries_from bound items) + leaves_from bound leaves
 
 -- a leaf of t on a page, and the node just above it
 pub record IsLeafSpot (nodes : ℕ → Node) (t : Forest) (page : ℕ) (parent : Option (ℕ × ℕ)) : Type 0 where

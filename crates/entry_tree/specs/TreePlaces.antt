@@ -3,7 +3,7 @@ use Rattle.std.specs.Prelude.{◌≡◌, ◌<◌, ◌≤◌, ◌+◌, ◌-◌, �
 use Rattle.mdc_words.specs.ByteOrder.{Entry, below}
 use Rattle.node_page.specs.Node.{Node}
 use Rattle.entry_tree.specs.EntryBounds.{Bound, AtLeast, Under}
-use Rattle.entry_tree.specs.Forest.{Forest, ◌&◌, heads, leaf_entries, once, times}
+use Rattle.entry_tree.specs.Forest.{Forest, ◌&◌, filled_leaves, heads, leaf_entries, once, times}
 use Rattle.entry_tree.specs.Forest.Forest.{Nil, Fork}
 
 -- an inner node less one of its children: what stands before and behind that child
@@ -28,6 +28,16 @@ entries_before (f ∷ fs) = entries_before fs ++ leaf_entries f.left
 abbrev pub entries_behind : List Frame → List Entry
 entries_behind [] = []
 entries_behind (f ∷ fs) = leaf_entries f.right ++ entries_behind fs
+
+-- the leaves before the place that hold an entry
+abbrev pub leaves_before : List Frame → List (List Entry)
+leaves_before [] = []
+leaves_before (f ∷ fs) = leaves_before fs ++ filled_leaves f.left
+
+-- and those behind it
+abbrev pub leaves_behind : List Frame → List (List Entry)
+leaves_behind [] = []
+leaves_behind (f ∷ fs) = filled_leaves f.right ++ leaves_behind fs
 
 -- how often a page stands above it or beside it
 abbrev pub times_beside : ℕ → List Frame → ℕ

@@ -1,5 +1,5 @@
 // An entry more.
-ghost use Rattle.std.specs.Prelude.{◌≡◌, ◌<◌, List, length, reverse, false, IfOk, IfErr, OnOk, All, MatchBool};
+ghost use Rattle.std.specs.Prelude.{◌≡◌, ◌<◌, List, length, reverse, false, not, IsTrue, IfOk, IfErr, OnOk, All, MatchBool};
 ghost use Rattle.store_api.specs.Causes.{fault_of, store_fault_in};
 ghost use Rattle.store_api.specs.RunsOverPages.{RunsOverPages};
 ghost use Rattle.extent_map.specs.Damages.{IfFull, store_part_of};
@@ -9,6 +9,7 @@ ghost use Rattle.entry_tree.specs.EntryBounds.{IsEntryOf};
 ghost use Rattle.entry_tree.specs.Forest.{Forest, leaf_entries};
 ghost use Rattle.entry_tree.specs.TreeChanges.{IsAdded};
 ghost use Rattle.entry_tree.specs.HeldTrees.{nodes_in};
+ghost use Rattle.entry_tree.specs.Shown.{SeesFull, SeesWhether};
 ghost use Rattle.entry_tree.specs.Standing.{StandsTree, AddsEntry, FindsFull, IsTreeSpace, BreaksTreeOrMap};
 ghost use Rattle.entry_tree.specs.Writing.{IsCutPage, IsReadyToCut, BreaksWhere};
 
@@ -36,10 +37,12 @@ impl Tree {
         requires going { (P.state pages.old).ended ≡ false }
         ensures adds { IfOk result (λ added. (owners : List Kind) (t : Forest) → StandsTree P.Pages shape pages.old self.now owners t
             → MatchBool added (AddsEntry P.Pages shape notes.old notes.new pages.old pages.new self.now entry.now owners t) (IsEntryOf entry.now (leaf_entries t))) }
+        ensures seen { IfOk result (λ added. IsTrue (P.state pages.old).is_told → SeesWhether self.now.width (P.state pages.old).work self.now.root entry.now (not added)) }
         ensures there { IfOk result (λ added. added ≡ false → (P.state pages.new).work ≡ (P.state pages.old).work) }
         ensures there_notes { IfOk result (λ added. added ≡ false → notes.new ≡ notes.old) }
         ensures full { IfErr result (λ fault. IfFull fault (λ cap. (cap ≡ shape.extents)
             × ((owners : List Kind) (t : Forest) → StandsTree P.Pages shape pages.old self.now owners t → FindsFull P.Pages shape notes.old notes.new pages.old pages.new self.now entry.now owners t))) }
+        ensures full_seen { IfErr result (λ fault. IfFull fault (λ cap. SeesFull P.Pages shape notes.old notes.new pages.old pages.new self.now entry.now)) }
         ensures root { (owners : List Kind) (t : Forest) → StandsTree P.Pages shape pages.old self.now owners t → KeepsRoot P.Pages pages.old pages.new }
         ensures runs { RunsOverPages P.Pages (IsTreeSpace P.Pages shape pages.old self.now) (IsTreeSpace P.Pages shape pages.old self.now)
             (BreaksTreeOrMap P.Pages shape pages.old self.now) pages.old pages.new (store_fault_in store_part_of result) }

@@ -11,6 +11,7 @@ ghost use Rattle.entry_tree.specs.Slots.{IsSlot};
 ghost use Rattle.entry_tree.specs.Finding.{IsFoundEntry};
 ghost use Rattle.entry_tree.specs.Forest.{Forest, leaf_entries};
 ghost use Rattle.entry_tree.specs.HeldTrees.{HoldsTree, IsTreePage, BreaksTree};
+ghost use Rattle.entry_tree.specs.Shown.{SeesWhether};
 ghost use Rattle.entry_tree.specs.Spots.{FenceFits};
 
 use crate::spot::{Fence, find_spot};
@@ -28,6 +29,7 @@ impl Tree {
         requires alike { take 4 old.now ≡ take 4 new.now }
         requires going { (P.state pages.old).ended ≡ false }
         ensures amended { IfOk result (λ there. (t : Forest) → HoldsTree P.Pages pages.old self.now t → IsAmended P.Pages pages.old pages.new self.now old.now new.now t there) }
+        ensures seen { IfOk result (λ there. IsTrue (P.state pages.old).is_told → SeesWhether self.now.width (P.state pages.old).work self.now.root old.now there) }
         ensures count { length (P.state pages.new).work ≡ length (P.state pages.old).work }
         ensures runs { RunsOverPages P.Pages (IsTreePage P.Pages pages.old self.now) (IsTreePage P.Pages pages.old self.now) (BreaksTree P.Pages pages.old self.now) pages.old pages.new (fault_of result) }
     {

@@ -1,5 +1,5 @@
 // The way down to the leaf of an entry.
-ghost use Rattle.std.specs.Prelude.{◌≡◌, ◌<◌, ◌≤◌, ◌+◌, if◌then◌else◌, length, reverse, false, IfOk, All};
+ghost use Rattle.std.specs.Prelude.{◌≡◌, ◌<◌, ◌≤◌, ◌+◌, if◌then◌else◌, length, reverse, false, IsTrue, IfOk, All};
 ghost use Rattle.store_api.specs.Frame.{NoPage};
 ghost use Rattle.store_api.specs.Causes.{fault_of};
 ghost use Rattle.store_api.specs.RunsOverPages.{RunsOverPages};
@@ -8,6 +8,7 @@ ghost use Rattle.entry_tree.specs.Forest.{Forest};
 ghost use Rattle.entry_tree.specs.TreePlaces.{pages_asked};
 ghost use Rattle.entry_tree.specs.TreeChanges.{IsLeafFound};
 ghost use Rattle.entry_tree.specs.HeldTrees.{nodes_in, HoldsTree, IsTreePage, BreaksTree};
+ghost use Rattle.entry_tree.specs.Shown.{SeesAsked};
 
 use crate::Tree;
 use crate::sight::{Sight, see};
@@ -45,6 +46,8 @@ pub(crate) fn find_way<P: Pages>(
     ensures found { IfOk result (λ way. (t : Forest) → HoldsTree P.Pages pages.old tree.now t
         → IsLeafFound (nodes_in tree.now.width (P.state pages.old)) t entry.now (reverse way.path.items) way.page way.at way.there
         × (way.asked ≡ pages_asked (is_full tree.now.width) (nodes_in tree.now.width (P.state pages.old)) (reverse way.path.items) way.page)) }
+    ensures seen { IfOk result (λ way. IsTrue (P.state pages.old).is_told
+        → SeesAsked tree.now.width (P.state pages.old).work tree.now.root entry.now way.page way.at way.there way.asked) }
     ensures there { IfOk result (λ way. way.page < length (P.state pages.old).work) }
     ensures path { IfOk result (λ way. All (λ place. place.0 < length (P.state pages.old).work) way.path.items) }
     ensures root { IfOk result (λ way. tree.now.root < length (P.state pages.old).work) }

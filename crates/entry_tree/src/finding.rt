@@ -1,6 +1,7 @@
 // The lowest entry from a bound on, and where it stands.
-ghost use Rattle.std.specs.Prelude.{◌≡◌, ◌<◌, ◌+◌, List, length, drop, false, IsSome, IsTrue, IfOk, IfSome};
+ghost use Rattle.std.specs.Prelude.{◌≡◌, ◌<◌, ◌+◌, ℕ, List, length, drop, false, Some, IsSome, IsTrue, IfOk, IfSome};
 ghost use Rattle.mdc_words.specs.ByteOrder.{Entry};
+ghost use Rattle.node_page.specs.Node.Node.{LeafNode};
 ghost use Rattle.store_api.specs.Frame.{NoPage};
 ghost use Rattle.store_api.specs.Causes.{fault_of};
 ghost use Rattle.store_api.specs.RunsOverPages.{RunsOverPages};
@@ -8,6 +9,7 @@ ghost use Rattle.entry_tree.specs.Finding.{IsFoundEntry, found_entry};
 ghost use Rattle.entry_tree.specs.Forest.{Forest, leaf_entries};
 ghost use Rattle.entry_tree.specs.HeldTrees.{HoldsTree, IsTreePage, BreaksTree};
 ghost use Rattle.entry_tree.specs.Reading.{BoundFits, IsFirstOr, first_entry};
+ghost use Rattle.entry_tree.specs.Shown.{ReadsFirst, Shows};
 ghost use Rattle.entry_tree.specs.Spots.{LendsLeaf};
 
 use crate::leaf_place::find_leaf;
@@ -54,6 +56,7 @@ impl Tree {
         requires width { length bound.now ≡ self.now.width }
         requires going { (P.state pages.old).ended ≡ false }
         ensures first { IfOk result (λ found. (t : Forest) → HoldsTree P.Pages pages.old self.now t → IsFirstOr (leaf_entries t) bound.now (found_entry found)) }
+        ensures seen { IfOk result (λ found. IsTrue (P.state pages.old).is_told → ReadsFirst self.now.width (P.state pages.old).work self.now.root bound.now (found_entry found)) }
         ensures stands { IfOk result (λ found. IfSome found (IsFoundEntry P.Pages pages.new self.now)) }
         ensures width { IfOk result (λ found. BoundFits self.now.width (found_entry found)) }
         ensures same { (P.state pages.new).work ≡ (P.state pages.old).work }
@@ -80,6 +83,7 @@ impl Tree {
         requires width { length bound.now ≡ self.now.width }
         requires going { (P.state pages.old).ended ≡ false }
         ensures first { IfOk result (λ found. (t : Forest) → HoldsTree P.Pages pages.old self.now t → IsFirstOr (leaf_entries t) bound.now (found_entry found)) }
+        ensures seen { IfOk result (λ found. IsTrue (P.state pages.old).is_told → ReadsFirst self.now.width (P.state pages.old).work self.now.root bound.now (found_entry found)) }
         ensures stands { IfOk result (λ found. IfSome found (IsFoundEntry P.Pages pages.new self.now)) }
         ensures width { IfOk result (λ found. BoundFits self.now.width (found_entry found)) }
         ensures same { (P.state pages.new).work ≡ (P.state pages.old).work }
@@ -127,6 +131,7 @@ fn is_inside<P: Pages>(tree: &Tree, pages: &P, at: usize) -> bool
 fn take_first<P: Pages>(tree: &Tree, pages: &P, at: usize) -> Option<Entry>
     requires hand { IsSome (P.state pages.now).hand }
     ensures taken { (items : List Entry) → LendsLeaf tree.now.width (P.state pages.now).hand items → result ≡ first_entry (drop at items) }
+    ensures shown { (bytes : List ℕ) (items : List Entry) → (P.state pages.now).hand ≡ Some bytes → Shows tree.now.width bytes (LeafNode items) → result ≡ first_entry (drop at items) }
     ensures width { BoundFits tree.now.width result }
 {
     let view = NodeView::look(pages.page(), tree.width)?;

@@ -6,6 +6,7 @@ ghost use Rattle.store_api.specs.RunsOverPages.{RunsOverPages};
 ghost use Rattle.entry_tree.specs.EntryBounds.{IsEntryOf};
 ghost use Rattle.entry_tree.specs.Forest.{Forest, leaf_entries};
 ghost use Rattle.entry_tree.specs.HeldTrees.{HoldsTree, IsTreePage, BreaksTree};
+ghost use Rattle.entry_tree.specs.Shown.{SeesWhether};
 
 use crate::Tree;
 use crate::leaf_place::find_leaf;
@@ -17,6 +18,7 @@ impl Tree {
         requires width { length entry.now ≡ self.now.width }
         requires going { (P.state pages.old).ended ≡ false }
         ensures has { IfOk result (λ there. (t : Forest) → HoldsTree P.Pages pages.old self.now t → IsTrue there ↔ IsEntryOf entry.now (leaf_entries t)) }
+        ensures seen { IfOk result (λ there. IsTrue (P.state pages.old).is_told → SeesWhether self.now.width (P.state pages.old).work self.now.root entry.now there) }
         ensures same { (P.state pages.new).work ≡ (P.state pages.old).work }
         ensures runs { RunsOverPages P.Pages NoPage (IsTreePage P.Pages pages.old self.now) (BreaksTree P.Pages pages.old self.now) pages.old pages.new (fault_of result) }
     {

@@ -1,13 +1,15 @@
 // The leaf of an entry, and its place there.
-ghost use Rattle.std.specs.Prelude.{◌≡◌, ◌<◌, List, length, false, IsSome, IfOk, OnOk};
+ghost use Rattle.std.specs.Prelude.{◌≡◌, ◌<◌, List, length, false, Some, IsSome, IsTrue, IfOk, OnOk};
 ghost use Rattle.mdc_words.specs.ByteOrder.{Entry};
 ghost use Rattle.store_api.specs.Frame.{NoPage};
+ghost use Rattle.store_api.specs.StoreState.{page_at};
 ghost use Rattle.store_api.specs.Causes.{fault_of};
 ghost use Rattle.store_api.specs.RunsOverPages.{RunsOverPages};
 ghost use Rattle.node_page.specs.Node.Node.{LeafNode};
 ghost use Rattle.entry_tree.specs.Finding.{IsEntryPlace};
 ghost use Rattle.entry_tree.specs.Forest.{Forest};
 ghost use Rattle.entry_tree.specs.HeldTrees.{nodes_in, HoldsTree, IsTreePage, BreaksTree};
+ghost use Rattle.entry_tree.specs.Shown.{SeesPlace};
 ghost use Rattle.entry_tree.specs.Spots.{LendsLeaf};
 
 use crate::Tree;
@@ -34,6 +36,8 @@ pub(crate) fn find_leaf<P: Pages>(
     requires going { (P.state pages.old).ended ≡ false }
     ensures found { IfOk result (λ leaf. (t : Forest) → HoldsTree P.Pages pages.old tree.now t
         → IsEntryPlace (nodes_in tree.now.width (P.state pages.old)) t entry.now leaf.page leaf.at leaf.there) }
+    ensures seen { IfOk result (λ leaf. IsTrue (P.state pages.old).is_told → SeesPlace tree.now.width (P.state pages.old).work tree.now.root entry.now leaf.page leaf.at leaf.there) }
+    ensures at_hand { IfOk result (λ leaf. IsTrue (P.state pages.old).is_told → (P.state pages.new).hand ≡ Some (page_at (P.state pages.old).work leaf.page)) }
     ensures hand { OnOk result (IsSome (P.state pages.new).hand) }
     ensures lent { IfOk result (λ leaf. (items : List Entry) → nodes_in tree.now.width (P.state pages.old) leaf.page ≡ LeafNode items → LendsLeaf tree.now.width (P.state pages.new).hand items) }
     ensures same { (P.state pages.new).work ≡ (P.state pages.old).work }

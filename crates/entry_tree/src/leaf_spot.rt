@@ -1,11 +1,12 @@
 // Where an entry stands in a tree, for a removal.
-ghost use Rattle.std.specs.Prelude.{◌≡◌, ◌<◌, length, false, IfOk, IfSome};
+ghost use Rattle.std.specs.Prelude.{◌≡◌, ◌<◌, length, false, IsTrue, IfOk, IfSome};
 ghost use Rattle.store_api.specs.Frame.{NoPage};
 ghost use Rattle.store_api.specs.Causes.{fault_of};
 ghost use Rattle.store_api.specs.RunsOverPages.{RunsOverPages};
 ghost use Rattle.entry_tree.specs.Forest.{Forest};
 ghost use Rattle.entry_tree.specs.HeldTrees.{nodes_in, HoldsTree, IsTreePage, BreaksTree};
 ghost use Rattle.entry_tree.specs.LeafSpots.{IsSeenSpot};
+ghost use Rattle.entry_tree.specs.Shown.{SeesPlace};
 
 use crate::Tree;
 use crate::descent::find_way;
@@ -33,6 +34,7 @@ pub(crate) fn leaf_spot<P: Pages>(
     requires width { length entry.now ≡ tree.now.width }
     requires going { (P.state pages.old).ended ≡ false }
     ensures seen { IfOk result (λ spot. (t : Forest) → HoldsTree P.Pages pages.old tree.now t → IsSeenSpot (nodes_in tree.now.width (P.state pages.old)) t entry.now spot.page spot.at spot.there spot.parent) }
+    ensures shown { IfOk result (λ spot. IsTrue (P.state pages.old).is_told → SeesPlace tree.now.width (P.state pages.old).work tree.now.root entry.now spot.page spot.at spot.there) }
     ensures there { IfOk result (λ spot. spot.page < length (P.state pages.old).work) }
     ensures parent { IfOk result (λ spot. IfSome spot.parent (λ place. place.0 < length (P.state pages.old).work)) }
     ensures same { (P.state pages.new).work ≡ (P.state pages.old).work }

@@ -1,5 +1,5 @@
 // Nodes of a tree that lose an entry or a child, in place.
-ghost use Rattle.std.specs.Prelude.{Option, ◌≡◌, ◌≢◌, ◌-◌, ◌*◌, ◌<◌, ◌≤◌, ℕ, List, length, false, IsTrue, IfOk, OnOk};
+ghost use Rattle.std.specs.Prelude.{Option, ◌≡◌, ◌≢◌, ◌↔◌, ◌-◌, ◌*◌, ◌<◌, ◌≤◌, ℕ, List, length, false, IsTrue, IfOk, OnOk};
 ghost use Rattle.std.specs.List.{remove};
 ghost use Rattle.mdc_words.specs.ByteOrder.{Entry};
 ghost use Rattle.node_page.specs.Looked.{fork_width};
@@ -9,6 +9,7 @@ ghost use Rattle.store_api.specs.Frame.{NoPage, OnlyPage};
 ghost use Rattle.store_api.specs.Causes.{fault_of};
 ghost use Rattle.store_api.specs.RunsOverPages.{RunsOverPages};
 ghost use Rattle.entry_tree.specs.HeldTrees.{nodes_in};
+ghost use Rattle.entry_tree.specs.Shown.{Shows};
 ghost use Rattle.entry_tree.specs.TreeChanges.{IsPut};
 ghost use Rattle.entry_tree.specs.Writing.{BreaksWhere};
 ghost use Rattle.entry_tree.specs.Pruning.{HasLeafEntry, IsInnerFrom, IsSomeNode, HasBeside};
@@ -167,6 +168,7 @@ fn take_item(page: &mut Page, width: u16, at: usize) -> bool
 pub(crate) fn has_item(page: &Page, width: u16, at: usize) -> bool
     ensures leaf { (items : List Entry) → node_of width page.now ≡ LeafNode items → at < length items → IsTrue result }
     ensures only { (items : List Entry) → node_of width page.now ≡ LeafNode items → IsTrue result → at < length items }
+    ensures shown { (items : List Entry) → Shows width page.now (LeafNode items) → IsTrue result ↔ (at < length items) }
     ensures within { IsTrue result → at < stated_entries page.now }
     ensures fits { IsTrue result → stated_entries page.now * width ≤ 4080 }
 {

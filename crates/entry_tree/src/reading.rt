@@ -1,14 +1,16 @@
 // The entries of a tree, a leaf at a time.
-ghost use Rattle.std.specs.Prelude.{◌≡◌, ◌≤◌, ◌+◌, ◌-◌, ◌*◌, List, [], length, drop, false, IsSome, OnOk, OnErr, IfOk};
+ghost use Rattle.std.specs.Prelude.{◌≡◌, ◌≤◌, ◌+◌, ◌-◌, ◌*◌, ℕ, List, [], length, drop, false, Some, IsSome, IsTrue, OnOk, OnErr, IfOk};
 ghost use Rattle.mdc_words.specs.ByteOrder.{Entry};
 ghost use Rattle.store_api.specs.Frame.{NoPage};
 ghost use Rattle.store_api.specs.Causes.{fault_of};
 ghost use Rattle.store_api.specs.RunsOverPages.{RunsOverPages};
 ghost use Rattle.node_page.specs.Node.{bytes_in};
+ghost use Rattle.node_page.specs.Node.Node.{LeafNode};
 ghost use Rattle.entry_tree.specs.Entries.{AreOfWidth};
 ghost use Rattle.entry_tree.specs.Forest.{Forest, leaf_entries};
 ghost use Rattle.entry_tree.specs.HeldTrees.{HoldsTree, IsTreePage, BreaksTree};
 ghost use Rattle.entry_tree.specs.Reading.{IsLeafFrom, IsReadAt, BoundFits, IsFirstOr};
+ghost use Rattle.entry_tree.specs.Shown.{ReadsFirst, ReadsFrom, ReadsLeaf, Shows};
 ghost use Rattle.entry_tree.specs.Spots.{LendsLeaf, fence_bound};
 
 use crate::spot::{Fence, find_spot};
@@ -19,12 +21,13 @@ use store_api::{Page, Pages, StoreFault};
 
 impl Tree {
     /// Entries of one leaf from a bound on, at least one where one is there, and the bound at which the rest begins.
-    /// Damaged names the root.
+    /// Damaged names the root. Whether or not the pages are a tree, Ok says what the way down and its leaf show.
     pub fn leaf_from<P: Pages>(&self, pages: &mut P, bound: &[u8]) -> Result<Leaf, StoreFault>
         requires width { length bound.now ≡ self.now.width }
         requires going { (P.state pages.old).ended ≡ false }
         ensures read { IfOk result (λ leaf. (t : Forest) → HoldsTree P.Pages pages.old self.now t → IsLeafFrom (leaf_entries t) bound.now leaf.entries leaf.next) }
         ensures width { IfOk result (λ leaf. AreOfWidth self.now.width leaf.entries) }
+        ensures seen { IfOk result (λ leaf. IsTrue (P.state pages.old).is_told → ReadsFrom self.now.width (P.state pages.old).work self.now.root bound.now leaf.entries leaf.next) }
         ensures next { IfOk result (λ leaf. BoundFits self.now.width leaf.next) }
         ensures same { (P.state pages.new).work ≡ (P.state pages.old).work }
         ensures runs { RunsOverPages P.Pages NoPage (IsTreePage P.Pages pages.old self.now) (BreaksTree P.Pages pages.old self.now) pages.old pages.new (fault_of result) }
@@ -44,6 +47,7 @@ impl Tree {
         requires width { length bound.now ≡ self.now.width }
         requires going { (P.state pages.old).ended ≡ false }
         ensures read { OnOk result ((t : Forest) → HoldsTree P.Pages pages.old self.now t → IsLeafFrom (leaf_entries t) bound.now leaf.new.entries leaf.new.next) }
+        ensures seen { OnOk result (IsTrue (P.state pages.old).is_told → ReadsFrom self.now.width (P.state pages.old).work self.now.root bound.now leaf.new.entries leaf.new.next) }
         ensures width { AreOfWidth self.now.width leaf.new.entries }
         ensures next { OnOk result (BoundFits self.now.width leaf.new.next) }
         ensures none { OnErr result (leaf.new.entries ≡ []) }
@@ -74,6 +78,7 @@ impl Tree {
         requires width { length bound.now ≡ self.now.width }
         requires going { (P.state pages.old).ended ≡ false }
         ensures first { IfOk result (λ first. (t : Forest) → HoldsTree P.Pages pages.old self.now t → IsFirstOr (leaf_entries t) bound.now first) }
+        ensures seen { IfOk result (λ first. IsTrue (P.state pages.old).is_told → ReadsFirst self.now.width (P.state pages.old).work self.now.root bound.now first) }
         ensures width { IfOk result (λ first. BoundFits self.now.width first) }
         ensures same { (P.state pages.new).work ≡ (P.state pages.old).work }
         ensures runs { RunsOverPages P.Pages NoPage (IsTreePage P.Pages pages.old self.now) (BreaksTree P.Pages pages.old self.now) pages.old pages.new (fault_of result) }
@@ -94,6 +99,7 @@ impl Tree {
         requires width { length bound.now ≡ self.now.width }
         requires going { (P.state pages.old).ended ≡ false }
         ensures read { OnOk result ((t : Forest) → HoldsTree P.Pages pages.old self.now t → IsReadAt t bound.now leaf.new.entries leaf.new.next) }
+        ensures seen { OnOk result (IsTrue (P.state pages.old).is_told → ReadsLeaf self.now.width (P.state pages.old).work self.now.root bound.now leaf.new.entries leaf.new.next) }
         ensures width { AreOfWidth self.now.width leaf.new.entries }
         ensures next { OnOk result (BoundFits self.now.width leaf.new.next) }
         ensures none { OnErr result (leaf.new.entries ≡ []) }
@@ -130,6 +136,7 @@ fn take_entries<P: Pages>(
 ) -> Result<(), AllocError>
     requires hand { IsSome (P.state pages.now).hand }
     ensures taken { OnOk result ((items : List Entry) → LendsLeaf tree.now.width (P.state pages.now).hand items → entries.new ≡ drop at items) }
+    ensures shown { OnOk result ((bytes : List ℕ) (items : List Entry) → (P.state pages.now).hand ≡ Some bytes → Shows tree.now.width bytes (LeafNode items) → entries.new ≡ drop at items) }
     ensures width { AreOfWidth tree.now.width entries.new }
     ensures none { OnErr result (entries.new ≡ []) }
 {

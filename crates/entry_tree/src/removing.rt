@@ -1,5 +1,5 @@
 // An entry leaves a tree.
-ghost use Rattle.std.specs.Prelude.{◌≡◌, ◌<◌, length, List, false, IfOk, IfSome, OnOk, MatchBool};
+ghost use Rattle.std.specs.Prelude.{◌≡◌, ◌<◌, length, List, false, IsTrue, IfOk, IfSome, OnOk, MatchBool};
 ghost use Rattle.store_api.specs.Causes.{fault_of};
 ghost use Rattle.store_api.specs.RunsOverPages.{RunsOverPages};
 ghost use Rattle.extent_map.specs.declared.kind.Kind.{Kind};
@@ -7,6 +7,7 @@ ghost use Rattle.entry_tree.specs.EntryBounds.{IsEntryOf};
 ghost use Rattle.entry_tree.specs.Forest.{Forest, leaf_entries};
 ghost use Rattle.entry_tree.specs.HeldTrees.{nodes_in, HoldsTree};
 ghost use Rattle.entry_tree.specs.LeafSpots.{IsItemSpot};
+ghost use Rattle.entry_tree.specs.Shown.{SeesWhether};
 ghost use Rattle.entry_tree.specs.Standing.{StandsTree};
 ghost use Rattle.entry_tree.specs.Pruning.{RemovesEntry, RemovesItem, IsTreeOrMapPage, BreaksTreeOrReturn};
 
@@ -32,6 +33,7 @@ impl Tree {
         requires going { (P.state pages.old).ended ≡ false }
         ensures removes { IfOk result (λ there. (owners : List Kind) (t : Forest) → StandsTree P.Pages shape pages.old self.now owners t
             → MatchBool there (RemovesEntry P.Pages shape notes.old notes.new pages.new self.now entry.now owners t) (IsEntryOf entry.now (leaf_entries t) → ⊥)) }
+        ensures seen { IfOk result (λ there. IsTrue (P.state pages.old).is_told → SeesWhether self.now.width (P.state pages.old).work self.now.root entry.now there) }
         ensures not { IfOk result (λ there. there ≡ false → (P.state pages.new).work ≡ (P.state pages.old).work) }
         ensures not_notes { IfOk result (λ there. there ≡ false → notes.new ≡ notes.old) }
         ensures count { length (P.state pages.new).work ≡ length (P.state pages.old).work }

@@ -1,7 +1,8 @@
 // The way down to the leaf of an entry, with the separators nearest to it.
-ghost use Rattle.std.specs.Prelude.{◌≡◌, ◌<◌, ◌≤◌, List, length, false, IsSome, IfOk, IfSome, OnOk};
+ghost use Rattle.std.specs.Prelude.{◌≡◌, ◌<◌, ◌≤◌, List, length, false, Some, IsSome, IsTrue, IfOk, IfSome, OnOk};
 ghost use Rattle.mdc_words.specs.ByteOrder.{Entry};
 ghost use Rattle.store_api.specs.Frame.{NoPage, OnlyPage};
+ghost use Rattle.store_api.specs.StoreState.{page_at};
 ghost use Rattle.store_api.specs.Causes.{fault_of, NoDamage};
 ghost use Rattle.store_api.specs.RunsOverPages.{RunsOverPages};
 ghost use Rattle.node_page.specs.Node.{node_of};
@@ -9,7 +10,8 @@ ghost use Rattle.node_page.specs.Node.Node.{LeafNode};
 ghost use Rattle.node_page.specs.Looked.{entries_in};
 ghost use Rattle.entry_tree.specs.Forest.{Forest};
 ghost use Rattle.entry_tree.specs.HeldTrees.{nodes_in, HoldsTree, IsTreePage, BreaksTree};
-ghost use Rattle.entry_tree.specs.Spots.{nearer_fence, fence_before, fence_behind, MeetsOnWay, PassedFits, FenceFits, LendsLeaf, IsSpotBelow};
+ghost use Rattle.entry_tree.specs.Shown.{SeesLeaf, ShowsPassed};
+ghost use Rattle.entry_tree.specs.Spots.{fence_bound, nearer_fence, fence_before, fence_behind, MeetsOnWay, PassedFits, FenceFits, LendsLeaf, IsSpotBelow};
 
 use crate::{Entry, Tree};
 use node_page::NodeView;
@@ -65,6 +67,9 @@ pub(crate) fn find_spot<P: Pages>(
     ensures there { IfOk result (λ spot. spot.page < length (P.state pages.old).work) }
     ensures parent { IfOk result (λ spot. IfSome spot.parent (λ place. place.0 < length (P.state pages.old).work)) }
     ensures hand { OnOk result (IsSome (P.state pages.new).hand) }
+    ensures seen { IfOk result (λ spot. IsTrue (P.state pages.old).is_told
+        → SeesLeaf tree.now.width (P.state pages.old).work tree.now.root entry.now spot.page spot.at spot.there (fence_bound spot.high)) }
+    ensures at_hand { IfOk result (λ spot. IsTrue (P.state pages.old).is_told → (P.state pages.new).hand ≡ Some (page_at (P.state pages.old).work spot.page)) }
     ensures lent { IfOk result (λ spot. (items : List Entry) → nodes_in tree.now.width (P.state pages.old) spot.page ≡ LeafNode items → LendsLeaf tree.now.width (P.state pages.new).hand items) }
     ensures same { (P.state pages.new).work ≡ (P.state pages.old).work }
     ensures runs { RunsOverPages P.Pages NoPage (IsTreePage P.Pages pages.old tree.now) (BreaksTree P.Pages pages.old tree.now) pages.old pages.new (fault_of result) }
@@ -118,6 +123,8 @@ fn pass<P: Pages>(tree: &Tree, pages: &mut P, page: u32, entry: &[u8]) -> Result
     requires within { page < length (P.state pages.old).work }
     ensures passes { IfOk result (λ passed. MeetsOnWay (nodes_in tree.now.width (P.state pages.old) page) page entry.now passed) }
     ensures fits { IfOk result (λ passed. PassedFits tree.now.width passed) }
+    ensures shown { IfOk result (λ passed. IsTrue (P.state pages.old).is_told → ShowsPassed tree.now.width (page_at (P.state pages.old).work page) page entry.now passed) }
+    ensures at_hand { OnOk result (IsTrue (P.state pages.old).is_told → (P.state pages.new).hand ≡ Some (page_at (P.state pages.old).work page)) }
     ensures hand { OnOk result (IsSome (P.state pages.new).hand) }
     ensures lent { OnOk result ((items : List Entry) → nodes_in tree.now.width (P.state pages.old) page ≡ LeafNode items → LendsLeaf tree.now.width (P.state pages.new).hand items) }
     ensures same { (P.state pages.new).work ≡ (P.state pages.old).work }
@@ -132,6 +139,7 @@ fn look_down(bytes: &Page, width: u16, page: u32, entry: &[u8]) -> Passed
     requires narrow { width ≤ 134 }
     ensures passes { MeetsOnWay (node_of width bytes.now) page entry.now result }
     ensures fits { PassedFits width result }
+    ensures shown { ShowsPassed width bytes.now page entry.now result }
 {
     let Some(view) = NodeView::look(bytes, width) else {
         return Passed::NoNodeThere;

@@ -1,5 +1,5 @@
 // Entries leave a leaf of a tree because they name a block of a set.
-ghost use Rattle.std.specs.Prelude.{◌≡◌, ◌+◌, ◌<◌, ◌≤◌, List, length, false, IfOk, IfSome, OnOk};
+ghost use Rattle.std.specs.Prelude.{◌≡◌, ◌+◌, ◌<◌, ◌≤◌, List, length, false, IsTrue, IfOk, IfSome, OnOk};
 ghost use Rattle.mdc_words.specs.ByteOrder.{Entry};
 ghost use Rattle.node_page.specs.Entries.{count_named, without_blocks};
 ghost use Rattle.node_page.specs.Node.Node.{LeafNode};
@@ -11,6 +11,7 @@ ghost use Rattle.entry_tree.specs.HeldTrees.{nodes_in, HoldsTree};
 ghost use Rattle.entry_tree.specs.LeafSpots.{IsItemSpot};
 ghost use Rattle.entry_tree.specs.Pruning.{IsTreeOrMapPage, BreaksTreeOrReturn};
 ghost use Rattle.entry_tree.specs.Reading.{BoundFits};
+ghost use Rattle.entry_tree.specs.Shown.{SeesSwept};
 ghost use Rattle.entry_tree.specs.Standing.{StandsTree};
 ghost use Rattle.entry_tree.specs.Sweeping.{IsEmptiedBy, IsLeafSpot, PrunesLeaf, SweepsLeaf};
 
@@ -51,6 +52,7 @@ impl Tree {
         requires going { (P.state pages.old).ended ≡ false }
         ensures sweeps { IfOk result (λ swept. (owners : List Kind) (t : Forest) → StandsTree P.Pages shape pages.old self.now owners t
             → SweepsLeaf P.Pages shape notes.old notes.new pages.new self.now owners t bound.now at blocks.now swept.removed swept.next) }
+        ensures seen { IfOk result (λ swept. IsTrue (P.state pages.old).is_told → SeesSwept self.now.width (P.state pages.old).work self.now.root bound.now swept.next) }
         ensures not { IfOk result (λ swept. swept.removed ≡ 0 → (P.state pages.new).work ≡ (P.state pages.old).work) }
         ensures not_notes { IfOk result (λ swept. swept.removed ≡ 0 → notes.new ≡ notes.old) }
         ensures next { IfOk result (λ swept. BoundFits self.now.width swept.next) }

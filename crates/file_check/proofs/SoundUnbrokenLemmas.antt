@@ -188,12 +188,13 @@ module _ (shape : Shape) (pages : PageList) (view : DatabaseView) (keeps : KeepA
       refuted t def (λ d m. (Contains (mapped_blocks m) e → ⊥) × (owner_of owners e ≡ kind.Block d.number)) shows.within shows.defines (λ m tree. (shows.map m tree, is))
       (λ table there says.
       says.0 ((each_table (λ table. IsBlockMapSound shape view.owners table.def table.map) keeps.first.rule6 table there).all_named e low (sym (shown_owner owners e low holds) ∙ says.1)))
-  unbroken _ _ (BreaksRule.row_page t def block j shows low not) =
-      refuted t def (λ d m. Contains (used_blocks m) block × (IsBlockPageSound shape pages d block j → ⊥)) shows.within shows.defines (λ m tree. (shows.map m tree, not))
-      (λ table there says. says.1 ((block_sound table block there says.0).forms j low))
-  unbroken _ _ (BreaksRule.row t def block placed shows inside not) =
-      refuted t def (λ d m. Contains (used_blocks m) block × Contains (rows_in_block shape pages d block) placed × (RowFits d placed.row → ⊥)) shows.within shows.defines (λ m tree. (shows.map m tree, inside, not))
-      (λ table there says. says.2 (each_of _ (rows_in_block shape pages table.def block) placed (block_sound table block there says.0).rows says.1))
+  unbroken _ _ (BreaksRule.row_page t def line j shows low not) =
+      refuted t def (λ d m. Contains (used_blocks m) line.block × (IsBlockPageSound shape pages d line.block j → ⊥)) shows.within shows.defines (λ m tree. ((shows.map m tree).0, not))
+      (λ table there says. says.1 ((block_sound table line.block there says.0).forms j low))
+  unbroken _ _ (BreaksRule.row t def line placed shows inside not) =
+      refuted t def (λ d m. Contains (used_blocks m) line.block × Contains (rows_in_block shape pages d line.block) placed × (RowFits d placed.row → ⊥)) shows.within shows.defines
+      (λ m tree. ((shows.map m tree).0, inside, not))
+      (λ table there says. says.2 (each_of _ (rows_in_block shape pages table.def line.block) placed (block_sound table line.block there says.0).rows says.1))
   unbroken _ _ (BreaksRule.used_count t def line shows not) =
       refuted t def (λ d m. Contains (map_lines m) line × (IsUsedCountSound shape pages d line → ⊥)) shows.within shows.defines (λ m tree. (shows.map m tree, not))
       (λ table there says.
@@ -202,10 +203,10 @@ module _ (shape : Shape) (pages : PageList) (view : DatabaseView) (keeps : KeepA
   unbroken _ _ (BreaksRule.idle_count t def line shows not) =
       refuted t def (λ d m. Contains (map_lines m) line) shows.within shows.defines shows.map
       (λ table there its. not (each_of IsIdleCountSound (map_lines table.map) line (each_table (λ table. AllByRecursion IsIdleCountSound (map_lines table.map)) keeps.first.rule8.idle table there) its))
-  unbroken _ _ (BreaksRule.cell t def block shows not) =
-      refuted t def (λ d m. Contains (used_blocks m) block × (IsOfOneCell shape pages d block → ⊥)) shows.within shows.defines (λ m tree. (shows.map m tree, not))
+  unbroken _ _ (BreaksRule.cell t def line shows not) =
+      refuted t def (λ d m. Contains (used_blocks m) line.block × (IsOfOneCell shape pages d line.block → ⊥)) shows.within shows.defines (λ m tree. ((shows.map m tree).0, not))
       (λ table there says.
-      says.1 (each_of (IsOfOneCell shape pages table.def) (used_blocks table.map) block (each_table (λ table. AllByRecursion (IsOfOneCell shape pages table.def) (used_blocks table.map)) keeps.first.rule9 table there) says.0))
+      says.1 (each_of (IsOfOneCell shape pages table.def) (used_blocks table.map) line.block (each_table (λ table. AllByRecursion (IsOfOneCell shape pages table.def) (used_blocks table.map)) keeps.first.rule9 table there) says.0))
   unbroken _ _ (BreaksRule.composite t def low defines none) =
       refuted t def (λ d m. (index : Forest) → HasTree pages (composite_place d) index → IsBlockIndexSound d (rows_in_table shape pages d m) (cell_parts d) index → ⊥) low defines
       (λ m tree index has sound. none m index tree has sound)

@@ -1,7 +1,7 @@
 // Rules 10 to 12: block indexes, record indexes, row numbers and unique keys.
 use crate::patches::{THREE_CELLS, broken, verdict, verdict_on_cells};
 use file_check::Verdict;
-use script_engine_tests::{Patch, bytes_at};
+use script_engine_tests::bytes_at;
 use std::alloc::Global;
 use std::test::Fail;
 
@@ -27,25 +27,12 @@ fn the_table_page_of_wrong_row_numbers_is_named(rt: HostRuntime) -> Result<(), F
     Ok(())
 }
 
-// A table whose block map is page 18, composite index 19 and index of A 20. Its rows lie in block 2, whose first page is 22.
+// A table whose block map is page 18, composite index 19 and index of A 20. Its rows lie in block 2, whose first page is 22; the K of
+// the second row stands at 73 there. Its record index is page 21, whose entries begin at 16 and have 11 bytes; the table page says at
+// 636 that it is UNIQUE.
 const TWO_ROWS: &[u8] = b"CREATE TABLE U (K INTEGER NOT NULL, A INTEGER) ORGANIZE BY (A);
-INSERT INTO U VALUES (5, 1), (6, 1)";
-
-// An index I on K in page 21: the table page states it, UNIQUE or not, the page is used, and is a leaf of two entries. The K of the
-// second row stands at 73 of page 22.
-fn indexed(unique: &'static [u8], second_key: &'static [u8], entries: &'static [u8]) -> [Patch; 9] {
-    [
-        bytes_at(17, 15, b"\x03"),
-        bytes_at(1, 21, b"\x01"),
-        bytes_at(1, 618, b"I                 "),
-        bytes_at(1, 636, unique),
-        bytes_at(1, 637, b"\x01"),
-        bytes_at(1, 670, b"\x00\x00\x00\x15\x00"),
-        bytes_at(21, 0, b"\x4c\x00\x00\x0b\x00\x02"),
-        bytes_at(21, 16, entries),
-        bytes_at(22, 76, second_key),
-    ]
-}
+INSERT INTO U VALUES (5, 1), (6, 1);
+CREATE UNIQUE INDEX I ON U (K)";
 
 const RIGHT: &[u8] =
     b"\x00\x80\x00\x00\x05\x00\x00\x00\x02\x00\x00\x00\x80\x00\x00\x06\x00\x00\x00\x02\x00\x01";
@@ -65,15 +52,18 @@ const NO_EXTENT: &[u8] =
 const BOTH_FIVE: &[u8] =
     b"\x00\x80\x00\x00\x05\x00\x00\x00\x02\x00\x00\x00\x80\x00\x00\x05\x00\x00\x00\x02\x00\x01";
 
-// The verdict on the two rows with a UNIQUE index of these entries.
+// The verdict on the two rows where their index has these entries.
 fn verdict_on_index(alloc: Global, entries: &'static [u8]) -> Result<Verdict, Fail> {
-    verdict(alloc, TWO_ROWS, &indexed(b"\x01", b"\x06", entries))
+    verdict(alloc, TWO_ROWS, &[bytes_at(21, 16, entries)])
 }
 
 #[test]
 fn the_root_of_a_wrong_record_index_is_named(rt: HostRuntime) -> Result<(), Fail> {
     let alloc = rt.alloc();
+    assert_eq!(rt; verdict(alloc, TWO_ROWS, &[])?, Verdict::Sound);
     assert_eq!(rt; verdict_on_index(alloc, RIGHT)?, Verdict::Sound);
+    let one_less = [bytes_at(21, 5, b"\x01"), bytes_at(21, 27, &[0; 11])];
+    assert_eq!(rt; verdict(alloc, TWO_ROWS, &one_less)?, broken(11, 21));
     assert_eq!(rt; verdict_on_index(alloc, OTHER_KEY)?, broken(11, 21));
     assert_eq!(rt; verdict_on_index(alloc, EMPTY_SLOT)?, broken(11, 21));
     assert_eq!(rt; verdict_on_index(alloc, NO_SLOT)?, broken(11, 21));
@@ -86,9 +76,10 @@ fn the_root_of_a_wrong_record_index_is_named(rt: HostRuntime) -> Result<(), Fail
 #[test]
 fn the_table_page_of_equal_keys_is_named(rt: HostRuntime) -> Result<(), Fail> {
     let alloc = rt.alloc();
-    let unique = indexed(b"\x01", b"\x05", BOTH_FIVE);
-    assert_eq!(rt; verdict(alloc, TWO_ROWS, &unique)?, broken(12, 1));
-    let plain = indexed(b"\x00", b"\x05", BOTH_FIVE);
+    let key = bytes_at(22, 76, b"\x05");
+    let entries = bytes_at(21, 16, BOTH_FIVE);
+    assert_eq!(rt; verdict(alloc, TWO_ROWS, &[key, entries])?, broken(12, 1));
+    let plain = [key, entries, bytes_at(1, 636, b"\x00")];
     assert_eq!(rt; verdict(alloc, TWO_ROWS, &plain)?, Verdict::Sound);
     Ok(())
 }

@@ -1,6 +1,7 @@
 // A crash in each call of a run.
 use crate::commits::twelve_commits;
 use crate::hosts::{crashed, small_database};
+use crate::indexed_commits::indexed_commits;
 use crate::scenario::Scenario;
 use std::process::Abort;
 use std::test::Fail;
@@ -44,4 +45,9 @@ fn a_crash_leaves_commits_and_open_gates(rt: HostRuntime) -> Result<(), Fail> {
 #[test]
 fn a_crash_leaves_commits_and_ones(rt: HostRuntime) -> Result<(), Fail> {
     crash_in_each_call(&rt, &twelve_commits(), Some(0xff))
+}
+
+#[test]
+fn a_crash_leaves_commits_of_record_indexes(rt: HostRuntime) -> Result<(), Fail> {
+    crash_in_each_call(&rt, &indexed_commits(), None)
 }

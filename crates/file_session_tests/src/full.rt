@@ -4,32 +4,36 @@ use crate::runs::{run_script, said_by};
 use script_session::Served;
 use std::test::Fail;
 
-// A row has 780 bytes, so a page has five and a block ten. The trees of W take three index pages in two of the sixteen extents, so
-// there are fourteen blocks, and each row with a D of its own takes one.
+// A row has 780 bytes, so a page has five and a block ten. The trees of W and its record index take four index pages in two of the
+// sixteen extents, so there are fourteen blocks, and each row with a D of its own takes one.
 const SCRIPT: &[u8] =
     b"CREATE TABLE W (D INTEGER, K INTEGER, X CHAR(254), Y CHAR(254), Z CHAR(254)) ORGANIZE BY (D);
-INSERT INTO W (D, K) VALUES (1, 101);
-INSERT INTO W (D, K) VALUES (2, 102);
-INSERT INTO W (D, K) VALUES (3, 103);
-INSERT INTO W (D, K) VALUES (4, 104);
-INSERT INTO W (D, K) VALUES (5, 105);
-INSERT INTO W (D, K) VALUES (6, 106);
-INSERT INTO W (D, K) VALUES (7, 107);
-INSERT INTO W (D, K) VALUES (8, 108);
-INSERT INTO W (D, K) VALUES (9, 109);
-INSERT INTO W (D, K) VALUES (10, 110);
-INSERT INTO W (D, K) VALUES (11, 111);
-INSERT INTO W (D, K) VALUES (12, 112);
-INSERT INTO W (D, K) VALUES (13, 113);
-INSERT INTO W (D, K) VALUES (14, 114);
-INSERT INTO W (D, K) VALUES (15, 115);
+CREATE INDEX I ON W (K);
+INSERT INTO W (D, K) VALUES (1, 1);
+INSERT INTO W (D, K) VALUES (2, 2);
+INSERT INTO W (D, K) VALUES (3, 3);
+INSERT INTO W (D, K) VALUES (4, 4);
+INSERT INTO W (D, K) VALUES (5, 5);
+INSERT INTO W (D, K) VALUES (6, 6);
+INSERT INTO W (D, K) VALUES (7, 7);
+INSERT INTO W (D, K) VALUES (8, 8);
+INSERT INTO W (D, K) VALUES (9, 9);
+INSERT INTO W (D, K) VALUES (10, 10);
+INSERT INTO W (D, K) VALUES (11, 11);
+INSERT INTO W (D, K) VALUES (12, 12);
+INSERT INTO W (D, K) VALUES (13, 13);
+INSERT INTO W (D, K) VALUES (14, 14);
+INSERT INTO W (D, K) VALUES (15, 15);
+SELECT COUNT(*) FROM W;
+CREATE INDEX J ON W (D);
 LIST BLOCKS W;
 DELETE FROM W WHERE D = 1;
 LIST BLOCKS W;
-INSERT INTO W (D, K) VALUES (15, 115);
+INSERT INTO W (D, K) VALUES (15, 15);
 LIST BLOCKS W;";
 
 const SAID: &[u8] = b"OK
+OK
 1 ROWS INSERTED
 1 ROWS INSERTED
 1 ROWS INSERTED
@@ -45,6 +49,10 @@ const SAID: &[u8] = b"OK
 1 ROWS INSERTED
 1 ROWS INSERTED
 ERROR 70 file full at 16 extents
+COUNT(*)
+14
+1 ROWS
+ERROR 70 file full at 16 extents
 USED 14 FREE 0 PENDING 0
 1 ROWS DELETED
 USED 13 FREE 1 PENDING 0
@@ -53,20 +61,20 @@ USED 14 FREE 0 PENDING 0
 ";
 
 const ROWS: &[u8] = b"D|K
-2|102
-3|103
-4|104
-5|105
-6|106
-7|107
-8|108
-9|109
-10|110
-11|111
-12|112
-13|113
-14|114
-15|115
+2|2
+3|3
+4|4
+5|5
+6|6
+7|7
+8|8
+9|9
+10|10
+11|11
+12|12
+13|13
+14|14
+15|15
 14 ROWS
 ";
 

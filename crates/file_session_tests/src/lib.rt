@@ -17,6 +17,8 @@ mod full;
 #[cfg(test)]
 mod hosts;
 #[cfg(test)]
+mod indexed_commits;
+#[cfg(test)]
 mod runs;
 #[cfg(test)]
 mod scenario;

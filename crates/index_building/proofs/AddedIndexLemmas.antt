@@ -11,11 +11,10 @@ use Rattle.std.proofs.lemmas.Slice.Eq.{bytes_eq-Decides}
 use Rattle.mdc_ast.specs.declared.definition.IndexDef.{IndexDef}
 use Rattle.mdc_ast.specs.declared.definition.TableDef.{TableDef}
 use Rattle.mdc_ast.specs.declared.name.Name.{Name}
-use Rattle.mdc_ast.specs.Definitions.{AllNamesDiffer, Definitions, is_among, is_same}
+use Rattle.mdc_ast.specs.Definitions.{AllNamesDiffer, Definitions, index_place_of, is_among, is_same, with_index}
 use Rattle.mdc_ast.specs.TableLimits.{IsGoodIndex, IsTableDef}
 use Rattle.mdc_ast.specs.ValidDatabase.{index_names}
 use Rattle.mdc_ast.proofs.DefinitionsLemmas.{neither}
-use Rattle.catalog.specs.IndexPlaces.{index_place_of, with_index}
 use Rattle.store_api.specs.declared.shape.Shape.{Shape}
 use Rattle.entry_tree.specs.Forest.{Forest, leaf_entries, times}
 use Rattle.table_page.specs.TablePage.{IsTablePageOf}

@@ -3,8 +3,7 @@ use Rattle.std.proofs.Common.{◌≡◌, ◌<◌, ◌+◌, ℕ, List, [], ◌∷
 use Rattle.std.proofs.lemmas.Bool.{cases_eq}
 use Rattle.mdc_ast.specs.declared.definition.IndexDef.{IndexDef}
 use Rattle.mdc_ast.specs.declared.definition.TableDef.{TableDef}
-use Rattle.mdc_ast.specs.Definitions.{Definitions, def_at}
-use Rattle.catalog.specs.IndexPlaces.{with_index}
+use Rattle.mdc_ast.specs.Definitions.{Definitions, def_at, with_index}
 use Rattle.store_api.specs.Frame.{NoPage, OnlyPage}
 use Rattle.store_api.specs.RunsOverPages.{RunsOverPages}
 use Rattle.store_api.specs.declared.fault.Damage.{Damage}

@@ -7,8 +7,7 @@ use Rattle.std.proofs.lemmas.List.Quantifiers.{all_pairs_remove}
 use Rattle.mdc_ast.specs.declared.definition.IndexDef.{IndexDef}
 use Rattle.mdc_ast.specs.declared.definition.TableDef.{TableDef}
 use Rattle.mdc_ast.specs.TableLimits.{IsGoodIndex, IsTableDef}
-use Rattle.mdc_ast.specs.Definitions.{AllNamesDiffer}
-use Rattle.catalog.specs.IndexPlaces.{without_index}
+use Rattle.mdc_ast.specs.Definitions.{AllNamesDiffer, without_index}
 use Rattle.table_trees.specs.TableTrees.{composite_place, dimension_places, map_place, record_place, record_places, tree_places}
 use Rattle.mdc_sound.specs.SpaceRules.{tables_there}
 use Rattle.mdc_sound.specs.TableViews.{TableView, trees_of_table}

@@ -4,11 +4,11 @@ use Rattle.std.specs.Prelude.{AllPairs, IsTrue, map, remove, slice_get, zip}
 use Rattle.std.specs.List.{AllByRecursion, AllZip}
 use Rattle.std.proofs.lemmas.List.{length-map}
 use Rattle.std.proofs.lemmas.Slice.Zip.{length-zip}
+use Rattle.mdc_ast.specs.Definitions.{without_index}
 use Rattle.mdc_ast.specs.declared.definition.IndexDef.{IndexDef}
 use Rattle.mdc_ast.specs.declared.definition.TableDef.{TableDef}
 use Rattle.mdc_ast.specs.Database.{Database, PlainTable, changed_at}
 use Rattle.mdc_ast.specs.TableLimits.{IsTableDef}
-use Rattle.catalog.specs.IndexPlaces.{without_index}
 use Rattle.store_api.specs.Frame.{Touches}
 use Rattle.store_api.specs.declared.pages.Pages.{Ghosts}
 use Rattle.store_api.specs.declared.shape.Shape.{Shape}

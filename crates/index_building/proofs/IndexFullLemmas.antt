@@ -5,8 +5,7 @@ use Rattle.std.specs.List.{AllZip}
 use Rattle.std.proofs.lemmas.List.Sorted.{IsPermutation-trans}
 use Rattle.mdc_ast.specs.declared.definition.IndexDef.{IndexDef}
 use Rattle.mdc_ast.specs.declared.definition.TableDef.{TableDef}
-use Rattle.mdc_ast.specs.Definitions.{Definitions, def_at}
-use Rattle.catalog.specs.IndexPlaces.{with_index}
+use Rattle.mdc_ast.specs.Definitions.{Definitions, def_at, with_index}
 use Rattle.store_api.specs.declared.pages.Pages.{Ghosts}
 use Rattle.store_api.specs.declared.shape.Shape.{Shape}
 use Rattle.extent_map.specs.Damages.{IfFull}

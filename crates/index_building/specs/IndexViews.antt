@@ -1,10 +1,10 @@
 -- A table with one record index more or less: its definition, its trees, and the plain table.
 use Rattle.std.specs.Prelude.{◌<◌, ℕ, [], ◌∷◌, ◌++◌, length, remove, slice_index_or}
+use Rattle.mdc_ast.specs.Definitions.{with_index, without_index}
 use Rattle.mdc_ast.specs.declared.definition.IndexDef.{IndexDef}
 use Rattle.mdc_ast.specs.declared.definition.TableDef.{TableDef}
 use Rattle.mdc_ast.specs.Database.{PlainTable}
 use Rattle.mdc_ast.specs.TableLimits.{IsGoodIndex}
-use Rattle.catalog.specs.IndexPlaces.{with_index, without_index}
 use Rattle.entry_tree.specs.Forest.{Forest}
 use Rattle.entry_tree.specs.Forest.Forest.{Nil}
 use Rattle.mdc_sound.specs.StandsForDatabase.{rootless_index}

@@ -1,9 +1,8 @@
 // A record index more.
 ghost use Rattle.std.specs.Prelude.{◌≡◌, ◌+◌, ◌<◌, [], ◌∷◌, List, ℕ, length, map, false, None, Some, IfErr, IfOk, IfSome, IsSome, IsTrue, OnErr, OnOk};
 ghost use Rattle.mdc_ast.specs.Database.{Database, changed_at};
-ghost use Rattle.mdc_ast.specs.Definitions.{def_at, with_def};
+ghost use Rattle.mdc_ast.specs.Definitions.{def_at, index_place_of, with_def, with_index};
 ghost use Rattle.mdc_ast.specs.TableLimits.{IsTableDef};
-ghost use Rattle.catalog.specs.IndexPlaces.{index_place_of, with_index};
 ghost use Rattle.store_api.specs.Causes.{store_fault_in};
 ghost use Rattle.store_api.specs.RunsOverPages.{RunsOverPages};
 ghost use Rattle.extent_map.specs.Damages.{IfFull, store_part_of};

@@ -1,9 +1,8 @@
 // A record index less.
 ghost use Rattle.std.specs.Prelude.{◌≡◌, ◌+◌, ◌<◌, [], ◌∷◌, List, ℕ, length, false, Some, IfOk, IfErr, IfSome, IsSome, IsTrue, OnErr, OnOk, slice_get};
 ghost use Rattle.mdc_ast.specs.Database.{Database, changed_at};
-ghost use Rattle.mdc_ast.specs.Definitions.{def_at, with_def};
+ghost use Rattle.mdc_ast.specs.Definitions.{def_at, with_def, without_index};
 ghost use Rattle.mdc_ast.specs.TableLimits.{IsTableDef};
-ghost use Rattle.catalog.specs.IndexPlaces.{without_index};
 ghost use Rattle.store_api.specs.Causes.{fault_of};
 ghost use Rattle.store_api.specs.RunsOverPages.{RunsOverPages};
 ghost use Rattle.extent_map.specs.Map.{IsMapPage};

@@ -1,10 +1,12 @@
 -- The definitions of a database's tables: 16 places, each empty or with a definition (docs/SQL.md, "Meaning").
-use Rattle.std.specs.Prelude.{map, ◌≡◌, ◌≤◌, ℕ, ◌+◌, List, [], ◌∷◌, length, flat_map, ◌==◌, Bool, true, false, Option, Some, None, is_none, option_and_then, slice_get, slice_set, replicate, nat_lt, nat_le, ◌&&◌}
+use Rattle.std.specs.Prelude.{map, ◌≡◌, ◌≤◌, ℕ, ◌+◌, List, [], ◌∷◌, ◌++◌, length, flat_map, ◌==◌, Bool, true, false, Option, Some, None, is_none, option_and_then, option_map, slice_get, slice_set, remove, replicate, nat_lt, nat_le, ◌&&◌}
 use Rattle.std.specs.List.{position_from, list_all, list_any}
+use Rattle.std.specs.Option.{option_or}
 use Rattle.std.specs.Str.{bytes_eq}
 use Rattle.mdc_values.specs.declared.value.ColType.{ColType}
 use Rattle.mdc_values.specs.declared.value.ColType.TheVariants as column
 use Rattle.mdc_ast.specs.declared.definition.ColumnDef.{ColumnDef}
+use Rattle.mdc_ast.specs.declared.definition.IndexDef.{IndexDef}
 use Rattle.mdc_ast.specs.declared.definition.KeyPart.{KeyPart}
 use Rattle.mdc_ast.specs.declared.definition.TableDef.{TableDef}
 use Rattle.mdc_ast.specs.declared.name.Name.{Name}
@@ -52,7 +54,31 @@ column_place columns name = position_from (λ column. is_same column.name name) 
 abbrev pub column_named : List ColumnDef → Name → Option ColumnDef
 column_named columns name = option_and_then (slice_get columns) (column_place columns name)
 
+-- ---- looking up record indexes
+
+-- the place of the record index of that name among those of a table
+abbrev pub index_in : Name → Option TableDef → Option ℕ
+index_in name None = None
+index_in name (Some def) = position_from (λ index. is_same index.name name) 0 def.indexes
+
+-- the record index of that name in the tables from a place on: the place of its table, and its place among that table's
+abbrev pub index_place_from : ℕ → Definitions → Name → Option (ℕ × ℕ)
+index_place_from table [] name = None
+index_place_from table (def ∷ defs) name = option_or (option_map (λ index. (table, index)) (index_in name def)) (index_place_from (table + 1) defs name)
+
+-- the record index of that name, whose name no other has: the place of its table, and its place among that table's
+abbrev pub index_place_of : Definitions → Name → Option (ℕ × ℕ)
+index_place_of defs name = index_place_from 0 defs name
+
 -- ---- changing
+
+-- a definition with one record index more, behind its others
+abbrev pub with_index : TableDef → IndexDef → TableDef
+with_index def index = record def { indexes = def.indexes ++ index ∷ [] }
+
+-- a definition without the record index in a place; those behind it move up
+abbrev pub without_index : TableDef → ℕ → TableDef
+without_index def place = record def { indexes = remove def.indexes place }
 
 -- a definition in a place, under the number of that place
 abbrev pub with_def : Definitions → ℕ → TableDef → Definitions

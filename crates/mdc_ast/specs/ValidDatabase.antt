@@ -2,18 +2,27 @@
 use Rattle.std.specs.Prelude.{◌≡◌, ◌≤◌, ◌<◌, ℕ, ◌+◌, List, [], ◌∷◌, AllPairs, length, map, flat_map, false, Option, Some, None, IsTrue}
 use Rattle.std.specs.List.{list_all, list_any, AllByRecursion}
 use Rattle.mdc_values.specs.declared.value.Value.{Value}
+use Rattle.mdc_ast.specs.declared.definition.ColumnDef.{ColumnDef}
 use Rattle.mdc_ast.specs.declared.definition.IndexDef.{IndexDef}
 use Rattle.mdc_ast.specs.declared.definition.KeyPart.{KeyPart}
 use Rattle.mdc_ast.specs.declared.definition.TableDef.{TableDef}
 use Rattle.mdc_ast.specs.declared.name.Name.{Name}
 use Rattle.mdc_ast.specs.declared.row.Row.{Row}
 use Rattle.mdc_ast.specs.Database.{Database, PlainTable, defs_of}
-use Rattle.mdc_ast.specs.Definitions.{AllNamesDiffer, AllPlacesDiffer, Definitions, IsShort, are_there, column_names, column_types, is_defined, is_good_type, is_short_key, row_width}
+use Rattle.mdc_ast.specs.Definitions.{AllNamesDiffer, AllPlacesDiffer, Definitions, IsShort, are_there, column_names, column_types, is_defined, is_good_type, is_short_key, places_of, row_width}
 use Rattle.mdc_ast.specs.FittingRows.{RowFits}
-use Rattle.mdc_ast.specs.TableLimits.{AreTableIndexes, is_good_source}
+use Rattle.mdc_ast.specs.TableLimits.{is_good_source}
 use Rattle.mdc_ast.specs.Truth.{value_at}
 
 -- ---- definitions
+
+-- what statements keep of a record index of a table of these columns: its name is short, the columns of its parts are there and
+-- differ, and its key is short; nothing is said of its root
+pub record IsValidIndex (columns : List ColumnDef) (index : IndexDef) : Type 0 where
+  pub short : IsShort index.name
+  pub there : IsTrue (are_there columns (places_of index.parts))
+  pub apart : AllPlacesDiffer (places_of index.parts)
+  pub short_key : IsTrue (is_short_key columns (places_of index.parts))
 
 -- what statements keep of the definition in a place: its number is that of the place, its names are short and its columns'
 -- names differ, its types are good, its columns, dimensions, keys and indexes are within the limits, what it generates has a
@@ -32,7 +41,8 @@ pub record IsValidDef (place : ℕ) (def : TableDef) : Type 0 where
   pub short_keys : IsTrue (list_all (is_short_key def.columns) def.dims)
   pub short_composite : IsTrue (is_short_key def.columns (flat_map (λ dim. dim) def.dims))
   pub sources : IsTrue (list_all (λ column. is_good_source def.columns column.ty column.made) def.columns)
-  pub indexes : AreTableIndexes def.columns def.indexes
+  pub few_indexes : length def.indexes ≤ 8
+  pub indexes : AllByRecursion (IsValidIndex def.columns) def.indexes
   pub few_rows : def.next < 18446744073709551616
 
 -- a place is empty, or has a definition of its number within the limits

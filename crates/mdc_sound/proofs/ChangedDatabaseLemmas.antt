@@ -89,7 +89,7 @@ module _ (shape : Shape) (pages : PageList) (view : DatabaseView) (keeps : KeepF
   map_there u other at t has = one_tree_at pages (map_place other.def) t other.map has (stands_of_rules shape pages view keeps u other at).trees.held.0
 
   -- so the plain table in a place is that of the view's
-  table_of_view : (u : ℕ) → u < 16 → (x : PlainTable) → HoldsTable shape pages u x
+  pub table_of_view : (u : ℕ) → u < 16 → (x : PlainTable) → HoldsTable shape pages u x
       → (other : TableView) × (slice_get view.places u ≡ Some (Some other)) × IsPlainTable other.def (rows_in_table shape pages other.def other.map) x
   table_of_view u few x holds =
       let found = table_there u few holds.def holds.defines in

@@ -13,12 +13,13 @@ use Rattle.extent_map.specs.declared.kind.Kind.TheVariants as kind
 use Rattle.row_page.specs.RowPage.{slot_count}
 use Rattle.entry_tree.specs.Forest.{Forest, times}
 use Rattle.block_map.specs.BlockMaps.{IsMapForm}
-use Rattle.block_map.specs.MapLines.{MapLine, map_lines, pending_blocks, used_blocks, mapped_blocks}
-use Rattle.mdc_sound.specs.BlockRules.{IsBlockPageSound, IsUsedCountSound, IsIdleCountSound, IsOfOneCell, IsBlockIndexSound, IsSoundIndex, AreRowNumbersSound, IsUniqueSound}
+use Rattle.block_map.specs.MapLines.{MapLine, map_lines, pending_blocks, mapped_blocks}
+use Rattle.mdc_sound.specs.BlockLines.{HasUsedLine, columns_of_line}
+use Rattle.mdc_sound.specs.BlockRules.{IsPageOfColumns, IsUsedCountSound, IsIdleCountSound, IsLineOfOneCell, IsBlockIndexSound, IsSoundIndex, AreRowNumbersSound, IsUniqueSound}
 use Rattle.mdc_ast.specs.FittingRows.{RowFits}
 use Rattle.mdc_sound.specs.SpaceRules.{IsMapPageSound, IsIndexPage, stated_root}
 use Rattle.mdc_sound.specs.TablePages.{DefinesTable, table_page_at}
-use Rattle.mdc_sound.specs.TableRows.{PlacedRow, rows_in_block, rows_in_table}
+use Rattle.mdc_sound.specs.TableRows.{PlacedRow, rows_by_line, rows_in_table}
 use Rattle.table_trees.specs.TableTrees.{TreePlace, cell_parts, composite_place, dimension_place, map_place, record_place, rising_parts, tree_places}
 use Rattle.table_trees.specs.ToldPages.{HasTree, PageList, told_pages}
 
@@ -95,20 +96,21 @@ pub data BreaksRule (shape : Shape) (pages : PageList) : (rule page : ℕ) → T
       → BreaksRule shape pages 6 def.roots.map
   map_lacks : (t e : ℕ) (def : TableDef) (owners : List Kind) → ShowsTable pages t def (λ map_tree. Contains (mapped_blocks map_tree) e → ⊥) → e < shape.extents
       → HoldsMapPage told_pages shape pages owners (e / 512) → owner_of owners e ≡ kind.Block def.number → BreaksRule shape pages 6 def.roots.map
-  -- a page of a Used block that is no row page, and one with a row that doesn't fit
-  row_page : (t : ℕ) (def : TableDef) (block j : ℕ) → ShowsTable pages t def (λ map_tree. Contains (used_blocks map_tree) block)
-      → j < shape.extent_pages → (IsBlockPageSound shape pages def block j → ⊥) → BreaksRule shape pages 7 (first_page_of shape.extents shape.extent_pages block + j)
-  row : (t : ℕ) (def : TableDef) (block : ℕ) (placed : PlacedRow) → ShowsTable pages t def (λ map_tree. Contains (used_blocks map_tree) block)
-      → Contains (rows_in_block shape pages def block) placed → (RowFits def placed.row → ⊥)
-      → BreaksRule shape pages 7 (first_page_of shape.extents shape.extent_pages block + placed.rid.slot / slot_count def.columns)
+  -- a page of a Used block that is no row page of the columns of its line, and one with a row that doesn't fit
+  row_page : (t : ℕ) (def : TableDef) (line : MapLine) (j : ℕ) → ShowsTable pages t def (λ map_tree. HasUsedLine map_tree line)
+      → j < shape.extent_pages → (IsPageOfColumns shape pages (columns_of_line def line) line.block j → ⊥)
+      → BreaksRule shape pages 7 (first_page_of shape.extents shape.extent_pages line.block + j)
+  row : (t : ℕ) (def : TableDef) (line : MapLine) (placed : PlacedRow) → ShowsTable pages t def (λ map_tree. HasUsedLine map_tree line)
+      → Contains (rows_by_line shape pages def line) placed → (RowFits def placed.row → ⊥)
+      → BreaksRule shape pages 7 (first_page_of shape.extents shape.extent_pages line.block + placed.rid.slot / slot_count (columns_of_line def line))
   -- the first page of a block whose count isn't right
   used_count : (t : ℕ) (def : TableDef) (line : MapLine) → ShowsTable pages t def (λ map_tree. Contains (map_lines map_tree) line)
       → (IsUsedCountSound shape pages def line → ⊥) → BreaksRule shape pages 8 (first_page_of shape.extents shape.extent_pages line.block)
   idle_count : (t : ℕ) (def : TableDef) (line : MapLine) → ShowsTable pages t def (λ map_tree. Contains (map_lines map_tree) line)
       → (IsIdleCountSound line → ⊥) → BreaksRule shape pages 8 (first_page_of shape.extents shape.extent_pages line.block)
   -- the first page of a block whose rows are of two cells
-  cell : (t : ℕ) (def : TableDef) (block : ℕ) → ShowsTable pages t def (λ map_tree. Contains (used_blocks map_tree) block)
-      → (IsOfOneCell shape pages def block → ⊥) → BreaksRule shape pages 9 (first_page_of shape.extents shape.extent_pages block)
+  cell : (t : ℕ) (def : TableDef) (line : MapLine) → ShowsTable pages t def (λ map_tree. HasUsedLine map_tree line)
+      → (IsLineOfOneCell shape pages def line → ⊥) → BreaksRule shape pages 9 (first_page_of shape.extents shape.extent_pages line.block)
   -- the root of a block index, and of a record index
   composite : (t : ℕ) (def : TableDef) → t < 16 → DefinesTable pages t def
       → ((map_tree index : Forest) → HasTree pages (map_place def) map_tree → HasTree pages (composite_place def) index

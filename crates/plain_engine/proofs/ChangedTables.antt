@@ -110,7 +110,7 @@ put_and_numbered db without rowed new place table rows next change at left put n
     ∙ sym number
 
 -- a change that makes a table of itself
-changed_at-same : (db : Database) (place : ℕ) → changed_at db place (λ table. table) ≡ db
+pub changed_at-same : (db : Database) (place : ℕ) → changed_at db place (λ table. table) ≡ db
 changed_at-same [] place = refl
 changed_at-same (None ∷ db) zero = refl
 changed_at-same (Some table ∷ db) zero = refl

@@ -10,8 +10,10 @@ use Rattle.mdc_ast.specs.Database.{Database, PlainTable, changed_at, defs_of, ta
 use Rattle.mdc_ast.specs.Definitions.{Definitions, def_at, empty_place, with_def}
 use Rattle.statement_meaning.specs.Doing.{entered}
 use Rattle.statement_meaning.proofs.DatabaseLemmas.{changed_at-with_place}
+use Rattle.row_checks.specs.Executing.{IsThere, MayDropIndex}
+use Rattle.plain_engine.proofs.ChangedTables.{changed_at-same}
 use Rattle.mdc_words.proofs.PlacesLemmas.{slice_get-set_same, slice_get-set_other}
-use Rattle.plain_engine.specs.Tables.{AreTables, rows_in, table_with, tables_of, with_next, with_rows}
+use Rattle.plain_engine.specs.Tables.{AreTables, rows_in, table_with, tables_of, with_rows}
 
 -- ---- what it is
 
@@ -233,21 +235,35 @@ pub rows_taken : (defs : Definitions) (rows : List (List Row)) (db : Database) (
 rows_taken defs rows db place found e placed read =
     ap (option_map (λ (table : PlainTable). table.rows)) (table_is defs rows db place placed.def found e placed.is placed.has_rows read)
 
--- the next row of a table has another number
-pub number_is : (defs left new : Definitions) (rows : List (List Row)) (db : Database) (place next : ℕ) (def : TableDef) → tables_of defs rows ≡ db → AreTables defs rows →
-    def_at defs place ≡ Some def → def.number ≡ place → left ≡ set defs place None → new ≡ with_def left place (record def { next = next }) →
-    tables_of new rows ≡ changed_at db place (with_next next)
-number_is defs left new rows db place next def e are is numbered taken put =
+-- a table has another definition, under the same number
+pub redefined_is : (defs left new : Definitions) (rows : List (List Row)) (db : Database) (place : ℕ) (def after : TableDef) (change : PlainTable → PlainTable) → tables_of defs rows ≡ db → AreTables defs rows →
+    def_at defs place ≡ Some def → after.number ≡ place → change (table_with (rows_in rows place) def) ≡ table_with (rows_in rows place) after → left ≡ set defs place None → new ≡ with_def left place after →
+    tables_of new rows ≡ changed_at db place change
+redefined_is defs left new rows db place def after change e are is numbered changes taken put =
     let table : PlainTable = table_with (rows_in rows place) def in
-    let after : TableDef = record def { next = next } in
     let there : table_at (tables_of defs rows) place ≡ Some table = table_at-tables_of defs rows place ∙ ap (option_map (table_with (rows_in rows place))) is in
     let whole : new ≡ set defs place (Some after) =
     put ∙ ap (λ d. with_def d place after) taken ∙ set-set defs place None (Some (record after { number = place }))
     ∙ ap (λ n. set defs place (Some (record after { number = n }))) (sym numbered) in
     ap (λ d. tables_of d rows) whole
     ∙ tables_of-set_def defs rows place (Some after) (equal are)
-    ∙ sym (changed_at-with_place (tables_of defs rows) place table (with_next next) there)
-    ∙ ap (λ d. changed_at d place (with_next next)) e
+    ∙ ap (λ t. with_place (tables_of defs rows) place (Some t)) (sym changes)
+    ∙ sym (changed_at-with_place (tables_of defs rows) place table change there)
+    ∙ ap (λ d. changed_at d place change) e
+
+-- a definition that is put back as it was
+pub redefined_same : (defs left new : Definitions) (rows : List (List Row)) (db : Database) (place : ℕ) (def after : TableDef) → tables_of defs rows ≡ db → AreTables defs rows →
+    def_at defs place ≡ Some def → after.number ≡ place → def ≡ after → left ≡ set defs place None → new ≡ with_def left place after → tables_of new rows ≡ db
+redefined_same defs left new rows db place def after e are is numbered same taken put =
+    redefined_is defs left new rows db place def after (λ table. table) e are is numbered (ap (table_with (rows_in rows place)) same) taken put ∙ changed_at-same db place
+
+-- a record index of a table that is there
+pub index_there : (defs : Definitions) (rows : List (List Row)) (db : Database) (place index : ℕ) (def : TableDef) → tables_of defs rows ≡ db → def_at defs place ≡ Some def → IsThere (table_at db place) (MayDropIndex index) → index < length def.indexes
+index_there defs rows db place index def e is h =
+    let there : table_at db place ≡ Some (table_with (rows_in rows place) def) =
+    ap (λ d. table_at d place) (sym e) ∙ table_at-tables_of defs rows place ∙ ap (option_map (table_with (rows_in rows place))) is in
+    let may : MayDropIndex index (table_with (rows_in rows place) def) = subst (λ found. IsThere found (MayDropIndex index)) there h in
+    may.within
 
 -- and it keeps its place
 pub are_tables-number : (defs left new : Definitions) (rows : List (List Row)) (place : ℕ) (def : TableDef) → AreTables defs rows → place < 16 → left ≡ set defs place None → new ≡ with_def left place def → AreTables new rows

@@ -6,6 +6,7 @@ ghost use Rattle.row_checks.specs.Executing.{MayBeDone, answer_of, done};
 
 use crate::defining::{create, drop_table};
 use crate::deleting::delete;
+use crate::indexing::{create_index, drop_index};
 use crate::inserting::insert;
 use crate::querying::query;
 use crate::tables::Tables;
@@ -63,14 +64,14 @@ fn carry_out(alloc: Global, bound: Bound, tables: &mut Tables) -> Result<Outcome
 {
     match bound {
         Bound::CreateTable(def) => Ok(create(def, tables)),
+        Bound::CreateIndex { table, index } => create_index(alloc, table, index, tables),
         Bound::DropTable(table) => Ok(drop_table(table, tables)),
+        Bound::DropIndex { table, index } => Ok(drop_index(table, index, tables)),
         Bound::Insert { table, rows } => insert(alloc, table, rows, tables),
         Bound::Update { table, sets, pred } => update(alloc, table, sets.as_slice(), &pred, tables),
         Bound::Delete { table, pred } => Ok(delete(table, &pred, tables)),
         Bound::Query(select) => query(alloc, &select, tables),
-        Bound::CreateIndex { .. }
-        | Bound::DropIndex { .. }
-        | Bound::Explain(_)
+        Bound::Explain(_)
         | Bound::SetRollout(_)
         | Bound::SetPlan(_)
         | Bound::SetPace(_)

@@ -5,10 +5,11 @@ ghost use Rattle.statement_meaning.specs.Built.{IsBuiltDatabase};
 ghost use Rattle.mdc_ast.specs.Database.{table_at, numbered};
 ghost use Rattle.row_checks.specs.Executing.{IsThere, MayInsert, answer_of, done};
 
+use crate::keys::first_clash;
 use crate::tables::Tables;
 use mdc_ast::{Outcome, Reply, Row};
 use mdc_values::{List, Memory, Value};
-use row_checks::{first_null_in, numbers_used_up, unfit};
+use row_checks::{duplicate_key, first_null_in, numbers_used_up, unfit};
 use std::alloc::Global;
 
 /// An INSERT: all tuples are judged before a row goes in. After `Memory` nothing has changed.
@@ -23,10 +24,14 @@ pub fn insert(
     ensures done { IfOk result (λ outcome. done tables.old (bound.Insert table tuples) ≡ (tables.new, answer_of outcome)) }
     ensures memory { OnErr result (tables.new ≡ tables.old) }
 {
-    let def = tables.table(table).def;
+    let lent = tables.table(table);
+    let def = lent.def;
     let next = def.next;
     if let Some(misfit) = first_null_in(def.columns.as_slice(), tuples.as_slice()) {
         return Ok(Outcome::Refused(unfit(alloc, misfit)?));
+    }
+    if let Some(index) = first_clash(alloc, def.indexes.as_slice(), lent.rows, tuples.as_slice())? {
+        return Ok(Outcome::Refused(duplicate_key(alloc, index)?));
     }
     let count = tuples.len() as u64;
     let Some(after) = next.checked_add(count) else {

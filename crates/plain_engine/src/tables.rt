@@ -1,14 +1,15 @@
 // Tables in memory: what each is, and its rows.
-ghost use Rattle.std.specs.Prelude.{◌≡◌, ◌<◌, [], None, Some, IfOk, IfSome, IsSome, OnOk, option_map};
+ghost use Rattle.std.specs.Prelude.{◌≡◌, ◌<◌, [], None, Some, IfOk, IfSome, IsSome, OnErr, OnOk, option_map};
 ghost use Rattle.mdc_ast.specs.Database.{changed_at, defs_of, empty_database, table_at, with_place};
 ghost use Rattle.mdc_ast.specs.Definitions.{empty_place};
 ghost use Rattle.statement_meaning.specs.Built.{IsBuiltDatabase};
-ghost use Rattle.statement_meaning.specs.Doing.{entered};
+ghost use Rattle.statement_meaning.specs.Doing.{entered, indexed_table, unindexed_table};
+ghost use Rattle.row_checks.specs.Executing.{IsThere, MayDropIndex};
 ghost use Rattle.plain_engine.specs.Tables.{with_next, with_rows};
 
 use crate::copying::Copied;
 use catalog::Catalog;
-use mdc_ast::{Row, TableDef};
+use mdc_ast::{IndexDef, Row, TableDef};
 use mdc_values::{List, Memory};
 use std::alloc::Global;
 use std::marker::Model;
@@ -125,6 +126,34 @@ impl Tables {
             unreachable!()
         };
         def.next = next;
+        self.catalog.put(place, def);
+    }
+
+    /// Gives a table one record index more, behind its others. After `Memory` nothing has changed.
+    pub fn add_index(&mut self, place: u8, index: IndexDef) -> Result<(), Memory>
+        requires there { IsSome (table_at self.old place) }
+        requires numbered { IfSome (table_at self.old place) (λ table. table.def.number ≡ place) }
+        ensures ok { OnOk result (self.new ≡ changed_at self.old place (indexed_table index)) }
+        ensures err { OnErr result (self.new ≡ self.old) }
+    {
+        let Some(mut def) = self.catalog.take(place) else {
+            unreachable!()
+        };
+        let added = def.indexes.push(index);
+        self.catalog.put(place, def);
+        added
+    }
+
+    /// Takes a record index of a table out; those behind it move up. It takes no memory.
+    pub fn remove_index(&mut self, place: u8, index: u8)
+        requires there { IsThere (table_at self.old place) (MayDropIndex index) }
+        requires numbered { IfSome (table_at self.old place) (λ table. table.def.number ≡ place) }
+        ensures { self.new ≡ changed_at self.old place (unindexed_table index) }
+    {
+        let Some(mut def) = self.catalog.take(place) else {
+            unreachable!()
+        };
+        def.indexes.remove(index as usize);
         self.catalog.put(place, def);
     }
 

@@ -13,10 +13,11 @@ ghost use Rattle.row_checks.specs.Filtering.{are_changeable, are_filterable, may
 ghost use Rattle.row_checks.specs.RowChange.{are_within, misfit_cause};
 
 use crate::copying::Copied;
+use crate::keys::first_clash;
 use crate::tables::Tables;
 use mdc_ast::{BoundSet, ColumnDef, Outcome, Pred, Reply, Row};
 use mdc_values::Memory;
-use row_checks::{Misfit, changed_values, first_misfit_of_row, qualifies, unfit};
+use row_checks::{Misfit, changed_values, duplicate_key, first_misfit_of_row, qualifies, unfit};
 use std::alloc::Global;
 
 /// An UPDATE: all rows are judged before one is changed. After `Memory` nothing has changed.
@@ -38,6 +39,9 @@ pub fn update(
         return Ok(Outcome::Refused(unfit(alloc, misfit)?));
     }
     let rows = changed_rows(alloc, sets, pred, lent.rows)?;
+    if let Some(index) = first_clash(alloc, lent.def.indexes.as_slice(), rows.as_slice(), &[])? {
+        return Ok(Outcome::Refused(duplicate_key(alloc, index)?));
+    }
     let count = hits(pred, lent.rows);
     tables.put_rows(table, rows);
     Ok(Outcome::Done(Reply::Updated(count)))

@@ -1,6 +1,7 @@
 use answer_text::outcome_bytes;
 use mdc_ast::{
-    ColumnText, InsertItem, Name, Operand, OutList, Select, SetItem, SetText, Sign, Stmt, TypeText,
+    ColumnText, InsertItem, KeyText, Name, Operand, OutList, Select, SetItem, SetText, Sign, Stmt,
+    TypeText,
 };
 use mdc_values::{Chars, List, Literal, Memory};
 use plain_engine::Engine;
@@ -113,6 +114,58 @@ fn count_up(alloc: Global) -> Result<Stmt, Memory> {
     })
 }
 
+/// `CREATE INDEX name ON T (column)`, or a UNIQUE one.
+fn index(alloc: Global, name: &[u8], unique: bool, column: &[u8]) -> Result<Stmt, Memory> {
+    let mut parts = List::new(alloc);
+    parts.push(KeyText {
+        column: named(alloc, column)?,
+        descending: false,
+    })?;
+    Ok(Stmt::CreateIndex {
+        name: named(alloc, name)?,
+        unique,
+        table: named(alloc, b"T")?,
+        parts,
+    })
+}
+
+/// `UPDATE T SET B = item`.
+fn set_b(alloc: Global, item: SetItem) -> Result<Stmt, Memory> {
+    let mut sets = List::new(alloc);
+    sets.push(set(alloc, b"B", item)?)?;
+    Ok(Stmt::Update {
+        table: named(alloc, b"T")?,
+        sets,
+        pred: None,
+    })
+}
+
+/// `UPDATE T SET B = 3 - B`.
+fn turn_round(alloc: Global) -> Result<Stmt, Memory> {
+    let b = Operand::Column(named(alloc, b"B")?);
+    let rest = SetItem::Two(Operand::Literal(number(3)), Sign::Minus, b);
+    set_b(alloc, rest)
+}
+
+/// `INSERT INTO T VALUES (5, NULL), (6, NULL)`.
+fn insert_nulls(alloc: Global) -> Result<Stmt, Memory> {
+    let mut rows = List::new(alloc);
+    rows.push(with_null(alloc, 5)?)?;
+    rows.push(with_null(alloc, 6)?)?;
+    Ok(Stmt::Insert {
+        table: named(alloc, b"T")?,
+        columns: None,
+        rows,
+    })
+}
+
+fn with_null(alloc: Global, a: u64) -> Result<List<InsertItem>, Memory> {
+    let mut items = List::new(alloc);
+    items.push(InsertItem::Literal(number(a)))?;
+    items.push(InsertItem::Literal(Literal::Null))?;
+    Ok(items)
+}
+
 /// `SELECT * FROM T`.
 fn query(alloc: Global) -> Result<Stmt, Memory> {
     Ok(Stmt::Query(Select {
@@ -212,6 +265,52 @@ fn a_commit_keeps_the_rows(rt: HostRuntime) -> Result<(), Fail> {
     told.run(&Stmt::ListBlocks(named(alloc, b"U")?))?;
     let text =
         b"OK\n1 ROWS INSERTED\nOK\nERROR 12 transaction state\n1 ROWS UPDATED\nOK\nA|B\n2|1\n1 ROWS\nBLOCKS\nERROR 21 no table U\n";
+    assert_eq!(rt; told.text.as_slice(), text.as_slice());
+    Ok(())
+}
+
+#[test]
+fn a_name_of_an_index_is_free_once_it_is_dropped(rt: HostRuntime) -> Result<(), Fail> {
+    let alloc = rt.alloc();
+    let mut told = with_row(alloc, 1, 2)?;
+    told.run(&index(alloc, b"V", false, b"B")?)?;
+    told.run(&index(alloc, b"V", false, b"A")?)?;
+    told.run(&Stmt::DropIndex(named(alloc, b"V")?))?;
+    told.run(&Stmt::DropIndex(named(alloc, b"V")?))?;
+    let text = b"OK\n1 ROWS INSERTED\nOK\nERROR 24 index V exists\nOK\nERROR 25 no index V\n";
+    assert_eq!(rt; told.text.as_slice(), text.as_slice());
+    Ok(())
+}
+
+#[test]
+fn keys_are_judged_as_the_statement_leaves_them(rt: HostRuntime) -> Result<(), Fail> {
+    let alloc = rt.alloc();
+    let mut told = with_row(alloc, 1, 1)?;
+    told.run(&index(alloc, b"U", true, b"B")?)?;
+    told.run(&insert(alloc, 1, 2)?)?;
+    told.run(&turn_round(alloc)?)?;
+    told.run(&set_b(alloc, SetItem::One(Operand::Literal(number(7))))?)?;
+    told.run(&insert_nulls(alloc)?)?;
+    told.run(&insert(alloc, 9, 2)?)?;
+    told.run(&query(alloc)?)?;
+    let text =
+        b"OK\n1 ROWS INSERTED\nOK\n1 ROWS INSERTED\n2 ROWS UPDATED\nERROR 40 duplicate key in U\nERROR 40 duplicate key in U\nERROR 40 duplicate key in U\nA|B\n1|2\n1|1\n2 ROWS\n";
+    assert_eq!(rt; told.text.as_slice(), text.as_slice());
+    Ok(())
+}
+
+#[test]
+fn a_unique_index_needs_keys_that_differ(rt: HostRuntime) -> Result<(), Fail> {
+    let alloc = rt.alloc();
+    let mut told = with_row(alloc, 1, 2)?;
+    told.run(&insert(alloc, 3, 2)?)?;
+    told.run(&index(alloc, b"U", true, b"B")?)?;
+    told.run(&index(alloc, b"U", true, b"A")?)?;
+    told.run(&insert(alloc, 3, 4)?)?;
+    told.run(&Stmt::DropIndex(named(alloc, b"U")?))?;
+    told.run(&insert(alloc, 3, 4)?)?;
+    let text =
+        b"OK\n1 ROWS INSERTED\n1 ROWS INSERTED\nERROR 40 duplicate key in U\nOK\nERROR 40 duplicate key in U\nOK\n1 ROWS INSERTED\n";
     assert_eq!(rt; told.text.as_slice(), text.as_slice());
     Ok(())
 }

@@ -1,5 +1,5 @@
 -- The block map of a table, and what breaks its rules.
-use Rattle.std.proofs.Common.{◌≡◌, ◌≤◌, ◌+◌, ◌==◌, ℕ, zero, suc, List, [], ◌∷◌, refl, sym, subst, ◌∙◌, arith, inl, inr, Bool, true, false, cond}
+use Rattle.std.proofs.Common.{◌≡◌, ◌≤◌, ◌+◌, ◌==◌, ℕ, zero, suc, List, [], ◌∷◌, refl, sym, subst, ◌∙◌, ap, arith, inl, inr, Bool, true, false, cond}
 use Rattle.std.specs.Prelude.{IsTrue, Contains, Option, Some, None, map, filter}
 use Rattle.mdc_ast.specs.declared.definition.TableDef.{TableDef}
 use Rattle.store_api.specs.Extents.{first_page_of}
@@ -20,6 +20,7 @@ use Rattle.block_map.specs.MapLines.{MapLine, map_lines, used_blocks}
 use Rattle.table_trees.specs.TableTrees.{map_place}
 use Rattle.table_trees.specs.TreesBeside.{HoldsTreeAt}
 use Rattle.table_trees.specs.ToldPages.{HasTree, PageList}
+use Rattle.mdc_sound.specs.BlockLines.{mapped_line}
 use Rattle.mdc_sound.specs.BlockRules.{IsBlockPageSound}
 use Rattle.mdc_sound.specs.Breaks.{BreaksRule}
 use Rattle.mdc_sound.proofs.StandsForLemmas.{one_tree_at}
@@ -67,7 +68,11 @@ pub breaks_used_block : (shape : Shape) (old now : StoreState) (def : TableDef) 
 breaks_used_block shape old now def block damage tells works used b = record {
   broken = λ told map_tree shows.
       breaks_named shape old.work damage 7 (first_page_of shape.extents shape.extent_pages block + b.place) b.rule b.page
-      (BreaksRule.row_page def.number def block b.place (record { within = shows.within; defines = shows.defines; map = used told }) b.within
+      (BreaksRule.row_page def.number def (mapped_line map_tree block) b.place (record {
+        within = shows.within;
+        defines = shows.defines;
+        map = λ t has. (used told t has, ap (λ (u : Forest). mapped_line u block) (sym (one_tree_at old.work (map_place def) map_tree t shows.has_map has)));
+      }) b.within
       (λ sound. b.broken (tells ∙ told) (subst (λ pages. IsBlockPageSound shape pages def block b.place) (sym works) sound)));
 }
 

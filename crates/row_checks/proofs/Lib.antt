@@ -8,3 +8,5 @@ pub mod Ready
 pub mod ServedLemmas
 pub mod SetLemmas
 pub mod Stepping
+pub mod TwinsLemmas
+pub mod UniqueLemmas

@@ -1,5 +1,5 @@
 -- How a query ends: with its lines, or refused for the first sum outside BIGINT.
-use Rattle.std.proofs.Common.{◌≡◌, ◌∙◌, ◌<◌, ◌≤◌, ◌+◌, ℕ, zero, suc, List, [], ◌∷◌, ◌++◌, ap, sym, arith, append-nil, filter, Some}
+use Rattle.std.proofs.Common.{◌≡◌, ◌∙◌, ◌<◌, ◌+◌, ℕ, zero, suc, List, [], ◌∷◌, ◌++◌, ap, sym, arith, append-nil, filter, Some}
 use Rattle.std.specs.Prelude.{All, Option}
 use Rattle.std.proofs.lemmas.List.Kept.{AllPairs-cons, AllPairs-filter}
 use Rattle.mdc_ast.specs.declared.bound.Bound.TheVariants as bound
@@ -46,7 +46,8 @@ module _ (db : Database) (select : BoundSelect) (table : PlainTable) (at : table
   -- what is said against it is said of its sums
   causes_are : causes_of_rows db (bound.Query select) ≡ sum_causes table.def.columns (shape_of select) found
   causes_are =
-      append-nil (of_some (table_at db select.table) (λ (there : PlainTable). sum_causes there.def.columns (shape_of select) (hits select.pred (Some there))))
+      let sums : List Cause = of_some (table_at db select.table) (λ (there : PlainTable). sum_causes there.def.columns (shape_of select) (hits select.pred (Some there))) in
+      append-nil (sums ++ []) ∙ append-nil sums
       ∙ ap (λ (there : Option PlainTable). of_some there (λ (one : PlainTable). sum_causes one.def.columns (shape_of select) (hits select.pred (Some one)))) at
 
   lines_are : lines_of (columns_at (table_at db select.table)) (shape_of select) (hits select.pred (table_at db select.table)) ≡ lines_of table.def.columns (shape_of select) found

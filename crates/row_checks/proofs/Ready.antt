@@ -22,7 +22,7 @@ use Rattle.row_checks.proofs.ServedLemmas.{serves}
 use Rattle.row_checks.specs.Executing.{IsThere, MayBeDone}
 use Rattle.row_filter.specs.Filtering.{may_filter}
 use Rattle.row_checks.specs.Filtering.{are_filterable}
-use Rattle.row_checks.specs.Served.{IsDefined, IsServed, MayJudge}
+use Rattle.row_checks.specs.Served.{IsDefined, IsServed, MayGainIndex, MayJudge}
 
 -- a predicate may be judged on rows that fit
 filterable : (pred : Option Pred) (def : TableDef) (rows : List Row) → MayJudge pred def → AllByRecursion (λ row. IsTrue (fits_all def.columns row.values)) rows → IsTrue (are_filterable pred rows)
@@ -47,9 +47,16 @@ is_there : (found : Option PlainTable) → IsSome (def_of found) → IsSome foun
 is_there None h = h
 is_there (Some table) h = refl
 
+is_defined_some : (P : TableDef → Type 0) (found : Option TableDef) → IsDefined found P → IsSome found
+is_defined_some P None h = absurd h
+is_defined_some P (Some def) h = refl
+
 -- what the definitions serve may be done on the rows
 done_if_served : (db : Database) (statement : Bound) → IsValid db → IsServed (defs_of db) statement → MayBeDone db statement
 done_if_served db (bound.CreateTable def) valid served = served.0
+done_if_served db (bound.CreateIndex place index) valid served =
+    is_there (table_at db place) (is_defined_some (MayGainIndex index) (def_of (table_at db place)) (subst (λ found. IsDefined found (MayGainIndex index)) (def_at-defs_of db place) served.0))
+done_if_served db (bound.DropIndex place index) valid served = there_as db place _ _ served (λ table at lose. record { within = lose.within })
 done_if_served db (bound.DropTable place) valid served = is_there (table_at db place) (subst IsSome (def_at-defs_of db place) served)
 done_if_served db (bound.Insert place tuples) valid served = there_as db place _ _ served (λ table at put. record { wide = put.wide })
 done_if_served db (bound.Update place sets pred) valid served =

@@ -14,17 +14,19 @@ use Rattle.mdc_ast.specs.declared.statement.InsertItem.{InsertItem}
 use Rattle.mdc_ast.specs.declared.statement.SetText.{SetText}
 use Rattle.mdc_ast.specs.declared.statement.Stmt.{Stmt}
 use Rattle.mdc_ast.specs.declared.statement.Stmt.TheVariants as stmt
-use Rattle.statement_meaning.specs.Binding.{bound_of, bound_on, bound_set, bound_tuple, bound_where, columns_of, given_for, on_place}
-use Rattle.statement_meaning.specs.Cause.{Cause, Limit, TableExists, cause_if}
+use Rattle.statement_meaning.specs.Binding.{bound_drop_index, bound_index, bound_of, bound_on, bound_set, bound_tuple, bound_where, columns_of, given_for, on_place}
+use Rattle.statement_meaning.specs.Cause.{Cause, IndexExists, Limit, TableExists, cause_if}
 use Rattle.mdc_ast.specs.Database.{fits_all, numbered}
 use Rattle.mdc_ast.specs.ValidDatabase.{AreValidDefs}
-use Rattle.mdc_ast.specs.Definitions.{Definitions, def_at, def_named, empty_place, place_of}
+use Rattle.mdc_ast.specs.Definitions.{Definitions, def_at, def_named, empty_place, index_place_of, place_of}
 use Rattle.statement_meaning.specs.Doing.{null_causes, set_causes, set_on}
-use Rattle.statement_meaning.specs.Judged.{column_limits, create_judged, insert_judged, judged_of, list_judged, long_name, query_judged, set_columns, set_types, sets_judged, shown_columns, tail_judged, targets}
-use Rattle.statement_meaning.specs.Judging.{Judged, atom_columns, atom_types, atoms_of, in_order, no_fault, on_table, then_judged, where_judged}
+use Rattle.statement_meaning.specs.Judged.{column_limits, create_judged, index_judged, insert_judged, judged_of, list_judged, long_name, query_judged, set_columns, set_types, sets_judged, shown_columns, tail_judged, targets}
+use Rattle.statement_meaning.specs.Judging.{Judged, atom_columns, atom_types, atoms_of, in_order, no_fault, on_defined, then_judged, where_judged}
 use Rattle.statement_meaning.specs.Built.{is_built_step}
 use Rattle.statement_meaning.proofs.BindingLemmas.{AreBound}
 use Rattle.statement_meaning.proofs.CausesLemmas.{is_there, none_of_both}
+use Rattle.statement_meaning.proofs.IndexLemmas.{MayHaveIndex, created_index}
+use Rattle.statement_meaning.proofs.IndexNamesLemmas.{IsIndexAt, found_index}
 use Rattle.statement_meaning.proofs.KeepingLemmas.{IsFaultless, is_faultless}
 use Rattle.statement_meaning.proofs.RowsLemmas.{numbered_fit}
 use Rattle.mdc_ast.proofs.TestsLemmas.{and_true}
@@ -33,7 +35,7 @@ use Rattle.row_checks.proofs.BoundPlaces.{sets_within, shown_within}
 use Rattle.row_checks.proofs.Each.{same_number}
 use Rattle.row_checks.proofs.KindsLemmas.{may_filter-bound_where}
 use Rattle.row_checks.specs.Executing.{are_tuples_wide}
-use Rattle.row_checks.specs.Served.{IsDefined, IsServed, MayJudge, MayPut, MaySet}
+use Rattle.row_checks.specs.Served.{IsDefined, IsServed, MayJudge, MayLoseIndex, MayPut, MaySet}
 
 -- ---- INSERT
 
@@ -82,22 +84,26 @@ defined_as : (found : Option TableDef) (def : TableDef) (P : TableDef → Type 0
 defined_as found def P at h = subst (λ found. IsDefined found P) (sym at) h
 
 -- a statement on a table: it is defined, and nothing is said against the statement on its columns
-on_defined : (defs : Definitions) (name : Name) (bind : ℕ → List ColumnDef → Bound) (judge : List ColumnDef → Judged) → in_order (on_table name (def_named defs name) judge) ≡ [] →
-    ((place : ℕ) (def : TableDef) → def_at defs place ≡ Some def → IsFaultless (judge def.columns) → IsServed defs (bind place def.columns)) →
+served_on : (defs : Definitions) (name : Name) (bind : ℕ → List ColumnDef → Bound) (judge : TableDef → Judged) → in_order (on_defined name (def_named defs name) judge) ≡ [] →
+    ((place : ℕ) (def : TableDef) → def_at defs place ≡ Some def → IsFaultless (judge def) → IsServed defs (bind place def.columns)) →
     IsServed defs (bound_on defs name bind)
-on_defined defs name bind judge said serve = by_place (place_of defs name) said
+served_on defs name bind judge said serve = by_place (place_of defs name) said
   where
-    by_def : (place : ℕ) (found : Option TableDef) → def_at defs place ≡ found → in_order (on_table name found judge) ≡ [] → IsServed defs (bind place (columns_of found))
+    by_def : (place : ℕ) (found : Option TableDef) → def_at defs place ≡ found → in_order (on_defined name found judge) ≡ [] → IsServed defs (bind place (columns_of found))
     by_def place None at none = absurd cc
-    by_def place (Some def) at none = serve place def at (is_faultless (judge def.columns) none)
+    by_def place (Some def) at none = serve place def at (is_faultless (judge def) none)
 
-    by_place : (found : Option ℕ) → in_order (on_table name (option_and_then (def_at defs) found) judge) ≡ [] → IsServed defs (on_place found (columns_of (option_and_then (def_at defs) found)) bind)
+    by_place : (found : Option ℕ) → in_order (on_defined name (option_and_then (def_at defs) found) judge) ≡ [] → IsServed defs (on_place found (columns_of (option_and_then (def_at defs) found)) bind)
     by_place None none = tt
     by_place (Some place) none = by_def place (def_at defs place) refl none
 
 none_found : (found : Option ℕ) (cause : Cause) → cause_if (is_some found) cause ≡ [] → found ≡ None
 none_found None cause e = refl
 none_found (Some place) cause e = absurd cc
+
+no_index : (found : Option (ℕ × ℕ)) (cause : Cause) → cause_if (is_some found) cause ≡ [] → found ≡ None
+no_index None cause e = refl
+no_index (Some place) cause e = absurd cc
 
 -- what nothing is said against may be done, once it is bound
 pub serves : (defs : Definitions) (statement : Stmt) → in_order (judged_of defs statement) ≡ [] → IsServed defs (bound_of defs statement)
@@ -107,18 +113,30 @@ serves defs (stmt.CreateTable name columns dims) said =
     let columnless = none_of_both (long_name name ++ cause_if (is_none (empty_place defs)) (Limit 16)) _ dimless.0 in
     let room = none_of_both (long_name name) (cause_if (is_none (empty_place defs)) (Limit 16)) columnless.0 in
     (subst IsSome (sym (is_there (empty_place defs) (Limit 16) room.1).1) refl, none_found (place_of defs name) (TableExists name) faultless.names)
-serves defs (stmt.DropTable name) said = on_defined defs name _ (λ columns. no_fault) said (λ place def at faultless. subst IsSome (sym at) refl)
+serves defs (stmt.CreateIndex name unique table parts) said =
+    served_on defs table _ (index_judged defs name parts) said
+    (λ place def at faultless.
+    let may : MayHaveIndex def (bound_index def.columns name unique parts) = created_index defs name unique parts def faultless.columns faultless.limits in
+    (defined_as (def_at defs place) def _ at (record { few = may.few; valid = may.valid }), no_index (index_place_of defs name) (IndexExists name) faultless.names))
+serves defs (stmt.DropIndex name) said = served_drop (index_place_of defs name) refl
+  where
+    served_drop : (found : Option (ℕ × ℕ)) → index_place_of defs name ≡ found → IsServed defs (bound_drop_index found)
+    served_drop None is = tt
+    served_drop (Some (table, index)) is =
+        let there : IsIndexAt defs table index = found_index defs name table index is in
+        defined_as (def_at defs table) there.def (MayLoseIndex index) there.at (record { within = there.within })
+serves defs (stmt.DropTable name) said = served_on defs name _ (λ def. no_fault) said (λ place def at faultless. subst IsSome (sym at) refl)
 serves defs (stmt.Insert name listed tuples) said =
-    on_defined defs name _ (insert_judged listed tuples) said
+    served_on defs name _ (λ def. insert_judged listed tuples def.columns) said
     (λ place def at faultless. defined_as (def_at defs place) def _ at (may_put def (targets def.columns listed) tuples))
 serves defs (stmt.Update name sets text) said =
-    on_defined defs name _ (λ columns. then_judged (sets_judged sets columns) (where_judged columns text)) said
+    served_on defs name _ (λ def. then_judged (sets_judged sets def.columns) (where_judged def.columns text)) said
     (λ place def at faultless. defined_as (def_at defs place) def _ at (may_set def sets text faultless))
 serves defs (stmt.Delete name text) said =
-    on_defined defs name _ (λ columns. where_judged columns text) said
+    served_on defs name _ (λ def. where_judged def.columns text) said
     (λ place def at faultless. defined_as (def_at defs place) def _ at (may_judge_where def text (record { there = faultless.columns; typed = faultless.types })))
 serves defs (stmt.Query select) said =
-    on_defined defs select.table _ (query_judged select) said
+    served_on defs select.table _ (λ def. query_judged select def.columns) said
     (λ place def at faultless.
     let where_ = where_judged def.columns select.pred in
     let front = none_of_both (shown_columns def.columns select.list ++ where_.columns) (tail_judged select def.columns).columns faultless.columns in

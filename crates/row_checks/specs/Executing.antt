@@ -1,5 +1,5 @@
 -- What a bound statement needs of the database that it is done on, and how its end is answered.
-use Rattle.std.specs.Prelude.{ℕ, List, length, Bool, ◌==◌, IsTrue, IsSome, Option, Some, None}
+use Rattle.std.specs.Prelude.{ℕ, ◌<◌, List, length, Bool, ◌==◌, IsTrue, IsSome, Option, Some, None}
 use Rattle.std.specs.List.{list_all}
 use Rattle.mdc_values.specs.declared.value.Value.{Value}
 use Rattle.mdc_ast.specs.declared.bound.Bound.{Bound}
@@ -55,9 +55,15 @@ pub record MayShow (outs : List BoundOut) (pred : Option Pred) (table : PlainTab
   pub shown : IsTrue (are_outs_within (length table.def.columns) outs)
   pub filterable : IsTrue (are_filterable pred table.rows)
 
+-- the table has a record index in that place
+pub record MayDropIndex (index : ℕ) (table : PlainTable) : Type 0 where
+  pub within : index < length table.def.indexes
+
 -- what a bound statement needs of the database
 abbrev pub MayBeDone : Database → Bound → Type 0
 MayBeDone db (bound.CreateTable def) = IsSome (empty_place (defs_of db))
+MayBeDone db (bound.CreateIndex place index) = IsSome (table_at db place)
+MayBeDone db (bound.DropIndex place index) = IsThere (table_at db place) (MayDropIndex index)
 MayBeDone db (bound.DropTable place) = IsSome (table_at db place)
 MayBeDone db (bound.Insert place tuples) = IsThere (table_at db place) (MayInsert tuples)
 MayBeDone db (bound.Update place sets pred) = IsThere (table_at db place) (MayUpdate sets pred)

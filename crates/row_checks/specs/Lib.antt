@@ -1,4 +1,5 @@
 pub mod Executing
 pub mod Filtering
 pub mod RowChange
+pub mod Seen
 pub mod Served

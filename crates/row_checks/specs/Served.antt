@@ -1,5 +1,5 @@
 -- What a bound statement needs of the definitions that it was bound on, whatever rows there are.
-use Rattle.std.specs.Prelude.{◌≤◌, ◌≡◌, ◌++◌, ℕ, List, [], length, flat_map, Bool, true, false, IsTrue, IsSome, Option, Some, None, slice_get}
+use Rattle.std.specs.Prelude.{◌<◌, ◌≤◌, ◌≡◌, ◌++◌, ℕ, List, [], length, flat_map, Bool, true, false, IsTrue, IsSome, Option, Some, None, slice_get}
 use Rattle.std.specs.List.{list_all}
 use Rattle.mdc_values.specs.declared.value.ColType.{ColType}
 use Rattle.mdc_values.specs.declared.value.ColType.TheVariants as column
@@ -11,10 +11,12 @@ use Rattle.mdc_ast.specs.declared.bound.Bound.TheVariants as bound
 use Rattle.mdc_ast.specs.declared.bound.BoundOut.{BoundOut}
 use Rattle.mdc_ast.specs.declared.bound.BoundSet.{BoundSet}
 use Rattle.mdc_ast.specs.declared.definition.ColumnDef.{ColumnDef}
+use Rattle.mdc_ast.specs.declared.definition.IndexDef.{IndexDef}
 use Rattle.mdc_ast.specs.declared.definition.TableDef.{TableDef}
 use Rattle.mdc_ast.specs.declared.predicate.Pred.{Pred}
 use Rattle.mdc_ast.specs.Database.{fits_all}
-use Rattle.mdc_ast.specs.Definitions.{Definitions, def_at, empty_place, place_of}
+use Rattle.mdc_ast.specs.Definitions.{Definitions, def_at, empty_place, index_place_of, place_of}
+use Rattle.mdc_ast.specs.ValidDatabase.{IsValidIndex}
 use Rattle.statement_meaning.specs.Doing.{null_causes, set_causes, set_on}
 use Rattle.answer_text.specs.Lines.{are_outs_within}
 use Rattle.row_checks.specs.Executing.{are_tuples_wide}
@@ -56,6 +58,15 @@ pub record MayShowRows (outs : List BoundOut) (pred : Option Pred) (def : TableD
   pub judge : MayJudge pred def
   pub shown : IsTrue (are_outs_within (length def.columns) outs)
 
+-- the table has room for one record index more, and this one is valid
+pub record MayGainIndex (index : IndexDef) (def : TableDef) : Type 0 where
+  pub few : length def.indexes < 8
+  pub valid : IsValidIndex def.columns index
+
+-- the table has a record index in that place
+pub record MayLoseIndex (index : ℕ) (def : TableDef) : Type 0 where
+  pub within : index < length def.indexes
+
 -- a table is defined, of which this holds
 abbrev pub IsDefined : Option TableDef → (TableDef → Type 0) → Type 0
 IsDefined None P = ⊥
@@ -64,6 +75,8 @@ IsDefined (Some def) P = P def
 -- what a bound statement needs of the definitions
 abbrev pub IsServed : Definitions → Bound → Type 0
 IsServed defs (bound.CreateTable def) = IsSome (empty_place defs) × (place_of defs def.name ≡ None)
+IsServed defs (bound.CreateIndex place index) = IsDefined (def_at defs place) (MayGainIndex index) × (index_place_of defs index.name ≡ None)
+IsServed defs (bound.DropIndex place index) = IsDefined (def_at defs place) (MayLoseIndex index)
 IsServed defs (bound.DropTable place) = IsSome (def_at defs place)
 IsServed defs (bound.Insert place tuples) = IsDefined (def_at defs place) (MayPut tuples)
 IsServed defs (bound.Update place sets pred) = IsDefined (def_at defs place) (MaySet sets pred)

@@ -1,7 +1,7 @@
 // Why a statement isn't done, as a refusal.
 ghost use Rattle.std.specs.Prelude.{◌≡◌, IfOk};
 ghost use Rattle.statement_meaning.specs.Cause as spec;
-ghost use Rattle.statement_meaning.specs.Cause.{FileFull, NoTable, NotBuilt, NumbersUsedUp, Overflow, State, refusal_of};
+ghost use Rattle.statement_meaning.specs.Cause.{DuplicateKey, FileFull, NoTable, NotBuilt, NumbersUsedUp, Overflow, State, refusal_of};
 ghost use Rattle.row_checks.specs.RowChange.{misfit_cause};
 
 use crate::row_change::Misfit;
@@ -28,6 +28,13 @@ pub fn no_table(alloc: Global, name: &Name) -> Result<Refusal, Memory>
     ensures { IfOk result (λ refusal. refusal ≡ refusal_of (NoTable name.now)) }
 {
     naming(alloc, 21, name)
+}
+
+/// A UNIQUE index in which two rows would have equal keys.
+pub fn duplicate_key(alloc: Global, index: &Name) -> Result<Refusal, Memory>
+    ensures { IfOk result (λ refusal. refusal ≡ refusal_of (DuplicateKey index.now)) }
+{
+    naming(alloc, 40, index)
 }
 
 /// A file that has no extent left for the statement.

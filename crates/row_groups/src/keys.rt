@@ -7,7 +7,7 @@ ghost use Rattle.row_groups.specs.Values.{is_small};
 use mdc_values::{Memory, Value, trim};
 
 /// Appends the bytes of a row's values in these columns, which are equal exactly where the values are.
-pub(crate) fn append_key(columns: &[u8], values: &[Value], out: &mut Vec<u8>) -> Result<(), Memory>
+pub fn append_key(columns: &[u8], values: &[Value], out: &mut Vec<u8>) -> Result<(), Memory>
     ensures key { OnOk result (out.new.items ≡ out.old.items ++ group_key columns.now values.now) }
     ensures small { OnOk result (IsTrue (are_small columns.now values.now)) }
 {

@@ -26,6 +26,7 @@ mod whole;
 pub use fault::GroupFault;
 pub use grouping::shares_lines;
 pub use groups::Groups;
+pub use keys::append_key;
 pub use laws::{named_columns_decide, order_is_one};
 pub use line::{Line, Shown};
 pub use whole::shown_lines;

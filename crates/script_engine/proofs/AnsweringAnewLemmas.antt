@@ -9,7 +9,6 @@ use Rattle.mdc_ast.specs.declared.reply.Outcome.TheVariants as said
 use Rattle.mdc_ast.specs.declared.reply.Reply.{Reply}
 use Rattle.mdc_ast.specs.declared.statement.Stmt.{Stmt}
 use Rattle.statement_meaning.specs.Cause.{NoTable, NotBuilt, refusal_of}
-use Rattle.mdc_ast.specs.ValidDatabase.{AllDefsDiffer}
 use Rattle.mdc_ast.specs.Definitions.{Definitions, def_named}
 use Rattle.store_api.specs.Frame.{NoPage}
 use Rattle.store_api.specs.RunsOverPages.{RunsOverPages}
@@ -24,7 +23,7 @@ use Rattle.script_engine.specs.Doing.{DoesStep, StepRunsFull}
 use Rattle.script_engine.specs.Listing.{TellsBlocks}
 use Rattle.script_engine.specs.NotedRooms.{AreForgotten}
 use Rattle.statement_meaning.specs.Built.{are_built}
-use Rattle.script_engine.specs.Ready.{IsReady}
+use Rattle.script_engine.specs.Ready.{DoNamesDiffer, IsReady}
 use Rattle.script_engine.specs.Trying.{AnswersAnew, AnswersBySoundPages, AreReadAnew, IsRefusedFull, ListsByPages, TriesStep}
 use Rattle.script_engine.specs.declared.stop.EngineStop.{EngineStop}
 use Rattle.script_engine.specs.declared.tables.Tables.{Tables}
@@ -85,7 +84,7 @@ module _ {S : Type 0} (g : Ghosts S) (stmt : Stmt) (old : S) (before read : Tabl
 
   -- the statement was tried by what was read
   pub answer_tried : (mid new : S) (made now : Tables) (field outcome : Outcome) → RunsOverPages g NoPage IsAnyTablePage (BreaksTablePages g old) old mid None → (g.state mid).work ≡ (g.state old).work
-      → AreWithinLimits catalog → AllDefsDiffer catalog → are_built catalog ≡ true → TriesStep g stmt (Ok field) mid new read made → field ≡ outcome
+      → AreWithinLimits catalog → DoNamesDiffer catalog → are_built catalog ≡ true → TriesStep g stmt (Ok field) mid new read made → field ≡ outcome
       → ((reply : Reply) → outcome ≡ said.Done reply → now ≡ made) → IsTrue (g.state old).is_told → IsSoundDatabase before.shape (g.state old).work → AnswersAnew g stmt outcome old new before now
   answer_tried mid new made now field outcome runs same limits differ built tried field_is leaves told sound =
       let ready = ready_read g old mid before read catalog runs same is stored limits differ built shape notes rooms told sound in
@@ -105,7 +104,7 @@ module _ {S : Type 0} (g : Ghosts S) (stmt : Stmt) (old : S) (before read : Tabl
 module _ {S : Type 0} (g : Ghosts S) (old : S) (name : Name) (catalog : Definitions) (stored : IsTrue (g.state old).is_told → AreStored (g.state old).work catalog) where
   -- the blocks were told by what was read
   pub listed_read : (mid : S) (before read : Tables) (outcome : Outcome) → RunsOverPages g NoPage IsAnyTablePage (BreaksTablePages g old) old mid None → (g.state mid).work ≡ (g.state old).work
-      → read.catalog ≡ catalog → AreWithinLimits catalog → AllDefsDiffer catalog → are_built catalog ≡ true → read.shape ≡ before.shape
+      → read.catalog ≡ catalog → AreWithinLimits catalog → DoNamesDiffer catalog → are_built catalog ≡ true → read.shape ≡ before.shape
       → ((owners : List Kind) → AreRightNotes read.shape read.notes owners) → AreForgotten read.rooms
       → (def_named read.catalog name ≡ None → outcome ≡ said.Refused (refusal_of (NoTable name)))
       → ((def : TableDef) → def_named read.catalog name ≡ Some def → IsReady g mid read → TellsBlocks (pages_of g mid) def outcome)

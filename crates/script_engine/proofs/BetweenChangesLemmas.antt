@@ -1,7 +1,6 @@
 -- Sound pages and pages between two changes of rows: each is the other, where the table page is written and no record index lags.
 use Rattle.std.proofs.Common.{◌≡◌, ◌≢◌, ◌<◌, ◌+◌, ℕ, List, [], Some, set, refl, ap, arith, sym, ◌∙◌, subst, inl, inr}
 use Rattle.std.specs.Prelude.{IsTrue, slice_get}
-use Rattle.std.specs.List.{AllByRecursion}
 use Rattle.std.proofs.lemmas.Bool.{cases_eq}
 use Rattle.std.proofs.lemmas.List.{set-get_or}
 use Rattle.mdc_words.specs.ByteOrder.{Entry}
@@ -16,12 +15,11 @@ use Rattle.extent_map.specs.declared.space_notes.SpaceNotes.{SpaceNotes}
 use Rattle.table_trees.specs.SpaceChanges.{IsSameSpace}
 use Rattle.table_trees.specs.ToldPages.{PageList, told_pages}
 use Rattle.table_trees.proofs.ToldPagesLemmas.{map_of_told}
-use Rattle.mdc_sound.specs.BlockRules.{AreNumbersSound, AreOtherKeysSound, AreSoundIndexes, AreTableKeysSound, IsUniqueSound}
+use Rattle.mdc_sound.specs.BlockRules.{AreNumbersSound, AreOtherKeysSound, AreSoundIndexes, AreTableKeysSound}
 use Rattle.mdc_sound.specs.SoundDatabase.{IsSoundBetweenChanges, IsSoundWith, KeepAllRules, KeepFirstRules, with_table_page}
 use Rattle.mdc_sound.specs.SpaceRules.{DatabaseView, IsTablePlaceSound, tables_there}
 use Rattle.mdc_sound.specs.StandingTable.{IsReadyTable, RoomNote, StandsTable, TableForests, pages_of}
 use Rattle.mdc_sound.specs.TablePages.{DefinesTable}
-use Rattle.mdc_sound.specs.TableRows.{rows_in_table}
 use Rattle.mdc_sound.specs.TableViews.{TableView}
 use Rattle.mdc_sound.proofs.BlockRulesLemmas.{each_as}
 use Rattle.mdc_sound.proofs.SoundDatabaseLemmas.{length-with_table_page, page_at-with_table_page, put_table_page}
@@ -88,27 +86,26 @@ between_of_rules shape pages view def keeps low defines =
           (each_as (AreTableKeysSound shape pages) (λ (table : TableView). table.def.number ≢ def.number → AreTableKeysSound shape pages table) (tables_there view.places) (λ table in_view keys apart. keys) keeps.rule12.unique);
     }
 
--- between two changes of a table without record indexes no key of it stands twice either
-keys_between : (shape : Shape) (def : TableDef) (pages : PageList) (between : IsSoundBetweenChanges shape def pages) → def.indexes ≡ [] → (t : ℕ) (table : TableView)
+-- where the keys of that table differ, those of all tables do
+keys_between : (shape : Shape) (def : TableDef) (pages : PageList) (between : IsSoundBetweenChanges shape def pages) → AreTableKeysSound shape (with_table_page def pages) between.sound.table → (t : ℕ) (table : TableView)
     → slice_get between.sound.view.places t ≡ Some (Some table) → AreTableKeysSound shape (with_table_page def pages) table
-keys_between shape def pages between none t table at = elim (cases_eq t def.number) [
+keys_between shape def pages between keys t table at = elim (cases_eq t def.number) [
   | inl here ↦
       let mine : table ≡ between.sound.table = same_table table between.sound.table (sym (subst (λ n. slice_get between.sound.view.places n ≡ Some (Some table)) here at) ∙ between.sound.there) in
-      let empty : table.def.indexes ≡ [] = ap (λ (x : TableView). x.def.indexes) mine ∙ (ap (λ (d : TableDef). d.indexes) between.sound.same ∙ none) in
-      subst (AllByRecursion (IsUniqueSound (rows_in_table shape (with_table_page def pages) table.def table.map))) (sym empty) tt
+      subst (AreTableKeysSound shape (with_table_page def pages)) (sym mine) keys
   | inr apart ↦
       let number = (number_of_place shape (with_table_page def pages) between.sound.view between.sound.first t table at).1 in
       there_at (λ (x : TableView). x.def.number ≢ def.number → AreTableKeysSound shape (with_table_page def pages) x) between.sound.view.places t table at between.other_keys (λ e. apart (sym number ∙ e))
 ]
 
 -- so all rules hold, once its page is written
-pub rules_of_between : (shape : Shape) (def : TableDef) (pages : PageList) (between : IsSoundBetweenChanges shape def pages) → def.indexes ≡ [] → KeepAllRules shape (with_table_page def pages) between.sound.view
-rules_of_between shape def pages between none = record {
+pub rules_of_between : (shape : Shape) (def : TableDef) (pages : PageList) (between : IsSoundBetweenChanges shape def pages) → AreTableKeysSound shape (with_table_page def pages) between.sound.table → KeepAllRules shape (with_table_page def pages) between.sound.view
+rules_of_between shape def pages between keys = record {
   first = between.sound.first;
   rule11 = between.rule11;
   rule12 = record {
     numbers = between.numbers;
-    unique = each_there (AreTableKeysSound shape (with_table_page def pages)) between.sound.view.places (λ t table at. keys_between shape def pages between none t table at);
+    unique = each_there (AreTableKeysSound shape (with_table_page def pages)) between.sound.view.places (λ t table at. keys_between shape def pages between keys t table at);
   };
 }
 

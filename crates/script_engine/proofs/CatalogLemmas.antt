@@ -6,9 +6,8 @@ use Rattle.std.proofs.lemmas.Bool.{cases_lt}
 use Rattle.std.proofs.lemmas.List.{get_or_past, length-replicate}
 use Rattle.mdc_ast.specs.declared.definition.ColumnDef.{ColumnDef}
 use Rattle.mdc_ast.specs.declared.definition.TableDef.{TableDef}
-use Rattle.mdc_ast.specs.ValidDatabase.{AllDefsDiffer, AreValidFrom, IsValidDef, IsValidPlace}
+use Rattle.mdc_ast.specs.ValidDatabase.{AreValidFrom, IsValidDef, IsValidPlace}
 use Rattle.mdc_ast.specs.Definitions.{Definitions, are_there, def_at, is_good_type, is_short_key}
-use Rattle.statement_meaning.proofs.BuiltLemmas.{index_names_differ}
 use Rattle.statement_meaning.specs.Built.{AreBuiltDefs, are_built, is_built_place}
 use Rattle.store_api.specs.StoreState.{page_at, zero_page}
 use Rattle.store_api.specs.declared.fault.Damage.{Damage}
@@ -33,7 +32,8 @@ use Rattle.stored_catalog.specs.StoredDefinitions.{AreStored, AreWithinLimits, B
 use Rattle.stored_catalog.proofs.AddingLemmas.{place_there}
 use Rattle.stored_catalog.proofs.DroppingLemmas.{defined_within}
 use Rattle.stored_catalog.proofs.OpenedTableLemmas.{defined_there}
-use Rattle.script_engine.specs.Ready.{AreServed}
+use Rattle.script_engine.specs.Ready.{AreServed, DoNamesDiffer}
+use Rattle.script_engine.proofs.IndexedDefsLemmas.{good_are_valid}
 
 -- ---- one list of definitions
 
@@ -177,7 +177,8 @@ valid_def t def is = record {
   short_keys = all_as (is_good_dimension def.columns) (is_short_key def.columns) (dim_short def.columns) def.dims is.dims.good;
   short_composite = is.dims.short;
   sources = all_as (is_good_column def.columns) (λ column. is_good_source def.columns column.ty column.made) (good_source def.columns) def.columns is.columns.good;
-  indexes = is.indexes;
+  few_indexes = is.indexes.few;
+  indexes = good_are_valid def.columns def.indexes is.indexes.good;
   few_rows = is.next;
 }
 
@@ -191,10 +192,10 @@ valid_from from zero (place ∷ defs) within = absurd within
 valid_from from (suc n) (place ∷ defs) within = (valid_place from place within.0, valid_from (from + 1) n defs within.1)
 
 -- definitions of built forms within the limits are served
-pub served_of : (defs : Definitions) → AreWithinLimits defs → AllDefsDiffer defs → are_built defs ≡ true → AreServed defs
-served_of defs limits differ built = record {
+pub served_of : (defs : Definitions) → AreWithinLimits defs → DoNamesDiffer defs → are_built defs ≡ true → AreServed defs
+served_of defs limits names built = record {
   limits = limits;
-  valid = record { places = range_length IsWithinLimits 0 16 defs limits; differ = differ; index_names_differ = index_names_differ defs built; each = valid_from 0 16 defs limits };
+  valid = record { places = range_length IsWithinLimits 0 16 defs limits; differ = names.0; index_names_differ = names.1; each = valid_from 0 16 defs limits };
   built = built;
 }
 

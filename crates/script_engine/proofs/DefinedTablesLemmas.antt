@@ -1,17 +1,18 @@
 -- A table more, or one less: which definitions are served then, and what it makes of ready pages.
 use Rattle.std.proofs.Common.{◌≡◌, ◌<◌, ◌+◌, ℕ, List, [], ◌∷◌, ◌∙◌, Bool, refl, sym, ap, subst, length, map, arith}
-use Rattle.std.specs.Prelude.{slice_set, true, IsTrue, IsSome, IfSome, Option, Some, None, ◌&&◌, is_none, nat_le, nat_lt}
-use Rattle.std.specs.List.{list_all, position_from}
+use Rattle.std.specs.Prelude.{slice_set, true, IsTrue, IsSome, IfSome, Some, None, ◌&&◌, is_none, nat_le, nat_lt}
+use Rattle.std.specs.List.{AllByRecursion, list_all, position_from}
 use Rattle.std.proofs.lemmas.Option.{same_Some}
 use Rattle.mdc_words.specs.ByteOrder.{Entry}
 use Rattle.mdc_ast.specs.declared.bound.Bound.TheVariants as bound
 use Rattle.mdc_ast.specs.declared.definition.ColumnDef.{ColumnDef}
 use Rattle.mdc_ast.specs.declared.definition.Roots.{Roots}
+use Rattle.mdc_ast.specs.declared.definition.IndexDef.{IndexDef}
 use Rattle.mdc_ast.specs.declared.definition.TableDef.{TableDef}
 use Rattle.mdc_ast.specs.declared.reply.Outcome.TheVariants as said
 use Rattle.mdc_ast.specs.declared.reply.Reply.TheVariants as reply
 use Rattle.mdc_ast.specs.Database.{Database, defs_of, with_place}
-use Rattle.mdc_ast.specs.ValidDatabase.{AreValidDefs, IsValidDef}
+use Rattle.mdc_ast.specs.ValidDatabase.{AreValidDefs, IsValidDef, IsValidIndex}
 use Rattle.mdc_ast.specs.Definitions.{Definitions, are_there, def_at, empty_place, is_good_type, is_short_key, place_of, with_def, without_def}
 use Rattle.statement_meaning.specs.Doing.{entered}
 use Rattle.mdc_ast.proofs.DefinitionsLemmas.{emptied_too, none_named, put_keeps_defs}
@@ -27,8 +28,9 @@ use Rattle.extent_map.specs.declared.fault.SpaceFault.{SpaceFault}
 use Rattle.extent_map.specs.declared.fault.SpaceFault.TheVariants.{Full, Store}
 use Rattle.extent_map.specs.declared.kind.Kind.{Kind}
 use Rattle.statement_meaning.specs.Built.{are_built}
-use Rattle.statement_meaning.proofs.BuiltLemmas.{built_put, index_names_differ, is_built_def}
-use Rattle.mdc_ast.specs.TableLimits.{AreTableIndexes, is_good_column, is_good_dimension, is_good_source, is_given_name}
+use Rattle.statement_meaning.proofs.BuiltLemmas.{built_put}
+use Rattle.statement_meaning.proofs.IndexNamesLemmas.{names_left}
+use Rattle.mdc_ast.specs.TableLimits.{is_good_column, is_good_dimension, is_good_source, is_given_name}
 use Rattle.table_page.proofs.LimitsLemmas.{short_columns, short_name}
 use Rattle.table_trees.proofs.ToldPagesLemmas.{told_of_map}
 use Rattle.mdc_sound.specs.RunningFull.{CreateRunsFull}
@@ -93,7 +95,8 @@ new_is_valid place def roots new = record {
   sources = all_pass (is_good_column def.columns) (λ (column : ColumnDef). is_good_source def.columns column.ty column.made)
       (λ column good. (both (is_given_name column.name && is_good_type column.ty) (is_good_source def.columns column.ty column.made) good).1)
       def.columns new.limits.columns.good;
-  indexes = subst (AreTableIndexes def.columns) (sym new.limits.no_indexes) (record { few = omega arith; good = tt; differ = tt });
+  few_indexes = omega (arith, ap (λ (indexes : List IndexDef). length indexes) new.limits.no_indexes);
+  indexes = subst (AllByRecursion (IsValidIndex def.columns)) (sym new.limits.no_indexes) tt;
   few_rows = omega arith;
 }
 
@@ -151,7 +154,7 @@ pub served_more : (before now : Definitions) (place : ℕ) (def : TableDef) (roo
 served_more before now place def roots served free new is limits = record {
   limits = limits;
   valid = subst AreValidDefs (sym is) (put_keeps_defs before place (Some put) served.valid (new_is_valid place def roots new)
-      (emptied_too def.name before place (none_named def.name before 0 free)) (index_names_differ (slice_set before place (Some put)) built));
+      (emptied_too def.name before place (none_named def.name before 0 free)) (names_left before place (Some put) (ap (map (λ (index : IndexDef). index.name)) new.limits.no_indexes) served.valid.index_names_differ));
   built = ap are_built is ∙ built;
 }
   where
@@ -159,7 +162,7 @@ served_more before now place def roots served free new is limits = record {
     put = record (rooted def roots) { number = place }
 
     built : are_built (slice_set before place (Some put)) ≡ true
-    built = built_put before place (Some put) served.built (is_built_def put new.none_made new.limits.no_indexes)
+    built = built_put before place (Some put) served.built new.none_made
 
 module _ {S : Type 0} (g : Ghosts S) (old new : S) (before now : Tables) (place : ℕ) (def : TableDef) (roots : Roots) where
   -- all that is known once a table was made
@@ -246,7 +249,7 @@ no_dropping_damage g s tables place damage served breaks ready =
 pub served_less : (before now : Definitions) (place : ℕ) → AreServed before → now ≡ without_def before place → AreWithinLimits now → AreServed now
 served_less before now place served is limits = record {
   limits = limits;
-  valid = subst AreValidDefs (sym is) (put_keeps_defs before place None served.valid tt tt (index_names_differ (slice_set before place None) built));
+  valid = subst AreValidDefs (sym is) (put_keeps_defs before place None served.valid tt tt (names_left before place None refl served.valid.index_names_differ));
   built = ap are_built is ∙ built;
 }
   where

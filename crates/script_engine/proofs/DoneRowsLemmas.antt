@@ -1,14 +1,12 @@
--- What queries, DELETEs and UPDATEs do to ready pages.
-use Rattle.std.proofs.Common.{◌≡◌, ◌∙◌, ◌++◌, ℕ, List, [], ◌∷◌, false, length, map, refl, sym, ap, subst, Option, Some, None}
-use Rattle.std.specs.Prelude.{filter, flat_map}
-use Rattle.std.specs.List.{list_all}
+-- What queries and DELETEs do to ready pages, and what any change of rows does.
+use Rattle.std.proofs.Common.{◌≡◌, ◌∙◌, ℕ, List, ◌∷◌, length, map, refl, sym, ap, subst, Option, Some, None}
+use Rattle.std.specs.Prelude.{filter, not}
 use Rattle.std.proofs.lemmas.List.{length-map}
 use Rattle.std.proofs.lemmas.Option.{same_Some}
 use Rattle.mdc_words.specs.ByteOrder.{Entry}
 use Rattle.mdc_ast.specs.declared.bound.Bound.{Bound}
 use Rattle.mdc_ast.specs.declared.bound.Bound.TheVariants as bound
 use Rattle.mdc_ast.specs.declared.bound.BoundSelect.{BoundSelect}
-use Rattle.mdc_ast.specs.declared.bound.BoundSet.{BoundSet}
 use Rattle.mdc_ast.specs.declared.definition.ColumnDef.{ColumnDef}
 use Rattle.mdc_ast.specs.declared.definition.TableDef.{TableDef}
 use Rattle.mdc_ast.specs.declared.name.Name.{Name}
@@ -19,13 +17,12 @@ use Rattle.mdc_ast.specs.declared.refusal.Refusal.{Refusal}
 use Rattle.mdc_ast.specs.declared.reply.Reply.TheVariants as reply
 use Rattle.mdc_ast.specs.declared.row.Row.{Row}
 use Rattle.statement_meaning.specs.Cause.{Cause, Overflow, refusal_of}
-use Rattle.mdc_ast.specs.Database.{Database, PlainTable, changed_at, fits_all, table_at, with_place}
+use Rattle.mdc_ast.specs.Database.{Database, PlainTable, changed_at, table_at, with_place}
 use Rattle.mdc_ast.specs.Definitions.{def_at}
-use Rattle.statement_meaning.specs.Doing.{causes_of_rows, changed_causes, changed_row, changed_table, effect, hits, left_table}
+use Rattle.statement_meaning.specs.Doing.{hits, left_table}
 use Rattle.statement_meaning.specs.Queries.{sum_causes}
 use Rattle.mdc_ast.specs.Truth.{qualifies}
-use Rattle.statement_meaning.specs.Judging.{of_some}
-use Rattle.statement_meaning.specs.Step.{Answer, Refused, Replied, step_by}
+use Rattle.statement_meaning.specs.Step.{Answer, Refused, Replied}
 use Rattle.statement_meaning.proofs.DatabaseLemmas.{changed_at-with_place}
 use Rattle.store_api.specs.Frame.{NoPage}
 use Rattle.store_api.specs.RunsOverPages.{RunsOverPages}
@@ -34,42 +31,34 @@ use Rattle.store_api.specs.declared.fault.StoreFault.{StoreFault}
 use Rattle.store_api.proofs.RunsOverPagesLemmas.{runs_as}
 use Rattle.store_api.specs.declared.pages.Pages.{Ghosts}
 use Rattle.store_api.specs.declared.shape.Shape.{Shape}
-use Rattle.extent_map.specs.Damages.{IfFull}
-use Rattle.extent_map.specs.declared.fault.SpaceFault.{SpaceFault}
-use Rattle.extent_map.specs.declared.fault.SpaceFault.TheVariants.{Full, Store}
 use Rattle.extent_map.specs.declared.kind.Kind.{Kind}
 use Rattle.extent_map.specs.declared.space_notes.SpaceNotes.{SpaceNotes}
 use Rattle.block_rows.specs.HeldRows.{placed_row}
 use Rattle.block_rows.specs.declared.hit.Hit.{Hit}
 use Rattle.table_trees.specs.SpaceChanges.{SpaceChange}
 use Rattle.mdc_sound.specs.Placing.{Spot, block_slot_count}
-use Rattle.mdc_sound.specs.RunningFull.{UpdateRunsFull}
-use Rattle.mdc_sound.specs.StandingTable.{RoomNote, StandsTable, TableForests, pages_of, spots_of}
+use Rattle.mdc_sound.specs.StandingTable.{RoomNote, StandsTable, TableForests, pages_of}
 use Rattle.mdc_sound.specs.StandsForDatabase.{PagesStandFor, rootless}
 use Rattle.mdc_sound.specs.TableRows.{PlacedRow}
-use Rattle.binder.specs.Saying.{first_of}
-use Rattle.cell_change.proofs.ChangedSpaceLemmas.{shows_spots}
 use Rattle.row_groups.specs.Shape.{shape_of}
 use Rattle.answer_text.specs.Answering.{GivesLines}
 use Rattle.row_checks.specs.Executing.{answer_of, done}
 use Rattle.row_checks.proofs.QueryLemmas.{query_refused, query_replies}
-use Rattle.statement_rows.specs.RowsAndSpace.{TakesRowsBy, TurnsRowsBy}
-use Rattle.statement_rows.specs.RowsOfStatement.{AnyPage, BreaksReady, ChangesRowsOf, HasTheseRows, IsReadyBetween, with_rows, without_rows}
-use Rattle.statement_rows.specs.Turning.{turned_row}
-use Rattle.statement_rows.specs.declared.changing.Turned.{Turned}
+use Rattle.statement_rows.specs.RowsAndSpace.{TakesRowsBy}
+use Rattle.statement_rows.specs.RowsOfStatement.{AnyPage, BreaksReady, ChangesRowsOf, HasTheseRows, IsReadyBetween, without_rows}
 use Rattle.table_query.specs.QueryAnswers.{AreQueryRows}
 use Rattle.table_scan.specs.FoundRows.{FindsRows}
-use Rattle.script_engine.specs.Doing.{DoesStatement, PlacesOnPages, PlacesRows, RunsFullAlone, StatementRunsFull, changed_place, with_changed}
+use Rattle.script_engine.specs.Doing.{DoesStatement, PlacesOnPages, PlacesRows, changed_place}
 use Rattle.script_engine.specs.NotedRooms.{KeepsOtherRooms, rooms_at}
 use Rattle.script_engine.specs.Others.{KeepsOthers}
-use Rattle.script_engine.specs.Ready.{AreServed, BreaksDatabase, IsNoStandingTable, IsReady}
+use Rattle.script_engine.specs.Ready.{AreServed, BreaksDatabase, IsReady}
 use Rattle.script_engine.specs.declared.tables.Tables.{Tables}
+use Rattle.script_engine.proofs.KeptKeysLemmas.{KeepsKeys, keeps_fewer}
 use Rattle.script_engine.proofs.OthersLemmas.{keeps_others_itself, others_changed, touched_is}
-use Rattle.script_engine.proofs.PlainChangesLemmas.{causes_of_qualifying, qualifying_changed, qualifying_taken}
+use Rattle.script_engine.proofs.PlainChangesLemmas.{qualifying_taken}
 use Rattle.script_engine.proofs.ReadyTablesLemmas.{change_ends_unwritten, page_is_written, places_shown, ready_between, served_def}
-use Rattle.script_engine.proofs.ScannedTablesLemmas.{HasHits, HasQueryRows, found_still, hits_fit, hits_of, hits_qualify, qualifying, query_rows_of, ready_still, stands_ready, these_rows}
-use Rattle.script_engine.proofs.StoredDefsLemmas.{first_decides, stored_defs, stored_table}
-use Rattle.script_engine.proofs.TurnedRowsLemmas.{each_passes, turned_changed, turned_hit, turned_news, turned_places}
+use Rattle.script_engine.proofs.ScannedTablesLemmas.{HasHits, HasQueryRows, found_still, hits_of, qualifying, query_rows_of, ready_still, stands_ready, these_rows}
+use Rattle.script_engine.proofs.StoredDefsLemmas.{stored_defs, stored_table}
 
 -- ---- a query
 
@@ -157,7 +146,7 @@ module _ {S : Type 0} (g : Ghosts S) (old mid new : S) (before now : Tables) (pl
   module _ (ready : IsReady g old before) (owners : List Kind) (forests : TableForests) (mid_ready : IsReadyBetween g before.shape before.notes room mid def owners forests)
       (statement : Bound) (change : PlainTable → PlainTable) {room_now : Entry → RoomNote} (left : rooms_at now.rooms place ≡ room_now)
       (changed : ChangesRowsOf g before.shape before.notes now.notes room_now mid new def def owners forests (λ was space is. PlacesRows def (block_slot_count before.shape def) was space is statement) change)
-      (catalog : now.catalog ≡ before.catalog) (shape : now.shape ≡ before.shape) (rooms : KeepsOtherRooms before.rooms now.rooms place) where
+      (catalog : now.catalog ≡ before.catalog) (shape : now.shape ≡ before.shape) (rooms : KeepsOtherRooms before.rooms now.rooms place) (keys : KeepsKeys before.shape (pages_of g mid) place change) where
     pub rows_done : (outcome : Outcome) → changed_place statement ≡ Some place
         → ((db : Database) → PagesStandFor before.shape (pages_of g mid) db → (changed_at db place change ≡ (done db statement).0) × ((done db statement).1 ≡ answer_of outcome))
         → DoesStatement g old new before now statement outcome
@@ -165,7 +154,7 @@ module _ {S : Type 0} (g : Ghosts S) (old mid new : S) (before now : Tables) (pl
         let Places : List Spot → List SpaceChange → List Spot → Type 0 = λ was space is. PlacesRows def (block_slot_count before.shape def) was space is statement in
         let still = ready_still g old mid told same before ready in
         let ends = change_ends_unwritten g mid new before now place def owners forests Places change served shape still at
-        (subst (λ (r : Entry → RoomNote). ChangesRowsOf g before.shape before.notes now.notes r mid new def def owners forests Places change) (sym left) changed) catalog rooms in
+        (subst (λ (r : Entry → RoomNote). ChangesRowsOf g before.shape before.notes now.notes r mid new def def owners forests Places change) (sym left) changed) catalog rooms keys in
         let at_now : def_at now.catalog place ≡ Some def = ap (λ defs. def_at defs place) catalog ∙ at in
         let served_now : AreServed now.catalog = subst AreServed (sym catalog) served in
         let written = sym (page_is_written g new now place def served_now ends.ready at_now) in
@@ -189,7 +178,7 @@ module _ {S : Type 0} (g : Ghosts S) (old mid new : S) (before now : Tables) (pl
         }
 
 -- one change of the table in a place, and another that makes the same of it
-changed_alike : (db : Database) (place : ℕ) (table : PlainTable) (change other : PlainTable → PlainTable) → table_at db place ≡ Some table → change table ≡ other table
+pub changed_alike : (db : Database) (place : ℕ) (table : PlainTable) (change other : PlainTable → PlainTable) → table_at db place ≡ Some table → change table ≡ other table
     → changed_at db place change ≡ changed_at db place other
 changed_alike db place table change other at same =
     changed_at-with_place db place table change at ∙ ap (λ t. with_place db place (Some t)) same ∙ sym (changed_at-with_place db place table other at)
@@ -197,8 +186,15 @@ changed_alike db place table change other at same =
 -- ---- a DELETE
 
 -- its answer is how many hits there are
-count_is : (found : Option PlainTable) (table : PlainTable) (pred : Option Pred) (rows : List Hit) → found ≡ Some table → map (λ hit. hit.row) rows ≡ hits pred (Some table) → length (hits pred found) ≡ length rows
+pub count_is : (found : Option PlainTable) (table : PlainTable) (pred : Option Pred) (rows : List Hit) → found ≡ Some table → map (λ hit. hit.row) rows ≡ hits pred (Some table) → length (hits pred found) ≡ length rows
 count_is found table pred rows at are = ap (λ t. length (hits pred t)) at ∙ ap length (sym are) ∙ length-map rows (λ (hit : Hit). hit.row)
+
+-- and without its hits the table is as it leaves it
+hits_taken : (db : Database) (place : ℕ) (def : TableDef) (pred : Option Pred) (found : List Hit) → HasHits db place def pred found → (table : PlainTable) → table_at db place ≡ Some table
+    → without_rows (map (λ hit. hit.row) found) table ≡ left_table pred table
+hits_taken db place def pred found has table is =
+    let same : has.table ≡ table = same_Some has.table table (sym has.at ∙ is) in
+    subst (λ (t : PlainTable). without_rows (map (λ (hit : Hit). hit.row) found) t ≡ left_table pred t) same (ap (λ rows. without_rows rows has.table) has.are ∙ qualifying_taken pred has.table has.rising)
 
 pub delete_does : {S : Type 0} {room room_now : Entry → RoomNote} (g : Ghosts S) (old mid new : S) (before now : Tables) (place : ℕ) (def : TableDef) (pred : Option Pred) (found items : List Hit) (count : ℕ) → AreServed before.catalog
     → def_at before.catalog place ≡ Some def → rooms_at before.rooms place ≡ room → rooms_at now.rooms place ≡ room_now
@@ -217,6 +213,11 @@ delete_does {room_now = room_now} g old mid new before now place def pred found 
     let changed : ChangesRowsOf g before.shape before.notes now.notes room_now mid new def def owners forests (λ was space is. TakesRowsBy def was (map placed_row found) space is) (without_rows (map (λ (hit : Hit). hit.row) found)) =
     subst (λ (l : List Hit). ChangesRowsOf g before.shape before.notes now.notes room_now mid new def def owners forests (λ was space is. TakesRowsBy def was (map placed_row l) space is) (without_rows (map (λ (hit : Hit). hit.row) l))) are
     (deletes owners forests mid_ready.between (subst (λ (l : List Hit). HasTheseRows g before.shape mid def (map placed_row l) owners forests) (sym are) lie)) in
+    let still = ready_still g old mid told same before ready in
+    let has : (db : Database) → PagesStandFor before.shape (pages_of g mid) db → HasHits db place def pred found =
+    (λ db stands.
+    let here = stored_table db before.catalog place def (stored_defs before.shape (pages_of g mid) before.catalog db still.stored stands) at in
+    hits_of g before.shape mid def owners forests st pred found hits_here mid_ready.between.sound before.catalog place db here.0 still.stored at stands here.1) in
     rows_done g old mid new before now place def served at lent told same ready owners forests mid_ready.between (bound.Delete place pred) (without_rows (map (λ (hit : Hit). hit.row) found)) left
     (record {
       owners_now = changed.owners_now;
@@ -229,147 +230,11 @@ delete_does {room_now = room_now} g old mid new before now place def pred found 
       stands_for = changed.stands_for;
       table_pages = changed.table_pages;
       others = changed.others;
-    }) catalog shape rooms (said.Done (reply.Deleted count)) refl
+    }) catalog shape rooms
+    (keeps_fewer before.shape (pages_of g mid) still.view place (without_rows (map (λ (hit : Hit). hit.row) found)) (λ row. not (qualifies pred row.values)) still.sound
+    (λ db stands table is. hits_taken db place def pred found (has db stands) table is)) (said.Done (reply.Deleted count)) refl
     (λ db stands.
-    let here = stored_table db before.catalog place def (stored_defs before.shape (pages_of g mid) before.catalog db (ready_still g old mid told same before ready).stored stands) at in
-    let has : HasHits db place def pred found =
-    hits_of g before.shape mid def owners forests st pred found hits_here mid_ready.between.sound before.catalog place db here.0 (ready_still g old mid told same before ready).stored at stands here.1 in (
-      changed_alike db place has.table (without_rows (map (λ (hit : Hit). hit.row) found)) (left_table pred) has.at
-          (ap (λ rows. without_rows rows has.table) has.are ∙ qualifying_taken pred has.table has.rising),
-      ap (λ n. Replied (reply.Deleted n)) (count_is _ has.table pred found has.at has.are ∙ sym counts),
+    let here = has db stands in (
+      changed_alike db place here.table (without_rows (map (λ (hit : Hit). hit.row) found)) (left_table pred) here.at (hits_taken db place def pred found here here.table here.at),
+      ap (λ n. Replied (reply.Deleted n)) (count_is _ here.table pred found here.at here.are ∙ sym counts),
     ))
-
--- ---- an UPDATE
-
--- what is said against it: of the hits alone
-causes_are : (db : Database) (place : ℕ) (sets : List BoundSet) (pred : Option Pred) (columns : List ColumnDef) (table : PlainTable) (found : List Hit) → table_at db place ≡ Some table → table.def.columns ≡ columns
-    → map (λ hit. hit.row) found ≡ filter (λ row. qualifies pred row.values) table.rows
-    → causes_of_rows db (bound.Update place sets pred) ≡ flat_map (λ hit. changed_causes columns sets None hit.row) found ++ []
-causes_are db place sets pred columns table found at same are =
-    ap (λ t. of_some t (λ (x : PlainTable). flat_map (changed_causes x.def.columns sets pred) x.rows) ++ []) at
-    ∙ ap (λ l. l ++ []) (ap (λ k. flat_map (changed_causes k sets pred) table.rows) same ∙ causes_of_qualifying columns sets pred table.rows
-    ∙ ap (flat_map (changed_causes columns sets None)) (sym are) ∙ over found)
-  where
-    over : (l : List Hit) → flat_map (changed_causes columns sets None) (map (λ (hit : Hit). hit.row) l) ≡ flat_map (λ (hit : Hit). changed_causes columns sets None hit.row) l
-    over [] = refl
-    over (hit ∷ l) = ap (λ rest. changed_causes columns sets None hit.row ++ rest) (over l)
-
-pub refused_does : {S : Type 0} (g : Ghosts S) (old mid : S) (before : Tables) (place : ℕ) (def : TableDef) (sets : List BoundSet) (pred : Option Pred) (found : List Hit) (cause : Cause) (outcome : Outcome) → AreServed before.catalog
-    → def_at before.catalog place ≡ Some def → (g.state mid).is_told ≡ (g.state old).is_told → (g.state mid).work ≡ (g.state old).work
-    → ((owners : List Kind) (forests : TableForests) → StandsTable g before.shape old def owners forests → FindsRows g before.shape old def pred found forests)
-    → first_of (flat_map (λ hit. changed_causes def.columns sets None hit.row) found) ≡ Some cause → outcome ≡ said.Refused (refusal_of cause) → IsReady g old before
-    → DoesStatement g old mid before before (bound.Update place sets pred) outcome
-refused_does g old mid before place def sets pred found cause outcome served at told same finds first is ready =
-    let st = stands_ready g old before place def served ready at in record {
-      ready = ready_still g old mid told same before ready;
-      stands = λ db stands.
-          let here = stored_table db before.catalog place def (stored_defs before.shape (pages_of g old) before.catalog db ready.stored stands) at in
-          let has : HasHits db place def pred found =
-          hits_of g before.shape old def st.owners st.forests st.stands pred found (finds st.owners st.forests st.stands) st.between before.catalog place db here.0 ready.stored at stands here.1 in
-          let ends : done db (bound.Update place sets pred) ≡ (db, Refused (refusal_of cause)) =
-          ap (λ causes. step_by db causes (effect db (bound.Update place sets pred)))
-          (causes_are db place sets pred def.columns has.table found has.at (ap (λ (d : TableDef). d.columns) has.def_is) has.are)
-          ∙ first_decides db (flat_map (λ (hit : Hit). changed_causes def.columns sets None hit.row) found) [] _ cause first in record {
-            pages_are = subst (PagesStandFor before.shape (pages_of g mid)) (sym (ap (λ e. e.0) ends)) (subst (λ pages. PagesStandFor before.shape pages db) (sym same) stands);
-            answers = ap (λ e. e.1) ends ∙ sym (ap answer_of is);
-          };
-      places = λ said is_said t other of there. absurd (cc (is, is_said));
-      others = keeps_others_itself before.shape (pages_of g old) (pages_of g mid) before.catalog before.catalog (Some place) same refl;
-    }
-
-module _ {S : Type 0} (g : Ghosts S) (old mid new : S) (before now : Tables) (place : ℕ) (def : TableDef) (sets : List BoundSet) (pred : Option Pred) (found : List Hit) (items : List Turned) (served : AreServed before.catalog)
-    (at : def_at before.catalog place ≡ Some def) {room : Entry → RoomNote} (lent : rooms_at before.rooms place ≡ room) (told : (g.state mid).is_told ≡ (g.state old).is_told) (same : (g.state mid).work ≡ (g.state old).work)
-    (finds : (owners : List Kind) (forests : TableForests) → StandsTable g before.shape old def owners forests → FindsRows g before.shape old def pred found forests)
-    (made : map turned_row items ≡ map (turned_hit sets) found) where
-  pub update_does : {room_now : Entry → RoomNote} (count : ℕ) → rooms_at now.rooms place ≡ room_now → flat_map (λ hit. changed_causes def.columns sets None hit.row) found ≡ [] → count ≡ length items
-      → ((owners : List Kind) (forests : TableForests) → IsReadyBetween g before.shape before.notes room mid def owners forests
-      → HasTheseRows g before.shape mid def (map (λ t. (turned_row t).0) items) owners forests
-      → ChangesRowsOf g before.shape before.notes now.notes room_now mid new def def owners forests
-      (λ was space is. TurnsRowsBy def (block_slot_count before.shape def) was (map turned_row items) space is) (with_rows (map (λ t. t.row) items)))
-      → now.catalog ≡ before.catalog → now.shape ≡ before.shape → KeepsOtherRooms before.rooms now.rooms place → IsReady g old before → DoesStatement g old new before now (bound.Update place sets pred) (said.Done (reply.Updated count))
-  update_does count left nothing counts changes catalog shape rooms ready =
-      let mid_ready = ready_mid g old mid new before now place def served at lent told same ready in
-      let forests = mid_ready.forests in
-      let owners = mid_ready.owners in
-      let st = mid_ready.between.ready.stands in
-      let hits_here = found_still g old mid told same before.shape def pred found owners forests finds st in
-      let lie = these_rows g before.shape mid def owners forests st pred found hits_here mid_ready.between.sound in
-      let q = hits_qualify g before.shape mid def owners forests st pred found hits_here in
-      let rows = with_changed sets pred (map placed_row found) in
-      let changed = changes owners forests mid_ready.between (subst (λ r. HasTheseRows g before.shape mid def r owners forests) (sym (turned_places sets items found made)) lie) in
-      let placed : TurnsRowsBy def (block_slot_count before.shape def) (spots_of g before.shape mid def owners forests) rows changed.space (spots_of g before.shape new def changed.owners_now changed.forests_now) =
-      subst (λ r. TurnsRowsBy def (block_slot_count before.shape def) (spots_of g before.shape mid def owners forests) r changed.space (spots_of g before.shape new def changed.owners_now changed.forests_now))
-      (turned_changed sets pred items found made q) changed.places in
-      rows_done g old mid new before now place def served at lent told same ready owners forests mid_ready.between (bound.Update place sets pred) (with_rows (map (λ (t : Turned). t.row) items)) left
-      (record {
-        owners_now = changed.owners_now;
-        forests_now = changed.forests_now;
-        changes = changed.changes;
-        now = changed.now;
-        space = changed.space;
-        makes = changed.makes;
-        places = PlacesRows.update (map placed_row found) (qualifying g before.shape mid def owners forests st pred found hits_here mid_ready.between.sound) placed;
-        stands_for = changed.stands_for;
-        table_pages = changed.table_pages;
-        others = changed.others;
-      }) catalog shape rooms (said.Done (reply.Updated count)) refl
-      (λ db stands.
-      let stored = (ready_still g old mid told same before ready).stored in
-      let here = stored_table db before.catalog place def (stored_defs before.shape (pages_of g mid) before.catalog db stored stands) at in
-      let has : HasHits db place def pred found = hits_of g before.shape mid def owners forests st pred found hits_here mid_ready.between.sound before.catalog place db here.0 stored at stands here.1 in
-      let ends : done db (bound.Update place sets pred) ≡ (changed_at db place (changed_table sets pred), Replied (reply.Updated (length (hits pred (table_at db place))))) =
-      ap (λ causes. step_by db causes (effect db (bound.Update place sets pred)))
-      (causes_are db place sets pred def.columns has.table found has.at (ap (λ (d : TableDef). d.columns) has.def_is) has.are ∙ ap (λ l. l ++ []) nothing) in
-      let news : map (λ (t : Turned). t.row) items ≡ map (changed_row sets pred) (filter (λ (row : Row). qualifies pred row.values) has.table.rows) =
-      turned_news sets pred items found made q ∙ ap (map (changed_row sets pred)) has.are in
-      let many : length items ≡ length found = sym (length-map items turned_row) ∙ ap length made ∙ length-map found (turned_hit sets) in (
-        changed_alike db place has.table (with_rows (map (λ (t : Turned). t.row) items)) (changed_table sets pred) has.at
-            (ap (λ r. with_rows r has.table) news ∙ qualifying_changed sets pred has.table has.rising) ∙ sym (ap (λ e. e.0) ends),
-        ap (λ e. e.1) ends ∙ ap (λ n. Replied (reply.Updated n)) (count_is _ has.table pred found has.at has.are ∙ sym (counts ∙ many)),
-      ))
-
-  -- nothing is said against it by the rows that there were
-  unsaid : flat_map (λ hit. changed_causes def.columns sets None hit.row) found ≡ [] → IsReady g old before → (db : Database) → PagesStandFor before.shape (pages_of g old) db
-      → causes_of_rows db (bound.Update place sets pred) ≡ []
-  unsaid nothing ready db stands =
-      let st = stands_ready g old before place def served ready at in
-      let here = stored_table db before.catalog place def (stored_defs before.shape (pages_of g old) before.catalog db ready.stored stands) at in
-      let has : HasHits db place def pred found =
-      hits_of g before.shape old def st.owners st.forests st.stands pred found (finds st.owners st.forests st.stands) st.between before.catalog place db here.0 ready.stored at stands here.1 in
-      causes_are db place sets pred def.columns has.table found has.at (ap (λ (d : TableDef). d.columns) has.def_is) has.are ∙ ap (λ l. l ++ []) nothing
-
-  -- it runs full on the pages that there were
-  update_full : IsReady g old before
-      → ((owners : List Kind) (forests : TableForests) → IsReadyBetween g before.shape before.notes room mid def owners forests
-      → HasTheseRows g before.shape mid def (map (λ t. (turned_row t).0) items) owners forests → UpdateRunsFull before.shape (pages_of g mid) def (map turned_row items))
-      → StatementRunsFull before.shape (pages_of g old) before.catalog (bound.Update place sets pred)
-  update_full ready full =
-      let mid_ready = ready_mid g old mid new before now place def served at lent told same ready in
-      let forests = mid_ready.forests in
-      let owners = mid_ready.owners in
-      let st = mid_ready.between.ready.stands in
-      let hits_here = found_still g old mid told same before.shape def pred found owners forests finds st in
-      let lie = these_rows g before.shape mid def owners forests st pred found hits_here mid_ready.between.sound in
-      let q = hits_qualify g before.shape mid def owners forests st pred found hits_here in
-      let runs = full owners forests mid_ready.between (subst (λ r. HasTheseRows g before.shape mid def r owners forests) (sym (turned_places sets items found made)) lie) in
-      subst (λ pages. StatementRunsFull before.shape pages before.catalog (bound.Update place sets pred)) same
-      (StatementRunsFull.update def (spots_of g before.shape mid def owners forests) (map placed_row found) at (shows_spots g before.shape mid def owners forests st)
-      (qualifying g before.shape mid def owners forests st pred found hits_here mid_ready.between.sound)
-      (subst (UpdateRunsFull before.shape (pages_of g mid) def) (turned_changed sets pred items found made q) runs))
-
-  -- and the number that Full states is that of the extents
-  pub update_stops : (fault : SpaceFault) → flat_map (λ hit. changed_causes def.columns sets None hit.row) found ≡ []
-      → IfFull fault (λ cap. (cap ≡ before.shape.extents)
-      × ((owners : List Kind) (forests : TableForests) → IsReadyBetween g before.shape before.notes room mid def owners forests
-      → HasTheseRows g before.shape mid def (map (λ t. (turned_row t).0) items) owners forests → UpdateRunsFull before.shape (pages_of g mid) def (map turned_row items)))
-      → IfFull fault (λ cap. (cap ≡ before.shape.extents) × (IsReady g old before → RunsFullAlone before.shape (pages_of g old) before.catalog (bound.Update place sets pred)))
-  update_stops (Full cap) nothing full = (full.0, λ ready. record { full = update_full ready full.1; faultless = unsaid nothing ready })
-  update_stops (Store fault) nothing full = tt
-
--- a hit that doesn't fit shows that the table doesn't stand
-pub unfit_breaks : {S : Type 0} (g : Ghosts S) (shape : Shape) (s : S) (def : TableDef) (pred : Option Pred) (found : List Hit) (damage : Damage)
-    → ((owners : List Kind) (forests : TableForests) → StandsTable g shape s def owners forests → FindsRows g shape s def pred found forests)
-    → list_all (λ hit. fits_all def.columns hit.row.values) found ≡ false → IsNoStandingTable g shape s def damage
-unfit_breaks g shape s def pred found damage finds unfit owners forests st =
-    let fit = each_passes (λ (hit : Hit). fits_all def.columns hit.row.values) found (hits_fit g shape s def owners forests st pred found (finds owners forests st)) in
-    absurd (cc (fit, unfit))

@@ -1,18 +1,17 @@
 -- An INSERT on ready pages, whose rows were put and whose table page was written.
-use Rattle.std.proofs.Common.{◌≡◌, ◌≤◌, ◌<◌, ◌+◌, ◌-◌, ℕ, List, [], ◌∙◌, refl, sym, ap, subst, length, arith}
-use Rattle.std.specs.Prelude.{IsTrue, Some, slice_set}
+use Rattle.std.proofs.Common.{◌≡◌, ◌≤◌, ◌<◌, ◌+◌, ◌-◌, ℕ, List, [], ◌∙◌, refl, sym, ap, subst, length, arith, Some}
+use Rattle.std.specs.Prelude.{IsTrue, slice_set}
 use Rattle.std.proofs.lemmas.List.{set-set}
 use Rattle.std.proofs.lemmas.Option.{same_Some}
 use Rattle.mdc_values.specs.declared.value.Value.{Value}
 use Rattle.mdc_ast.specs.declared.bound.Bound.TheVariants as bound
 use Rattle.mdc_ast.specs.declared.definition.TableDef.{TableDef}
-use Rattle.mdc_ast.specs.declared.refusal.Refusal.{Refusal}
 use Rattle.mdc_ast.specs.declared.reply.Outcome.TheVariants as said
 use Rattle.mdc_ast.specs.declared.reply.Reply.TheVariants as reply
 use Rattle.mdc_ast.specs.Database.{Database, changed_at, appended, numbered}
 use Rattle.mdc_ast.specs.Definitions.{Definitions, def_at, with_def}
 use Rattle.statement_meaning.specs.Doing.{effect}
-use Rattle.statement_meaning.specs.Step.{Answer, Refused, Replied, step_by}
+use Rattle.statement_meaning.specs.Step.{Answer, Replied, step_by}
 use Rattle.store_api.specs.declared.fault.Damage.{Damage}
 use Rattle.store_api.specs.declared.pages.Pages.{Ghosts}
 use Rattle.extent_map.specs.Damages.{IfFull}
@@ -35,15 +34,16 @@ use Rattle.stored_catalog.proofs.LeftDefinitionsLemmas.{stored_at}
 use Rattle.statement_rows.specs.RowsAndSpace.{PutsRowsBy}
 use Rattle.statement_rows.specs.RowsOfStatement.{ChangesRowsOf, IsReadyBetween}
 use Rattle.script_engine.specs.Doing.{DoesStatement, PlacesOnPages, PlacesRows, RunsFullAlone, StatementRunsFull}
-use Rattle.script_engine.specs.Inserting.{first_refusal, numbered_on, tuple_causes}
+use Rattle.script_engine.specs.Inserting.{SaysNothing, numbered_on, tuple_causes}
 use Rattle.script_engine.specs.NotedRooms.{KeepsOtherRooms, rooms_at}
 use Rattle.script_engine.specs.Ready.{AreServed, IsReady}
 use Rattle.script_engine.specs.declared.tables.Tables.{Tables}
-use Rattle.script_engine.proofs.OthersLemmas.{keeps_others_itself, others_written}
-use Rattle.script_engine.proofs.PuttingTuplesLemmas.{numbers_left, own_number, put_where_it_stands, refused_for_first, said_by_rows}
+use Rattle.script_engine.proofs.KeptKeysLemmas.{KeepsKeys, keeps_by_causes}
+use Rattle.script_engine.proofs.OthersLemmas.{others_written}
+use Rattle.script_engine.proofs.PuttingTuplesLemmas.{numbers_left, own_number, put_where_it_stands}
+use Rattle.script_engine.proofs.ReadyKeysLemmas.{nothing_of_keys}
 use Rattle.script_engine.proofs.ReadyTablesLemmas.{EndsChange, change_ends, places_shown, ready_between, served_def}
 use Rattle.script_engine.proofs.ServedDefsLemmas.{def_at_set, served_below}
-use Rattle.script_engine.proofs.StoredDefsLemmas.{stored_defs, stored_table}
 
 -- its page was there before the rows were put, so it is there now
 pub lacks_never : {S : Type 0} (g : Ghosts S) (old mid : S) (before : Tables) (def : TableDef) (place : ℕ) (damage : Damage) → def_at before.catalog place ≡ Some def
@@ -51,23 +51,19 @@ pub lacks_never : {S : Type 0} (g : Ghosts S) (old mid : S) (before : Tables) (d
 lacks_never g old mid before def place damage at longer lacks ready =
     absurd (omega (arith, lacks.short, longer, defined_within (pages_of g old) place def (stored_at (pages_of g old) before.catalog place def ready.stored at)))
 
--- an INSERT that says it is full runs full on ready pages, and nothing is said against its rows
-pub full_insert : {S : Type 0} (g : Ghosts S) (s : S) (before : Tables) (place : ℕ) (def : TableDef) (tuples : List (List Value)) (fault : SpaceFault) → AreServed before.catalog → def_at before.catalog place ≡ Some def → tuple_causes def tuples ≡ []
+-- an INSERT that says it is full runs full on ready pages, and the rows say nothing against it
+pub full_insert : {S : Type 0} (g : Ghosts S) (s : S) (before : Tables) (place : ℕ) (def : TableDef) (tuples : List (List Value)) (fault : SpaceFault) → AreServed before.catalog → def_at before.catalog place ≡ Some def
+    → SaysNothing g s before (bound.Insert place tuples)
     → IfFull fault (λ cap. (cap ≡ before.shape.extents) × ((owners : List Kind) (forests : TableForests) → IsReadyBetween g before.shape before.notes (rooms_at before.rooms place) s def owners forests
     → InsertRunsFull before.shape (pages_of g s) def (numbered def.next tuples)))
     → IfFull fault (λ cap. (cap ≡ before.shape.extents) × (IsReady g s before → RunsFullAlone before.shape (pages_of g s) before.catalog (bound.Insert place tuples)))
-full_insert g s before place def tuples (Full cap) served at unsaid full = (
+full_insert g s before place def tuples (Full cap) served at silent full = (
   full.0,
   λ ready.
       let between = ready_between g s before place def served ready at in
-      record {
-        full = StatementRunsFull.insert def at (full.1 ready.view.owners between.0 between.1);
-        faultless = λ db stands.
-            let table = stored_table db before.catalog place def (stored_defs before.shape (pages_of g s) before.catalog db ready.stored stands) at in
-            said_by_rows db place table.0 def tuples table.1 table.2.def_is ∙ unsaid;
-      },
+      record { full = StatementRunsFull.insert def at (full.1 ready.view.owners between.0 between.1); faultless = silent ready },
 )
-full_insert g s before place def tuples (Store fault) served at unsaid full = tt
+full_insert g s before place def tuples (Store fault) served at silent full = tt
 
 -- ---- the definitions meanwhile
 
@@ -101,6 +97,7 @@ module _ {S : Type 0} (g : Ghosts S) (old mid new : S) (before now : Tables) (pl
     pub served : AreServed before.catalog
     pub at : def_at before.catalog place ≡ Some def
     pub unsaid : tuple_causes def tuples ≡ []
+    pub silent : SaysNothing g old before (bound.Insert place tuples)
     pub inserts : (owners : List Kind) (forests : TableForests) → IsReadyBetween g before.shape before.notes (rooms_at before.rooms place) old def owners forests
         → ChangesRowsOf g before.shape before.notes now.notes (rooms_at now.rooms place) old mid def (numbered_on def (length tuples)) owners forests Puts (appended tuples)
     pub catalog : now.catalog ≡ with_def before.catalog place (numbered_on def (length tuples))
@@ -139,17 +136,20 @@ module _ {S : Type 0} (g : Ghosts S) (old mid new : S) (before now : Tables) (pl
         is.saves mid_tells def_now (stands_on before.catalog now.catalog place def (length tuples) is.served is.at is.catalog) def.next defines_mid
         ∙ ap (λ t. slice_set (pages_of g mid) (1 + t) (table_page def_now)) (sym number)
 
+    -- nothing is said of keys
+    keys : KeepsKeys before.shape (pages_of g old) place (appended tuples)
+    keys =
+        keeps_by_causes before.shape (pages_of g old) place (appended tuples) (bound.Insert place tuples) refl (λ db stands. refl)
+        (λ db stands. nothing_of_keys db (bound.Insert place tuples) (is.silent ready db stands))
+
     ends : EndsChange g old new before now place (appended tuples)
     ends =
         change_ends g old mid new before now place def def_now ready.view.owners between.0 Puts (appended tuples) is.served is.shape ready is.at refl (numbers_left def tuples is.unsaid)
-        changed (subst IsTrue (sym is.told_new) mid_tells) written is.catalog is.rooms
+        changed (subst IsTrue (sym is.told_new) mid_tells) written is.catalog is.rooms keys
 
     done_is : (db : Database) → PagesStandFor before.shape (pages_of g old) db
         → done db (bound.Insert place tuples) ≡ (changed_at db place (appended tuples), Replied (reply.Inserted (length tuples)))
-    done_is db stands =
-        let table = stored_table db before.catalog place def (stored_defs before.shape (pages_of g old) before.catalog db ready.stored stands) is.at in
-        ap (λ causes. step_by db causes (effect db (bound.Insert place tuples)))
-        (said_by_rows db place table.0 def tuples table.1 table.2.def_is ∙ is.unsaid)
+    done_is db stands = ap (λ causes. step_by db causes (effect db (bound.Insert place tuples))) (is.silent ready db stands)
 
     here : PlacesOnPages before.shape (pages_of g old) (pages_of g new) def (bound.Insert place tuples)
     here =
@@ -168,25 +168,5 @@ module _ {S : Type 0} (g : Ghosts S) (old mid new : S) (before now : Tables) (pl
           let same_place : place ≡ t = same_Some place t changes in
           let same_def : def ≡ other = same_Some def other (sym is.at ∙ (ap (def_at before.catalog) same_place ∙ at)) in
           subst (λ d. PlacesOnPages before.shape (pages_of g old) (pages_of g new) d (bound.Insert place tuples)) same_def here;
-      others = others_written g old mid before now place def.number number is.served ready changed.others new def_now number is.shape ends.ready written def is.at is.catalog;
+      others = others_written g old mid before now place def.number number is.served ready changed.others new def_now number is.shape ends.ready written def is.at is.catalog refl;
     }
-
--- ---- refused
-
--- where something is said against the tuples, pages stay ready and the answer is what is said first
-pub refused_insert : {S : Type 0} (g : Ghosts S) (s : S) (before now : Tables) (table : ℕ) (def : TableDef) (tuples : List (List Value)) (refusal : Refusal) → now.shape ≡ before.shape → now.catalog ≡ before.catalog
-    → def_at before.catalog table ≡ Some def → first_refusal (tuple_causes def tuples) ≡ Some refusal → IsReady g s before → IsReady g s now
-    → DoesStatement g s s before now (bound.Insert table tuples) (said.Refused refusal)
-refused_insert g s before now table def tuples refusal same catalog at first ready now_ready = record {
-  ready = now_ready;
-  stands = λ db stands.
-      let found = stored_table db before.catalog table def (stored_defs before.shape (pages_of g s) before.catalog db ready.stored stands) at in
-      let is : done db (bound.Insert table tuples) ≡ (db, Refused refusal) =
-      refused_for_first db _ (effect db (bound.Insert table tuples)) refusal (ap first_refusal (said_by_rows db table found.0 def tuples found.1 found.2.def_is) ∙ first) in
-      record {
-        pages_are = subst (λ (e : Database × Answer). PagesStandFor now.shape (pages_of g s) e.0) (sym is) (subst (λ shape. PagesStandFor shape (pages_of g s) db) (sym same) stands);
-        answers = ap (λ (e : Database × Answer). e.1) is;
-      };
-  places = λ reply done place other changes at. absurd cc;
-  others = keeps_others_itself before.shape (pages_of g s) (pages_of g s) before.catalog now.catalog (Some table) refl catalog;
-}

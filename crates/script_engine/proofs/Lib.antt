@@ -1,4 +1,5 @@
 pub mod AnsweringAnewLemmas
+pub mod BehindLooksLemmas
 pub mod BetweenChangesLemmas
 pub mod BreakingLemmas
 pub mod CatalogLemmas
@@ -9,7 +10,14 @@ pub mod DoneRowsLemmas
 pub mod ExecutingLemmas
 pub mod FetchesForListingLemmas
 pub mod FetchesForQueryLemmas
+pub mod GivenBackLemmas
+pub mod IndexedDefsLemmas
+pub mod IndexedRowsLemmas
+pub mod IndexedTablesLemmas
 pub mod InsertedLemmas
+pub mod JudgedKeysLemmas
+pub mod JudgedTuplesLemmas
+pub mod KeptKeysLemmas
 pub mod KeptWordsLemmas
 pub mod LeavingLemmas
 pub mod LeavingOthersLemmas
@@ -22,11 +30,13 @@ pub mod OthersLemmas
 pub mod PlainChangesLemmas
 pub mod PuttingTuplesLemmas
 pub mod ReadRowsLemmas
+pub mod ReadyKeysLemmas
 pub mod ReadyTablesLemmas
 pub mod ReloadingLemmas
 pub mod RestingLemmas
 pub mod RetryingLemmas
 pub mod RootLemmas
+pub mod RootlessIndexesLemmas
 pub mod SameWorkLemmas
 pub mod ScannedTablesLemmas
 pub mod ServedDefsLemmas
@@ -35,6 +45,10 @@ pub mod SpelledTablesLemmas
 pub mod StoredDefsLemmas
 pub mod TablePageSpotsLemmas
 pub mod TryingLemmas
+pub mod TurnedKeysLemmas
 pub mod TurnedRowsLemmas
 pub mod TurnsLemmas
+pub mod UnsetKeysLemmas
+pub mod UpdatedRowsLemmas
+pub mod WrittenIndexesLemmas
 pub mod WrittenTablesLemmas

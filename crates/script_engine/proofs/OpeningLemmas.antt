@@ -2,7 +2,6 @@
 use Rattle.std.proofs.Common.{◌≡◌, true, false, List, Some, None, Result, Err, sym, ap, subst, ◌∙◌}
 use Rattle.std.specs.Prelude.{IsTrue}
 use Rattle.mdc_words.specs.Time.{ReachesBack}
-use Rattle.mdc_ast.specs.ValidDatabase.{AllDefsDiffer}
 use Rattle.mdc_ast.specs.Definitions.{Definitions}
 use Rattle.store_api.specs.Frame.{NoPage}
 use Rattle.store_api.specs.RunsOverPages.{RunsOverPages}
@@ -26,6 +25,7 @@ use Rattle.statement_meaning.specs.Session.{first_settings}
 use Rattle.statement_meaning.specs.declared.pass.Pass.TheVariants.{Idle}
 use Rattle.script_engine.specs.Serving.{IsReadyEngine, MayCall}
 use Rattle.script_engine.specs.Stops.{stop_of}
+use Rattle.script_engine.specs.Ready.{DoNamesDiffer}
 use Rattle.script_engine.specs.declared.engine.Engine.{Engine}
 use Rattle.script_engine.specs.declared.stop.EngineStop.{EngineStop}
 use Rattle.script_engine.specs.declared.stop.EngineStop.TheVariants.{Damaged}
@@ -55,7 +55,7 @@ module _ {S : Type 0} (g : Ghosts S) where
 
   -- the catalog was read into an engine
   module _ (shape : Shape) (old read : S) (engine : Engine S) (catalog : Definitions) (reads : OnlyReads g old read)
-      (is : engine ≡ record { store = read; tables = engine.tables; served = are_built catalog; is_open = false; settings = first_settings; pass = Idle }) (has : engine.tables.catalog ≡ catalog) (limits : AreWithinLimits catalog) (differ : AllDefsDiffer catalog) where
+      (is : engine ≡ record { store = read; tables = engine.tables; served = are_built catalog; is_open = false; settings = first_settings; pass = Idle }) (has : engine.tables.catalog ≡ catalog) (limits : AreWithinLimits catalog) (differ : DoNamesDiffer catalog) where
     store_is : engine.store ≡ read
     store_is = ap (λ (e : Engine S). e.store) is
 
@@ -70,7 +70,7 @@ module _ {S : Type 0} (g : Ghosts S) where
       going = ap (λ (s : S). (g.state s).ended) store_is ∙ (reads.steady.ended ∙ going);
       unmarked = ap (λ (s : S). (g.state s).marked) store_is ∙ (reads.marked ∙ unmarked);
       served = λ served.
-          served_of engine.tables.catalog (subst AreWithinLimits (sym has) limits) (subst AllDefsDiffer (sym has) differ)
+          served_of engine.tables.catalog (subst AreWithinLimits (sym has) limits) (subst DoNamesDiffer (sym has) differ)
           (ap are_built has ∙ (sym (ap (λ (e : Engine S). e.served) is) ∙ served));
     }
 
@@ -87,7 +87,7 @@ module _ {S : Type 0} (g : Ghosts S) where
         record {
           served = ap (λ (e : Engine S). e.served) is ∙ built;
           work = ready_of_sound g engine.store engine.tables sound.sound.0
-              (served_of engine.tables.catalog (subst AreWithinLimits (sym has) limits) (subst AllDefsDiffer (sym has) differ) (ap are_built has ∙ built)) (subst IsTrue (sym kept.is_told) sound.told)
+              (served_of engine.tables.catalog (subst AreWithinLimits (sym has) limits) (subst DoNamesDiffer (sym has) differ) (ap are_built has ∙ built)) (subst IsTrue (sym kept.is_told) sound.told)
               (subst (λ (pages : PageList). KeepAllRules engine.tables.shape pages sound.sound.0) (sym kept.work) along)
               (subst (λ (pages : PageList). AreStored pages engine.tables.catalog) (sym kept.work) stored_now) (notes sound.sound.0.owners) rooms;
           base_view = sound.sound.0;

@@ -1,5 +1,5 @@
 -- The blocks of a table that no call changed: those that it had, in pages where it stands with the block map that it had.
-use Rattle.std.proofs.Common.{◌≡◌, ◌⊎◌, ◌<◌, ◌==◌, ◌∙◌, ℕ, List, cond, map, inl, inr, refl, sym, ap, subst, arith}
+use Rattle.std.proofs.Common.{◌≡◌, ◌⊎◌, ◌<◌, ◌==◌, ◌∙◌, ℕ, List, cond, map, inl, inr, refl, sym, ap, subst}
 use Rattle.std.proofs.lemmas.Bool.{cases_eq, ne_eqb}
 use Rattle.std.proofs.lemmas.Simd.{map-map}
 use Rattle.mdc_words.proofs.ListedLemmas.{listed_same}
@@ -65,7 +65,7 @@ module _ (shape : Shape) (old new : PageList) (def : TableDef) (owners owners_no
             ∙ sym (other_kind shape old def map_tree e (owner_of owners e) other)
       ]
 
-  own_stay : map own_spot (table_spots shape new def owners_now map_tree) ≡ map own_spot (table_spots shape old def owners map_tree)
+  pub own_stay : map own_spot (table_spots shape new def owners_now map_tree) ≡ map own_spot (table_spots shape old def owners map_tree)
   own_stay =
       map-map own_spot (λ e. spot_of_kind shape new def map_tree e (owner_of owners_now e)) (range_with_len 0 shape.extents)
       ∙ (listed_same shape.extents (λ e. own_spot (spot_of_kind shape new def map_tree e (owner_of owners_now e))) (λ e. own_spot (spot_of_kind shape old def map_tree e (owner_of owners e))) own_stays

@@ -1,7 +1,8 @@
 -- What a statement leaves of the tables that it doesn't change.
-use Rattle.std.proofs.Common.{◌≡◌, ◌≢◌, ◌⊎◌, ◌<◌, ◌+◌, ◌∙◌, ℕ, List, [], Option, Some, None, inl, inr, refl, sym, ap, subst, arith}
+use Rattle.std.proofs.Common.{◌≡◌, ◌≢◌, ◌⊎◌, ◌<◌, ◌+◌, ◌∙◌, ℕ, List, [], ◌∷◌, Option, Some, None, inl, inr, length, length-append, refl, sym, ap, subst, arith}
 use Rattle.std.specs.Prelude.{IsSome, IsTrue, option_and_then, slice_get, slice_set}
 use Rattle.std.proofs.lemmas.Bool.{cases_eq}
+use Rattle.std.proofs.lemmas.List.Edits.{length-remove}
 use Rattle.std.proofs.lemmas.Option.{same_Some}
 use Rattle.mdc_words.proofs.PlacesLemmas.{slice_get-set_other, slice_get-set_same}
 use Rattle.mdc_ast.specs.declared.bound.Bound.{Bound}
@@ -33,12 +34,12 @@ use Rattle.mdc_sound.proofs.StandingTableLemmas.{block_kept, forests_of, map_of_
 use Rattle.statement_rows.specs.OtherTables.{KeepsTableBlocks, KeepsOtherTables}
 use Rattle.stored_catalog.specs.AroundTable.{view_with}
 use Rattle.stored_catalog.specs.StoredDefinitions.{AreStored}
-use Rattle.stored_catalog.specs.TreeRuns.{IsAddingPage, IsDroppingPage}
+use Rattle.stored_catalog.specs.TreeRuns.{IsAddingPage, IsDroppingPage, IsMakingPage}
 use Rattle.stored_catalog.proofs.EnteringLemmas.{empty_place_below, lowest_place}
-use Rattle.stored_catalog.proofs.LeftDefinitionsLemmas.{def_there, stored_at}
+use Rattle.stored_catalog.proofs.LeftDefinitionsLemmas.{def_there, limits_at, stored_at}
 use Rattle.stored_catalog.proofs.OpenedTableLemmas.{defined_there}
 use Rattle.script_engine.specs.Doing.{changed_place}
-use Rattle.script_engine.specs.Others.{ComesEmpty, FreesBlocks, KeepsOthers, touched_place}
+use Rattle.script_engine.specs.Others.{ComesEmpty, FreesBlocks, GainsIndex, KeepsOthers, LosesIndex, touched_place}
 use Rattle.script_engine.specs.Ready.{AreServed, IsReady}
 use Rattle.script_engine.specs.declared.tables.Tables.{Tables}
 use Rattle.script_engine.proofs.ComingTablesLemmas.{no_block_mapped, none_comes, none_goes}
@@ -60,6 +61,10 @@ there_below defs place served there = go (def_at defs place) refl there
     go None at some = absurd (cc)
     go (Some def) at some = served_below defs place def served at
 
+-- a table that has the definition that it had has as many record indexes
+same_count : (was is : Option TableDef) (def now_def : TableDef) → is ≡ was → was ≡ Some def → is ≡ Some now_def → length now_def.indexes ≡ length def.indexes
+same_count was is def now_def same at at_now = ap (λ (d : TableDef). length d.indexes) (sym (same_Some def now_def (sym at ∙ (sym same ∙ at_now))))
+
 -- ---- nothing is changed
 
 -- the same pages have the same blocks
@@ -71,6 +76,8 @@ keeps_others_itself shape old new defs now place pages same = record {
   );
   made = λ t def none some. absurd (none_comes (def_at defs t) (def_at now t) def (ap (λ all. def_at all t) same) none some);
   gone = λ t def some none. absurd (none_goes (def_at defs t) (def_at now t) def (ap (λ all. def_at all t) same) some none);
+  gained = λ t def now_def at at_now more. absurd (omega (arith, same_count (def_at defs t) (def_at now t) def now_def (ap (λ all. def_at all t) same) at at_now, more));
+  lost = λ t def now_def at at_now fewer. absurd (omega (arith, same_count (def_at defs t) (def_at now t) def now_def (ap (λ all. def_at all t) same) at at_now, fewer));
 }
 
 -- ---- one change after another
@@ -122,6 +129,8 @@ module _ {S : Type 0} (g : Ghosts S) (old mid : S) (before now : Tables) (place 
     each = λ t other apart at. (ap (λ defs. def_at defs t) catalog ∙ at, others_kept t other (λ is. apart (ap Some (sym is))) at);
     made = λ t def none some. absurd (none_comes (def_at before.catalog t) (def_at now.catalog t) def (ap (λ defs. def_at defs t) catalog) none some);
     gone = λ t def some none. absurd (none_goes (def_at before.catalog t) (def_at now.catalog t) def (ap (λ defs. def_at defs t) catalog) some none);
+    gained = λ t def now_def at at_now more. absurd (omega (arith, same_count (def_at before.catalog t) (def_at now.catalog t) def now_def (ap (λ defs. def_at defs t) catalog) at at_now, more));
+    lost = λ t def now_def at at_now fewer. absurd (omega (arith, same_count (def_at before.catalog t) (def_at now.catalog t) def now_def (ap (λ defs. def_at defs t) catalog) at at_now, fewer));
   }
 
   -- the page of the table was written besides
@@ -137,8 +146,8 @@ module _ {S : Type 0} (g : Ghosts S) (old mid : S) (before now : Tables) (place 
       (keeps_then before.shape (pages_of g old) (pages_of g mid) (with_table_page written (pages_of g mid)) other (others_kept t other apart at) stays)
 
   pub others_written : (new : S) (written : TableDef) → written.number ≡ place → now.shape ≡ before.shape → IsReady g new now → pages_of g new ≡ with_table_page written (pages_of g mid) → (def : TableDef) → def_at before.catalog place ≡ Some def
-      → now.catalog ≡ with_def before.catalog place written → KeepsOthers before.shape (pages_of g old) (pages_of g new) before.catalog now.catalog (Some place)
-  others_written new written its_number shape ready_now is def there catalog = record {
+      → now.catalog ≡ with_def before.catalog place written → written.indexes ≡ def.indexes → KeepsOthers before.shape (pages_of g old) (pages_of g new) before.catalog now.catalog (Some place)
+  others_written new written its_number shape ready_now is def there catalog indexes = record {
     each = λ t other apart at.
         let elsewhere_t : t ≢ place = λ e. apart (ap Some (sym e)) in
         let at_now : def_at now.catalog t ≡ Some other = still_elsewhere t elsewhere_t ∙ at in
@@ -152,6 +161,8 @@ module _ {S : Type 0} (g : Ghosts S) (old mid : S) (before now : Tables) (place 
       | inl here ↦ let wrong = sym put_there ∙ (ap (def_at now.catalog) (sym here) ∙ none) in absurd (cc)
       | inr apart ↦ absurd (none_goes (def_at before.catalog t) (def_at now.catalog t) other (still_elsewhere t apart) some none)
     ];
+    gained = λ t other now_def at at_now more. absurd (omega (arith, as_many t other now_def at at_now, more));
+    lost = λ t other now_def at at_now fewer. absurd (omega (arith, as_many t other now_def at at_now, fewer));
   }
     where
       still_elsewhere : (t : ℕ) → t ≢ place → def_at now.catalog t ≡ def_at before.catalog t
@@ -159,6 +170,15 @@ module _ {S : Type 0} (g : Ghosts S) (old mid : S) (before now : Tables) (place 
 
       put_there : def_at now.catalog place ≡ Some (record written { number = place })
       put_there = ap (λ defs. def_at defs place) catalog ∙ def_at_set before.catalog place (Some (record written { number = place })) (omega (arith, served_below before.catalog place def served there, served.valid.places))
+
+      as_many : (t : ℕ) (other now_def : TableDef) → def_at before.catalog t ≡ Some other → def_at now.catalog t ≡ Some now_def → length now_def.indexes ≡ length other.indexes
+      as_many t other now_def at at_now = elim (cases_eq t place) [
+        | inl here ↦
+            let was : def ≡ other = same_Some def other (sym there ∙ (ap (def_at before.catalog) (sym here) ∙ at)) in
+            let is : record written { number = place } ≡ now_def = same_Some (record written { number = place }) now_def (sym put_there ∙ (ap (def_at now.catalog) (sym here) ∙ at_now)) in
+            ap (λ (d : TableDef). length d.indexes) (sym is) ∙ (ap length indexes ∙ ap (λ (d : TableDef). length d.indexes) was)
+        | inr apart ↦ same_count (def_at before.catalog t) (def_at now.catalog t) other now_def (still_elsewhere t apart) at at_now
+      ]
 
 -- ---- a table more, or one less
 
@@ -211,6 +231,8 @@ others_created g old new before now place def table owners_now ready sound unmap
     | inr apart ↦ absurd (none_comes (def_at before.catalog t) (def_at now.catalog t) other (still_elsewhere t apart) none some)
   ];
   gone = λ t other some none. absurd (none_goes (def_at before.catalog t) (def_at now.catalog t) other (still_elsewhere t (not_there t other some)) some none);
+  gained = λ t other now_def at at_now more. absurd (omega (arith, same_count (def_at before.catalog t) (def_at now.catalog t) other now_def (still_elsewhere t (not_there t other at)) at at_now, more));
+  lost = λ t other now_def at at_now fewer. absurd (omega (arith, same_count (def_at before.catalog t) (def_at now.catalog t) other now_def (still_elsewhere t (not_there t other at)) at at_now, fewer));
 }
   where
     still_elsewhere : (t : ℕ) → t ≢ place → def_at now.catalog t ≡ def_at before.catalog t
@@ -255,6 +277,8 @@ others_removed g old new before now place owners_now ready sound freed served lo
     })
     | inr apart ↦ absurd (none_goes (def_at before.catalog t) (def_at now.catalog t) def (still_elsewhere t apart) some none)
   ];
+  gained = λ t def now_def at at_now more. absurd (omega (arith, as_many t def now_def at at_now, more));
+  lost = λ t def now_def at at_now fewer. absurd (omega (arith, as_many t def now_def at at_now, fewer));
 }
   where
     still_elsewhere : (t : ℕ) → t ≢ place → def_at now.catalog t ≡ def_at before.catalog t
@@ -263,6 +287,90 @@ others_removed g old new before now place owners_now ready sound freed served lo
     gone_there : def_at now.catalog place ≡ None
     gone_there = ap (λ defs. def_at defs place) catalog ∙ def_at_set before.catalog place None (omega (arith, low, served.valid.places))
 
+    as_many : (t : ℕ) (def now_def : TableDef) → def_at before.catalog t ≡ Some def → def_at now.catalog t ≡ Some now_def → length now_def.indexes ≡ length def.indexes
+    as_many t def now_def at at_now = elim (cases_eq t place) [
+      | inl here ↦ let wrong = sym gone_there ∙ (ap (def_at now.catalog) (sym here) ∙ at_now) in absurd (cc)
+      | inr apart ↦ same_count (def_at before.catalog t) (def_at now.catalog t) def now_def (still_elsewhere t apart) at at_now
+    ]
+
     off : (t p : ℕ) → IsBlockPageOf before.shape ready.view.owners t p → IsDroppingPage before.shape place p → ⊥
     off t p of (inl is) = omega (arith, of.page.behind, is, low)
     off t p of (inr on) = omega (arith, of.page.behind, on.1)
+
+-- ---- a record index more, or one less
+
+-- no page that its making may touch is one of a block
+pub making_off : {S : Type 0} (g : Ghosts S) (s : S) (tables : Tables) (place : ℕ) (ready : IsReady g s tables) → place < 16 → (t p : ℕ) → IsBlockPageOf tables.shape ready.view.owners t p
+    → IsMakingPage g tables.shape s place p → ⊥
+making_off g s tables place ready low t p of (inl is) = omega (arith, of.page.behind, is, low)
+making_off g s tables place ready low t p of (inr space) =
+    off_space tables.shape ready.view.owners t p of (space ready.view.owners (told_of_map g s ready.told tables.shape ready.view.owners (map_of_rules tables.shape (pages_of g s) ready.view ready.sound.first)))
+
+-- and none that its dropping may touch
+pub dropping_off : (shape : Shape) (owners : List Kind) (place : ℕ) → place < 16 → (t p : ℕ) → IsBlockPageOf shape owners t p → IsDroppingPage shape place p → ⊥
+dropping_off shape owners place low t p of (inl is) = omega (arith, of.page.behind, is, low)
+dropping_off shape owners place low t p of (inr on) = omega (arith, of.page.behind, on.1)
+
+-- A table stays in its place with another definition, and no page of a block was touched.
+module _ {S : Type 0} (g : Ghosts S) (old new : S) (before now : Tables) (place : ℕ) (def def_now : TableDef) (table : TableView) (owners_now : List Kind) (ready : IsReady g old before)
+    (sound : KeepAllRules before.shape (pages_of g new) (view_with ready.view owners_now place (Some table))) (served : AreServed before.catalog) (there : def_at before.catalog place ≡ Some def)
+    (catalog : now.catalog ≡ with_def before.catalog place def_now) where
+  still_beside : (t : ℕ) → t ≢ place → def_at now.catalog t ≡ def_at before.catalog t
+  still_beside t = elsewhere before.catalog now.catalog place t (Some (record def_now { number = place })) catalog
+
+  put_in_place : def_at now.catalog place ≡ Some (record def_now { number = place })
+  put_in_place =
+      ap (λ defs. def_at defs place) catalog
+      ∙ def_at_set before.catalog place (Some (record def_now { number = place })) (omega (arith, served_below before.catalog place def served there, served.valid.places))
+
+  -- what is said of the two definitions of the table is said of any two of one place whose record indexes aren't as many
+  module _ (Says : TableDef → TableDef → Type 0) (Differ : ℕ → ℕ → Type 0) (apart : (n : ℕ) → Differ n n → ⊥) (own : def_now.number ≡ def.number) (says : Differ (length def.indexes) (length def_now.indexes) → Says def def_now) where
+    said_of_place : (t : ℕ) (other now_def : TableDef) → def_at before.catalog t ≡ Some other → def_at now.catalog t ≡ Some now_def → Differ (length other.indexes) (length now_def.indexes) → Says other now_def
+    said_of_place t other now_def at at_now differ = elim (cases_eq t place) [
+      | inl here ↦
+          let was : def ≡ other = same_Some def other (sym there ∙ (ap (def_at before.catalog) (sym here) ∙ at)) in
+          let number : def_now.number ≡ place = own ∙ (limits_at before.catalog place def served.limits there).stands in
+          let put : record def_now { number = place } ≡ def_now = ap (λ (n : ℕ). record def_now { number = n }) (sym number) in
+          let is : def_now ≡ now_def = sym put ∙ same_Some (record def_now { number = place }) now_def (sym put_in_place ∙ (ap (def_at now.catalog) (sym here) ∙ at_now)) in
+          subst (Says other) is (subst (λ (d : TableDef). Says d def_now) was
+          (says (subst (λ (d : TableDef). Differ (length def.indexes) (length d.indexes)) (sym is) (subst (λ (d : TableDef). Differ (length d.indexes) (length now_def.indexes)) (sym was) differ))))
+      | inr beside ↦
+          let count = same_count (def_at before.catalog t) (def_at now.catalog t) other now_def (still_beside t beside) at at_now in
+          absurd (apart (length other.indexes) (subst (Differ (length other.indexes)) count differ))
+    ]
+
+  others_in_place : (Mine : ℕ → Type 0) → Touches g Mine old new → ((t p : ℕ) → IsBlockPageOf before.shape ready.view.owners t p → Mine p → ⊥) → def_now.number ≡ def.number
+      → (length def.indexes < length def_now.indexes → GainsIndex before.shape (pages_of g old) (pages_of g new) def def_now)
+      → (length def_now.indexes < length def.indexes → LosesIndex before.shape (pages_of g old) (pages_of g new) def def_now)
+      → KeepsOthers before.shape (pages_of g old) (pages_of g new) before.catalog now.catalog (Some place)
+  others_in_place Mine touches off own gains loses = record {
+    each = λ t other apart at.
+        let beside : t ≢ place = λ e. apart (ap Some (sym e)) in
+        (still_beside t beside ∙ at, others_stay g old new before now place (Some table) owners_now ready sound served Mine touches off t other beside at);
+    made = λ t other none some. elim (cases_eq t place) [
+      | inl here ↦ let wrong = sym there ∙ (ap (def_at before.catalog) (sym here) ∙ none) in absurd (cc)
+      | inr apart ↦ absurd (none_comes (def_at before.catalog t) (def_at now.catalog t) other (still_beside t apart) none some)
+    ];
+    gone = λ t other some none. elim (cases_eq t place) [
+      | inl here ↦ let wrong = sym put_in_place ∙ (ap (def_at now.catalog) (sym here) ∙ none) in absurd (cc)
+      | inr apart ↦ absurd (none_goes (def_at before.catalog t) (def_at now.catalog t) other (still_beside t apart) some none)
+    ];
+    gained = said_of_place (GainsIndex before.shape (pages_of g old) (pages_of g new)) (λ n m. n < m) (λ n less. absurd (omega (arith, less))) own gains;
+    lost = said_of_place (LosesIndex before.shape (pages_of g old) (pages_of g new)) (λ n m. m < n) (λ n less. absurd (omega (arith, less))) own loses;
+  }
+
+  -- it gets a record index
+  pub others_indexed : Touches g (IsMakingPage g before.shape old place) old new → GainsIndex before.shape (pages_of g old) (pages_of g new) def def_now
+      → KeepsOthers before.shape (pages_of g old) (pages_of g new) before.catalog now.catalog (Some place)
+  others_indexed touches gains =
+      let more : length def_now.indexes ≡ length def.indexes + 1 = ap (λ (d : TableDef). length d.indexes) gains.is ∙ length-append def.indexes (gains.index ∷ []) in
+      others_in_place (IsMakingPage g before.shape old place) touches (making_off g old before place ready (served_below before.catalog place def served there)) (ap (λ (d : TableDef). d.number) gains.is)
+      (λ less. gains) (λ less. absurd (omega (arith, more, less)))
+
+  -- it loses one
+  pub others_unindexed : Touches g (IsDroppingPage before.shape place) old new → LosesIndex before.shape (pages_of g old) (pages_of g new) def def_now
+      → KeepsOthers before.shape (pages_of g old) (pages_of g new) before.catalog now.catalog (Some place)
+  others_unindexed touches loses =
+      let fewer : length def_now.indexes + 1 ≡ length def.indexes = omega (arith, ap (λ (d : TableDef). length d.indexes) loses.is, length-remove def.indexes loses.index loses.within) in
+      others_in_place (IsDroppingPage before.shape place) touches (dropping_off before.shape ready.view.owners place (served_below before.catalog place def served there)) (ap (λ (d : TableDef). d.number) loses.is)
+      (λ less. absurd (omega (arith, fewer, less))) (λ less. loses)

@@ -1,9 +1,9 @@
--- The tuples of an INSERT against which nothing is said: they fit, they have numbers, and nothing is said against them by the rows.
+-- The tuples of an INSERT: what is said against them by the rows, and those against which nothing is said, which fit and have numbers.
 use Rattle.std.proofs.Common.{◌≡◌, ◌<◌, ◌+◌, ℕ, zero, suc, List, [], ◌∷◌, ◌++◌, ◌∙◌, refl, sym, ap, subst, length, arith}
 use Rattle.std.specs.Prelude.{Option, Some, None, flat_map, nat_lt, false, is_none, IsTrue, IfSome, Result, Ok, Err, OnOk, OnErr, slice_set}
 use Rattle.std.specs.List.{AllByRecursion, list_all}
 use Rattle.std.proofs.lemmas.Bool.Decides.{nat_tests}
-use Rattle.std.proofs.lemmas.List.{set-set}
+use Rattle.std.proofs.lemmas.List.{map-append, set-set}
 use Rattle.std.proofs.lemmas.Option.{same_Some}
 use Rattle.mdc_values.specs.declared.value.Value.{Value}
 use Rattle.mdc_ast.specs.declared.bound.Bound.TheVariants as bound
@@ -11,19 +11,23 @@ use Rattle.mdc_ast.specs.declared.definition.ColumnDef.{ColumnDef}
 use Rattle.mdc_ast.specs.declared.definition.TableDef.{TableDef}
 use Rattle.mdc_ast.specs.declared.refusal.Refusal.{Refusal}
 use Rattle.mdc_ast.specs.declared.reply.Reply.{Reply}
+use Rattle.mdc_ast.specs.declared.row.Row.{Row}
 use Rattle.statement_meaning.specs.Cause.{Cause, NumbersUsedUp}
-use Rattle.mdc_ast.specs.Database.{Database, PlainTable, fits_all, table_at, numbered}
+use Rattle.mdc_ast.specs.Database.{Database, PlainTable, appended, changed_at, fits_all, table_at, numbered}
 use Rattle.mdc_ast.specs.Definitions.{Definitions, def_at, with_def, without_def}
-use Rattle.statement_meaning.specs.Doing.{causes_of_rows, null_causes, used_up}
+use Rattle.row_groups.specs.Numbers.{values_of}
+use Rattle.statement_meaning.specs.Doing.{causes_of_rows, duplicate_causes, null_causes, twin_causes, used_up}
 use Rattle.statement_meaning.specs.Judging.{of_some}
 use Rattle.statement_meaning.specs.Step.{Refused, step_by}
 use Rattle.statement_meaning.proofs.CausesLemmas.{none_if, none_of_both}
+use Rattle.statement_meaning.proofs.DatabaseLemmas.{table_at-changed}
 use Rattle.mdc_ast.proofs.TestsLemmas.{both}
 use Rattle.statement_meaning.proofs.BuiltLemmas.{none_generated}
 use Rattle.mdc_ast.specs.FittingRows.{RowFits}
 use Rattle.mdc_sound.specs.StandsForDatabase.{rootless}
 use Rattle.row_checks.specs.Served.{IsDefined, MayPut}
 use Rattle.script_engine.specs.Inserting.{first_refusal, numbered_on, tuple_causes}
+use Rattle.script_engine.proofs.ReadyKeysLemmas.{rootless_twins}
 
 -- ---- what is said
 
@@ -40,12 +44,31 @@ numbers_left def tuples none =
     few : (n : ℕ) → nat_lt 18446744073709551615 n ≡ false → n < 18446744073709551616
     few n not_more = grind (arith, nat_tests, not_more)
 
--- the rows of a plain table of this definition say the same
+-- tuples without such a null, and with numbers left, have nothing said against them
+pub nothing_said : (def : TableDef) (tuples : List (List Value)) → flat_map (null_causes def.columns) tuples ≡ [] → used_up def.next (length tuples) ≡ [] → tuple_causes def tuples ≡ []
+nothing_said def tuples no_nulls numbers = ap (λ front. front ++ used_up def.next (length tuples)) no_nulls ∙ numbers
+
+values_of-numbered : (from : ℕ) (tuples : List (List Value)) → values_of (numbered from tuples) ≡ tuples
+values_of-numbered from [] = refl
+values_of-numbered from (values ∷ tuples) = ap (λ more. values ∷ more) (values_of-numbered (from + 1) tuples)
+
+-- the values of a table's rows with new ones behind them
+values_of-appended : (table : PlainTable) (tuples : List (List Value)) → values_of (appended tuples table).rows ≡ values_of table.rows ++ tuples
+values_of-appended table tuples =
+    map-append (λ (row : Row). row.values) table.rows (numbered table.def.next tuples) ∙ ap (λ more. values_of table.rows ++ more) (values_of-numbered table.def.next tuples)
+
+-- the rows of a plain table of this definition say of nulls and of row numbers the same, and of keys what these rows and the tuples say
 pub said_by_rows : (db : Database) (place : ℕ) (table : PlainTable) (def : TableDef) (tuples : List (List Value)) → table_at db place ≡ Some table → table.def ≡ rootless def
-    → causes_of_rows db (bound.Insert place tuples) ≡ tuple_causes def tuples
+    → causes_of_rows db (bound.Insert place tuples) ≡ flat_map (null_causes def.columns) tuples ++ flat_map (twin_causes (values_of table.rows ++ tuples)) def.indexes ++ used_up def.next (length tuples)
 said_by_rows db place table def tuples at is =
-    ap (λ found. of_some found (λ (t : PlainTable). flat_map (null_causes t.def.columns) tuples) ++ of_some found (λ (t : PlainTable). used_up t.def.next (length tuples))) at
-    ∙ ap (λ (d : TableDef). tuple_causes d tuples) is
+    let with_keys : List Cause → List Cause = λ keys. flat_map (null_causes def.columns) tuples ++ keys ++ used_up def.next (length tuples) in
+    ap (λ found. of_some found (λ (t : PlainTable). flat_map (null_causes t.def.columns) tuples) ++ of_some (table_at (changed_at db place (appended tuples)) place) duplicate_causes
+    ++ of_some found (λ (t : PlainTable). used_up t.def.next (length tuples))) at
+    ∙ (ap (λ (d : TableDef). flat_map (null_causes d.columns) tuples ++ of_some (table_at (changed_at db place (appended tuples)) place) duplicate_causes ++ used_up d.next (length tuples)) is
+    ∙ ap with_keys
+    (ap (λ found. of_some found duplicate_causes) (table_at-changed db place table (appended tuples) at)
+    ∙ (ap (λ rows. flat_map (twin_causes rows) table.def.indexes) (values_of-appended table tuples)
+    ∙ (ap (λ (d : TableDef). flat_map (twin_causes (values_of table.rows ++ tuples)) d.indexes) is ∙ rootless_twins (values_of table.rows ++ tuples) def.indexes))))
 
 -- a statement is refused for what is said first
 pub refused_for_first : (db : Database) (causes : List Cause) (done : Database × Reply) (refusal : Refusal) → first_refusal causes ≡ Some refusal → step_by db causes done ≡ (db, Refused refusal)
@@ -57,7 +80,17 @@ pub none_said : (causes : List Cause) → first_refusal causes ≡ None → caus
 none_said [] none = refl
 none_said (cause ∷ causes) none = absurd cc
 
+-- what is said in front is said first
+pub refused_in_front : (causes more : List Cause) (refusal : Refusal) → first_refusal causes ≡ Some refusal → first_refusal (causes ++ more) ≡ Some refusal
+refused_in_front [] more refusal first = absurd cc
+refused_in_front (cause ∷ causes) more refusal first = first
+
 -- ---- what fits
+
+-- tuples that fit do so one by one
+pub each_fits : (columns : List ColumnDef) (tuples : List (List Value)) → IsTrue (list_all (fits_all columns) tuples) → AllByRecursion (λ values. IsTrue (fits_all columns values)) tuples
+each_fits columns [] fit = tt
+each_fits columns (values ∷ tuples) fit = let parts = both (fits_all columns values) (list_all (fits_all columns) tuples) fit in (parts.0, each_fits columns tuples parts.1)
 
 -- rows of values that fit the columns fit the definition
 pub rows_fit : (def : TableDef) (from : ℕ) (tuples : List (List Value)) → IsTrue (list_all (λ (column : ColumnDef). is_none column.made) def.columns) → IsTrue (list_all (fits_all def.columns) tuples)
@@ -140,11 +173,3 @@ module _ {X E : Type 0} (result : Result X E) (found def_now : TableDef) (count 
         go : (r : Result X E) → OnErr r (def_now ≡ found) → OnErr r (final ≡ defs)
         go (Ok x) is = tt
         go (Err e) is = over ∙ (ap (with_def defs place) is ∙ (ap (λ d. slice_set defs place (Some d)) (own_number place found number) ∙ put_where_it_stands defs place found at))
-
--- ---- where nothing was said
-
--- no refusal came, so nothing is said against the tuples
-pub none_said_of : (found : Option TableDef) (tuples lent : List (List Value)) (refusal : Option Refusal) → lent ≡ tuples → IfSome found (λ def. first_refusal (tuple_causes def lent) ≡ refusal) → refusal ≡ None
-    → IfSome found (λ def. tuple_causes def tuples ≡ [])
-none_said_of None tuples lent refusal same judged none = tt
-none_said_of (Some def) tuples lent refusal same judged none = ap (tuple_causes def) (sym same) ∙ none_said (tuple_causes def lent) (judged ∙ none)

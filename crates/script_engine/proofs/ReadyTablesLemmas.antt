@@ -5,8 +5,8 @@ use Rattle.std.proofs.lemmas.Option.{same_Some}
 use Rattle.mdc_words.specs.ByteOrder.{Entry}
 use Rattle.mdc_ast.specs.declared.bound.Bound.{Bound}
 use Rattle.mdc_ast.specs.declared.definition.TableDef.{TableDef}
-use Rattle.mdc_ast.specs.Database.{Database, PlainTable, changed_at}
-use Rattle.statement_meaning.proofs.BuiltLemmas.{built_at, no_indexes}
+use Rattle.mdc_ast.specs.Database.{Database, PlainTable, changed_at, table_at}
+use Rattle.statement_meaning.proofs.DatabaseLemmas.{table_at-changed}
 use Rattle.mdc_ast.specs.Definitions.{Definitions, def_at, with_def}
 use Rattle.store_api.specs.declared.pages.Pages.{Ghosts}
 use Rattle.store_api.specs.declared.shape.Shape.{Shape}
@@ -18,6 +18,7 @@ use Rattle.table_trees.specs.SpaceChanges.{MakesChanges, SpaceChange}
 use Rattle.table_trees.specs.TableTrees.{map_place}
 use Rattle.table_trees.specs.ToldPages.{HasTree, PageList, told_pages}
 use Rattle.table_trees.proofs.SpaceChainsLemmas.{changes_to}
+use Rattle.mdc_sound.specs.BlockRules.{AreTableKeysSound}
 use Rattle.mdc_sound.specs.Placing.{Spot, block_slot_count, table_spots}
 use Rattle.mdc_sound.specs.RunningFull.{ShowsTableSpots}
 use Rattle.mdc_sound.specs.SoundDatabase.{KeepAllRules, with_table_page}
@@ -39,18 +40,20 @@ use Rattle.script_engine.specs.NotedRooms.{AreForgotten, KeepsOtherRooms, rooms_
 use Rattle.script_engine.specs.Ready.{AreServed, IsReady}
 use Rattle.script_engine.specs.declared.tables.Tables.{Tables}
 use Rattle.script_engine.proofs.BetweenChangesLemmas.{between_of_rules, number_is_low, ready_table, rules_of_between, space_written, stands_written, written_already, written_defines}
+use Rattle.script_engine.proofs.KeptKeysLemmas.{KeepsKeys, keys_after}
 use Rattle.script_engine.proofs.OtherRoomsLemmas.{ready_beside}
 use Rattle.script_engine.proofs.OthersLemmas.{elsewhere, kept_written}
+use Rattle.script_engine.proofs.SoundPagesStandLemmas.{sound_pages_stand}
+use Rattle.script_engine.proofs.StoredDefsLemmas.{stored_defs, stored_table}
 use Rattle.script_engine.proofs.TablePageSpotsLemmas.{spots_with_table_page}
 
 -- ---- at the start of a statement
 
--- a table of built form has the number of its place, is within the limits and has no record indexes
+-- a table of built form has the number of its place, and is within the limits
 pub record IsServedDef (place : ℕ) (def : TableDef) : Type 0 where
   pub number : def.number ≡ place
   pub below : place < 16
   pub limits : IsTableDef def.number def
-  pub no_indexes : def.indexes ≡ []
 
 pub served_def : (defs : Definitions) (place : ℕ) (def : TableDef) → AreServed defs → def_at defs place ≡ Some def → IsServedDef place def
 served_def defs place def served at =
@@ -58,7 +61,6 @@ served_def defs place def served at =
       number = limits.stands;
       below = (range_at IsWithinLimits 0 16 defs place (Some def) served.limits (def_there defs place def at)).0;
       limits = subst (λ t. IsTableDef t def) (sym limits.stands) limits;
-      no_indexes = no_indexes def (built_at defs place def served.built at);
     }
 
 -- a table of ready pages stands with right notes, in pages that are sound as they are between two changes of rows
@@ -103,8 +105,8 @@ pub change_ends : {S : Type 0} (g : Ghosts S) (old mid new : S) (before now : Ta
     → AreServed before.catalog → now.shape ≡ before.shape → IsReady g old before → def_at before.catalog place ≡ Some def → def_now ≡ record def { next = def_now.next } → def_now.next < 18446744073709551616
     → ChangesRowsOf g before.shape before.notes now.notes (rooms_at now.rooms place) old mid def def_now owners forests Places change
     → IsTrue (g.state new).is_told → pages_of g new ≡ with_table_page def_now (pages_of g mid)
-    → now.catalog ≡ with_def before.catalog place def_now → KeepsOtherRooms before.rooms now.rooms place → EndsChange g old new before now place change
-change_ends g old mid new before now place def def_now owners forests Places change served shape ready at same small changed told written catalog rooms = record {
+    → now.catalog ≡ with_def before.catalog place def_now → KeepsOtherRooms before.rooms now.rooms place → KeepsKeys before.shape (pages_of g old) place change → EndsChange g old new before now place change
+change_ends g old mid new before now place def def_now owners forests Places change served shape ready at same small changed told written catalog rooms keys = record {
   ready = ready_beside g old new before now changed.now.sound.sound.view served shape ready told rules stored (subst (AreRightNotes before.shape now.notes) one_owners changed.now.ready.notes) place still_elsewhere
       (λ t other apart was. kept_written g old mid before now place def.number is.number served ready changed.others new def_now changed.now.sound.sound.view number is.below rules stored written t other apart was
       (still_elsewhere t apart ∙ was))
@@ -131,10 +133,21 @@ change_ends g old mid new before now place def def_now owners forests Places cha
     low : def_now.number < 16
     low = omega (arith, number, is.below)
 
+    keys_now : AreTableKeysSound before.shape (with_table_page def_now (pages_of g mid)) changed.now.sound.sound.table
+    keys_now =
+        let last : PageList = with_table_page def_now (pages_of g mid) in
+        let some = sound_pages_stand before.shape (pages_of g old) (ready.view, ready.sound) in
+        let was = stored_table some.0 before.catalog place def (stored_defs before.shape (pages_of g old) before.catalog some.0 ready.stored some.1) at in
+        let after = changed.stands_for some.0 (subst (λ (pages : PageList). PagesStandFor before.shape pages some.0) (sym (page_is_written g old before place def served ready at)) some.1) in
+        let same_place : def.number ≡ def_now.number = is.number ∙ sym number in
+        keys_after before.shape def_now (pages_of g mid) changed.now.sound (changed_at some.0 def_now.number change)
+        (subst (λ (t : ℕ). PagesStandFor before.shape last (changed_at some.0 t change)) same_place after) (change was.0)
+        (subst (λ (t : ℕ). table_at (changed_at some.0 t change) t ≡ Some (change was.0)) (sym number) (table_at-changed some.0 place was.0 change was.1)) (keys some.0 some.1 was.0 was.1)
+
     rules : KeepAllRules before.shape (pages_of g new) changed.now.sound.sound.view
     rules =
         subst (λ (pages : PageList). KeepAllRules before.shape pages changed.now.sound.sound.view) (sym written)
-        (rules_of_between before.shape def_now (pages_of g mid) changed.now.sound (ap (λ (d : TableDef). d.indexes) same ∙ is.no_indexes))
+        (rules_of_between before.shape def_now (pages_of g mid) changed.now.sound keys_now)
 
     defines : DefinesTable (pages_of g new) place def_now
     defines =
@@ -180,15 +193,15 @@ put_there (first ∷ defs) (suc place) def at = ap (λ (rest : Definitions). fir
 pub change_ends_unwritten : {S : Type 0} (g : Ghosts S) (old new : S) (before now : Tables) (place : ℕ) (def : TableDef) (owners : List Kind) (forests : TableForests) (Places : List Spot → List SpaceChange → List Spot → Type 0) (change : PlainTable → PlainTable)
     → AreServed before.catalog → now.shape ≡ before.shape → IsReady g old before → def_at before.catalog place ≡ Some def
     → ChangesRowsOf g before.shape before.notes now.notes (rooms_at now.rooms place) old new def def owners forests Places change
-    → now.catalog ≡ before.catalog → KeepsOtherRooms before.rooms now.rooms place → EndsChange g old new before now place change
-change_ends_unwritten g old new before now place def owners forests Places change served shape ready at changed catalog rooms =
+    → now.catalog ≡ before.catalog → KeepsOtherRooms before.rooms now.rooms place → KeepsKeys before.shape (pages_of g old) place change → EndsChange g old new before now place change
+change_ends_unwritten g old new before now place def owners forests Places change served shape ready at changed catalog rooms keys =
     let is = served_def before.catalog place def served at in
     let was = stored_at (pages_of g old) before.catalog place def ready.stored at in
     let defines : DefinesTable (pages_of g new) place def = record { limits = was.limits; printed = changed.table_pages.each place is.below ∙ was.printed } in
     change_ends g old new new before now place def def owners forests Places change served shape ready at refl was.limits.next changed changed.now.ready.stands.told
     (sym (written_already (pages_of g new) place def is.number defines))
     (catalog ∙ sym (put_as_it_is before.catalog place def was.limits ∙ put_there before.catalog place def (def_there before.catalog place def at)))
-    rooms
+    rooms keys
 
 -- the spots of a table are shown still where its page is written with another next row number
 shown_written : {S : Type 0} (g : Ghosts S) (shape : Shape) (mid : S) (pages : PageList) (def def_now : TableDef) (owners : List Kind) (forests : TableForests) → def_now ≡ record def { next = def_now.next }

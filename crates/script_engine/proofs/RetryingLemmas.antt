@@ -5,7 +5,6 @@ use Rattle.mdc_words.proofs.FaultsLemmas.{counts_fault_then}
 use Rattle.mdc_ast.specs.declared.reply.Outcome.{Outcome}
 use Rattle.mdc_ast.specs.declared.statement.Stmt.{Stmt}
 use Rattle.statement_meaning.specs.Binding.{bound_of}
-use Rattle.mdc_ast.specs.ValidDatabase.{AllDefsDiffer}
 use Rattle.mdc_ast.specs.Definitions.{Definitions}
 use Rattle.store_api.specs.Frame.{NoPage}
 use Rattle.store_api.specs.RunsOverPages.{RunsOverPages}
@@ -25,7 +24,7 @@ use Rattle.script_engine.specs.Doing.{DoesStep, LeavesAll, is_reading}
 use Rattle.script_engine.specs.Fetching.{FetchesForQuery}
 use Rattle.script_engine.specs.NotedRooms.{AreForgotten}
 use Rattle.statement_meaning.specs.Built.{are_built}
-use Rattle.script_engine.specs.Ready.{AreServed, BreaksDatabase, IsReady}
+use Rattle.script_engine.specs.Ready.{AreServed, BreaksDatabase, DoNamesDiffer, IsReady}
 use Rattle.script_engine.specs.Stops.{stop_of}
 use Rattle.script_engine.specs.Trying.{IsRefusedFull, TriesAnew, TriesStep}
 use Rattle.script_engine.specs.declared.stop.EngineStop.{EngineStop}
@@ -37,7 +36,7 @@ use Rattle.script_engine.proofs.ReadyTablesLemmas.{ready_of_sound}
 use Rattle.script_engine.proofs.TryingLemmas.{stop_names}
 
 -- a catalog that was read, and put into the place of another
-pub served_read : (catalog now : Definitions) → now ≡ catalog → AreWithinLimits catalog → AllDefsDiffer catalog → are_built catalog ≡ true → AreServed now
+pub served_read : (catalog now : Definitions) → now ≡ catalog → AreWithinLimits catalog → DoNamesDiffer catalog → are_built catalog ≡ true → AreServed now
 served_read catalog now is limits differ built = subst AreServed (sym is) (served_of catalog limits differ built)
 
 module _ {S : Type 0} (g : Ghosts S) (old read : S) (before tables : Tables) where
@@ -49,7 +48,7 @@ module _ {S : Type 0} (g : Ghosts S) (old read : S) (before tables : Tables) whe
 
   -- by which sound pages are ready
   pub ready_read : (catalog : Definitions) → RunsOverPages g NoPage IsAnyTablePage (BreaksTablePages g old) old read None → (g.state read).work ≡ (g.state old).work → tables.catalog ≡ catalog
-      → (IsTrue (g.state old).is_told → AreStored (g.state old).work catalog) → AreWithinLimits catalog → AllDefsDiffer catalog → are_built catalog ≡ true → tables.shape ≡ before.shape
+      → (IsTrue (g.state old).is_told → AreStored (g.state old).work catalog) → AreWithinLimits catalog → DoNamesDiffer catalog → are_built catalog ≡ true → tables.shape ≡ before.shape
       → ((owners : List Kind) → AreRightNotes tables.shape tables.notes owners) → AreForgotten tables.rooms → IsTrue (g.state old).is_told → IsSoundDatabase before.shape (g.state old).work → IsReady g read tables
   ready_read catalog runs same is stored limits differ built shape notes rooms told sound =
       ready_of_sound g read tables sound.0 (served_read catalog tables.catalog is limits differ built) (subst IsTrue (sym runs.works.steady.is_told) told)

@@ -1,7 +1,7 @@
 -- What the rows that a scan found are on pages where the table stands: they lie in their places by rising number, fit the
 -- definition, and are the qualifying rows of the plain table, whichever database the pages stand for.
-use Rattle.std.proofs.Common.{◌≡◌, ◌<◌, ◌+◌, ℕ, suc, Bool, true, List, [], ◌∷◌, ◌∙◌, map, refl, sym, ap, subst, arith, inl, inr, Option, Some, None}
-use Rattle.std.specs.Prelude.{AllPairs, Contains, IsPermutation, IsTrue, filter, option_and_then, slice_get}
+use Rattle.std.proofs.Common.{◌≡◌, ◌<◌, ℕ, suc, Bool, true, List, [], ◌∷◌, ◌∙◌, map, refl, sym, ap, subst, arith, inl, inr, Option, Some, None}
+use Rattle.std.specs.Prelude.{AllPairs, Contains, IsPermutation, IsTrue, filter}
 use Rattle.std.specs.List.{AllByRecursion}
 use Rattle.std.proofs.lemmas.Bool.{cases_Bool}
 use Rattle.std.proofs.lemmas.List.Kept.{AllPairs-filter}
@@ -35,14 +35,13 @@ use Rattle.mdc_ast.specs.FittingRows.{RowFits}
 use Rattle.mdc_sound.specs.Placing.{rows_from_spot, table_spots}
 use Rattle.mdc_sound.specs.SoundDatabase.{IsSoundBetweenChanges, KeepAllRules}
 use Rattle.mdc_sound.specs.StandingTable.{AreRightRooms, BreaksTable, StandsTable, TableForests, pages_of, spots_of}
-use Rattle.mdc_sound.specs.StandsForDatabase.{HoldsPlace, HoldsTable, PagesStandFor, rootless}
+use Rattle.mdc_sound.specs.StandsForDatabase.{HoldsTable, PagesStandFor, rootless}
 use Rattle.mdc_sound.specs.TablePages.{DefinesTable, table_page_at}
 use Rattle.mdc_sound.specs.TableRows.{PlacedRow, rows_in_block, rows_in_table}
 use Rattle.mdc_sound.proofs.BlockRulesLemmas.{each_of}
 use Rattle.mdc_sound.proofs.ChangedRowsLemmas.{rows_of_standing}
 use Rattle.mdc_sound.proofs.ElementsLemmas.{each_in, flat_contains, in_map}
 use Rattle.mdc_sound.proofs.PlainTableLemmas.{IsPlainTable}
-use Rattle.mdc_sound.proofs.SpaceRulesLemmas.{range_at}
 use Rattle.mdc_sound.proofs.StandingTableLemmas.{forests_of, stands_of_sound, stands_same}
 use Rattle.mdc_sound.proofs.StandsForLemmas.{one_tree_at}
 use Rattle.table_blocks.specs.BlockSteps.{HasThisRow}
@@ -61,6 +60,7 @@ use Rattle.script_engine.specs.declared.tables.Tables.{Tables}
 use Rattle.script_engine.proofs.BetweenChangesLemmas.{between_of_rules}
 use Rattle.table_scan.proofs.ScannedRowsLemmas.{found_hits, found_rows_rise, perm_filter, placed_rise, row_lies}
 use Rattle.table_scan.proofs.ScanningLemmas.{map_kept}
+use Rattle.script_engine.proofs.KeptKeysLemmas.{table_held}
 use Rattle.script_engine.proofs.ReadyTablesLemmas.{served_def}
 
 -- ---- lists
@@ -79,14 +79,6 @@ kept_from p (x ∷ xs) z there = elim (cases_Bool (p x)) [
       let past : filter p (x ∷ xs) ≡ filter p xs = rw out refl in
       let rest = kept_from p xs z (subst (λ l. Contains l z) past there) in ((suc rest.0.0, omega (arith, rest.0.1), rest.0.2), rest.1)
 ]
-
--- the table in a place
-table_there : (db : Database) (place : ℕ) (table : PlainTable) → table_at db place ≡ Some table → slice_get db place ≡ Some (Some table)
-table_there db place table is = go (slice_get db place) is
-  where
-    go : (found : Option (Option PlainTable)) → option_and_then (λ t. t) found ≡ Some table → found ≡ Some (Some table)
-    go None none = absurd (cc)
-    go (Some found) some = ap Some some
 
 -- ---- pages that nothing changed
 
@@ -138,10 +130,11 @@ pub record HasQueryRows {S : Type 0} (g : Ghosts S) (shape : Shape) (s : S) (def
 
 module _ {S : Type 0} (g : Ghosts S) (shape : Shape) (s : S) (def : TableDef) (owners : List Kind) (forests : TableForests) (st : StandsTable g shape s def owners forests) where
   -- its rows
-  abbrev rows_here : List PlacedRow
+  abbrev pub rows_here : List PlacedRow
   rows_here = rows_in_table shape (pages_of g s) def forests.map
 
-  row_fits : (placed : PlacedRow) → Contains rows_here placed → RowFits def placed.row
+  -- each fits the definition
+  pub row_fits : (placed : PlacedRow) → Contains rows_here placed → RowFits def placed.row
   row_fits placed there =
       let of = flat_contains (rows_in_block shape (pages_of g s) def) (used_blocks forests.map) placed there in
       each_of (λ (p : PlacedRow). RowFits def p.row) (rows_in_block shape (pages_of g s) def of.0) placed
@@ -162,13 +155,10 @@ module _ {S : Type 0} (g : Ghosts S) (shape : Shape) (s : S) (def : TableDef) (o
       }
 
   -- the plain table, whichever database the pages stand for
-  plain_of : (defs : Definitions) (place : ℕ) (db : Database) (table : PlainTable) → AreStored (pages_of g s) defs → def_at defs place ≡ Some def → PagesStandFor shape (pages_of g s) db
+  pub plain_of : (defs : Definitions) (place : ℕ) (db : Database) (table : PlainTable) → AreStored (pages_of g s) defs → def_at defs place ≡ Some def → PagesStandFor shape (pages_of g s) db
       → table_at db place ≡ Some table → IsPlainTable def rows_here table
   plain_of defs place db table stored at stands is =
-      let here : 0 + place ≡ place = omega arith in
-      let holds : HoldsTable shape (pages_of g s) place table =
-      subst (λ u. HoldsTable shape (pages_of g s) u table) here (range_at (HoldsPlace shape (pages_of g s)) 0 16 db place (Some table) stands (table_there db place table is)).1 in
-      plain_here place table (stored_at (pages_of g s) defs place def stored at) holds
+      plain_here place table (stored_at (pages_of g s) defs place def stored at) (table_held shape (pages_of g s) db place table stands is).1
 
   -- the rows that a query takes of it are those of the plain table that qualify
   pub query_rows_of : (pred : Option Pred) (defs : Definitions) (place : ℕ) (db : Database) (table : PlainTable) → AreStored (pages_of g s) defs → def_at defs place ≡ Some def

@@ -1,9 +1,11 @@
--- What the grammar says of a CREATE TABLE that is spelled: its names may be given, and it has columns and dimensions.
+-- What the grammar says of a CREATE TABLE and of a CREATE INDEX that is spelled: its names may be given, and it has columns and
+-- dimensions, or parts.
 use Rattle.std.proofs.Common.{◌≤◌, ℕ, List, [], ◌∷◌, Some, None, subst, inl, inr, length, arith}
 use Rattle.std.specs.Prelude.{Bool, IsTrue, true, false, codes}
 use Rattle.std.specs.List.{AllByRecursion}
 use Rattle.mdc_ast.specs.declared.name.Name.{Name}
 use Rattle.mdc_ast.specs.declared.statement.ColumnText.{ColumnText}
+use Rattle.mdc_ast.specs.declared.statement.KeyText.{KeyText}
 use Rattle.mdc_ast.specs.declared.statement.Stmt.{Stmt}
 use Rattle.mdc_ast.specs.declared.statement.Stmt.TheVariants as stmt
 use Rattle.mdc_ast.specs.Classes.{AnyName, Class, W, closing, comma, fits, is_name, name_in, opening}
@@ -117,9 +119,14 @@ pub record IsTableText (name : Name) (columns : List ColumnText) (dims : List (L
   pub each_given : AreSome (λ column. IsGivenWord column.name) columns
   pub each_some : AreSome (λ dim. 1 ≤ length dim) dims
 
--- so it is of a CREATE TABLE
+-- what is written of a new record index: its name is given, and it has a part
+abbrev pub IsIndexText : Name → List KeyText → Type 0
+IsIndexText name parts = IsGivenWord name × (1 ≤ length parts)
+
+-- so it is of a CREATE TABLE and of a CREATE INDEX
 abbrev pub IfTable : Stmt → Type 0
 IfTable (stmt.CreateTable name columns dims) = IsTableText name columns dims
+IfTable (stmt.CreateIndex name unique table parts) = IsIndexText name parts
 IfTable statement = Unit {0}
 
 says_name : Says (Spelled name_rule) IsGivenWord
@@ -165,7 +172,11 @@ other f rule none = says_map Anything IfTable f (Spelled rule) (keeps rule) (λ 
 says_index : (unique : Bool) → Says (Spelled (index_rule unique)) IfTable
 unfolding index_rule
 says_index unique =
-    says_then IfTable (W (codes "INDEX")) _ (other (make_index unique) (pair (pair name_rule (behind (W (codes "ON")) name_rule)) (listed key_rule)) (λ p. tt))
+    let parts : Says (Listed (Spelled key_rule)) (AreSome Anything) = says_listed Anything (Spelled key_rule) (keeps key_rule) in
+    let names = says_both IsGivenWord Anything (Spelled name_rule) (Spelled (behind (W (codes "ON")) name_rule)) says_name (keeps (behind (W (codes "ON")) name_rule)) in
+    says_then IfTable (W (codes "INDEX")) _
+    (says_map (λ p. (IsGivenWord p.0.0 × Anything p.0.1) × AreSome Anything p.1) IfTable (make_index unique) _
+    (says_both (λ q. IsGivenWord q.0 × Anything q.1) (AreSome Anything) _ _ names parts) (λ p h. (h.0.0, h.1.0)))
 
 says_create : Says (Spelled create_rule) IfTable
 unfolding create_rule

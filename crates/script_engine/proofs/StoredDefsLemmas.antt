@@ -1,11 +1,10 @@
 -- Statements on the definitions of a catalog, and on those of the plain database that its pages stand for, which have no roots.
-use Rattle.std.proofs.Common.{◌≡◌, ◌+◌, ℕ, zero, suc, List, [], ◌∷◌, ◌++◌, ◌∙◌, refl, sym, ap, subst, map}
+use Rattle.std.proofs.Common.{◌≡◌, ◌+◌, ℕ, zero, suc, List, [], ◌∷◌, ◌++◌, ◌∙◌, refl, sym, ap, subst}
 use Rattle.std.specs.Prelude.{◌&&◌, Option, Some, None, cond, flat_map, is_none, is_some, option_and_then, option_map, true, false, if◌then◌else◌}
 use Rattle.store_api.specs.declared.shape.Shape.{Shape}
-use Rattle.std.specs.List.{list_all, AllZip, position_from, range_with_len}
+use Rattle.std.specs.List.{AllZip, position_from, range_with_len}
 use Rattle.mdc_ast.specs.declared.bound.Bound.{Bound}
 use Rattle.mdc_ast.specs.declared.definition.ColumnDef.{ColumnDef}
-use Rattle.mdc_ast.specs.declared.definition.IndexDef.{IndexDef}
 use Rattle.mdc_ast.specs.declared.definition.TableDef.{TableDef}
 use Rattle.mdc_ast.specs.declared.name.Name.{Name}
 use Rattle.mdc_ast.specs.declared.reply.Reply.{Reply}
@@ -20,21 +19,19 @@ use Rattle.statement_meaning.specs.Doing.{causes_of_rows, effect}
 use Rattle.statement_meaning.specs.Judged.{column_limits, create_judged, dim_limits, judged_of, long_name}
 use Rattle.statement_meaning.specs.Judging.{Judged, in_order, on_table}
 use Rattle.statement_meaning.specs.Step.{Refused, faults, step, step_by}
-use Rattle.statement_meaning.specs.Built.{are_built, is_built_step, is_built_place, is_empty}
+use Rattle.statement_meaning.specs.Built.{are_built, is_built_step, is_built_place}
 use Rattle.statement_meaning.proofs.DatabaseLemmas.{def_at-defs_of, def_of}
 use Rattle.mdc_ast.proofs.TestsLemmas.{some_is}
 use Rattle.table_page.proofs.TablePageLemmas.{no_blank_table, one_definition}
 use Rattle.table_page.specs.TablePage.{IsTablePageOf}
 use Rattle.table_trees.specs.ToldPages.{PageList}
-use Rattle.mdc_sound.specs.StandsForDatabase.{HoldsPlace, PagesStandFor, rootless, rootless_index}
+use Rattle.mdc_sound.specs.StandsForDatabase.{HoldsPlace, PagesStandFor, rootless}
 use Rattle.mdc_sound.specs.TablePages.{table_page_at}
 use Rattle.binder.specs.Saying.{first_of}
 use Rattle.row_checks.specs.Executing.{done}
 use Rattle.stored_catalog.specs.StoredDefinitions.{AreStored, IsStoredPlace}
-
--- the definitions of the plain database are those of the catalog, without roots
-abbrev pub without_roots : Definitions → Definitions
-without_roots defs = map (option_map rootless) defs
+use Rattle.script_engine.proofs.RootlessIndexesLemmas.{create_index-without_roots, drop_index-without_roots}
+pub use Rattle.script_engine.proofs.RootlessIndexesLemmas.{without_roots}
 
 -- ---- place by place
 
@@ -120,6 +117,8 @@ same-without_roots defs (stmt.CreateTable name columns dims) = (
       ∙ ap (created_with name columns dims (place_of defs name)) (empty_from-without_roots 0 defs),
   refl,
 )
+same-without_roots defs (stmt.CreateIndex name unique table parts) = (create_index-without_roots defs table name parts (def_named-without_roots defs table), bound_on-without_roots defs table _)
+same-without_roots defs (stmt.DropIndex name) = drop_index-without_roots defs name
 same-without_roots defs (stmt.DropTable name) = (on_table-without_roots defs name _, bound_on-without_roots defs name _)
 same-without_roots defs (stmt.Insert name listed tuples) = (on_table-without_roots defs name _, bound_on-without_roots defs name _)
 same-without_roots defs (stmt.Update name sets pred) = (on_table-without_roots defs name _, bound_on-without_roots defs name _)
@@ -153,11 +152,7 @@ same_bound db defs statement same = ap (λ d. bound_of d statement) same ∙ (sa
 -- a definition without roots is of a built form where it is with them
 built-rootless : (place : Option TableDef) → is_built_place (option_map rootless place) ≡ is_built_place place
 built-rootless None = refl
-built-rootless (Some def) = ap (λ b. list_all (λ column. is_none column.made) def.columns && b) (empty_too def.indexes)
-  where
-    empty_too : (indexes : List IndexDef) → is_empty (map rootless_index indexes) ≡ is_empty indexes
-    empty_too [] = refl
-    empty_too (index ∷ indexes) = refl
+built-rootless (Some def) = refl
 
 built-without_roots : (defs : Definitions) → are_built (without_roots defs) ≡ are_built defs
 built-without_roots [] = refl

@@ -1,12 +1,9 @@
 -- What the grammar says of a CREATE TABLE: its names are given names, and it has columns and dimensions.
-use Rattle.std.proofs.Common.{◌≡◌, ◌≤◌, ◌<◌, ◌∙◌, ℕ, List, [], ◌∷◌, ◌++◌, refl, sym, subst, length, map, arith}
-use Rattle.std.specs.Prelude.{◌==◌, ◌||◌, Bool, IsTrue, Option, Some, None, flat_map, nat_le, nat_lt, true, false}
-use Rattle.std.specs.List.{AllByRecursion, IsDistinct, list_all, list_any}
-use Rattle.std.proofs.Math.Dec.{eqb}
-use Rattle.std.proofs.lemmas.Bool.Decides.{nat_tests}
+use Rattle.std.proofs.Common.{◌≡◌, ◌≤◌, ◌∙◌, ℕ, List, [], ◌∷◌, ◌++◌, refl, sym, subst, length, map, arith}
+use Rattle.std.specs.Prelude.{◌==◌, IsTrue, Option, Some, None, flat_map, nat_le, nat_lt, true}
+use Rattle.std.specs.List.{AllByRecursion, list_all, list_any}
 use Rattle.std.proofs.lemmas.List.{length-map}
 use Rattle.std.proofs.lemmas.List.Folds.{list_any-append}
-use Rattle.std.proofs.lemmas.Map.Steps.{length-le_from_distinct_below}
 use Rattle.mdc_ast.specs.declared.bound.Bound.{Bound}
 use Rattle.mdc_ast.specs.declared.bound.Bound.TheVariants as bound
 use Rattle.mdc_ast.specs.declared.definition.ColumnDef.{ColumnDef}
@@ -15,8 +12,8 @@ use Rattle.mdc_ast.specs.declared.statement.ColumnText.{ColumnText}
 use Rattle.mdc_ast.specs.declared.statement.Stmt.{Stmt}
 use Rattle.mdc_ast.specs.declared.statement.Stmt.TheVariants as stmt
 use Rattle.mdc_ast.specs.Reading.{IsItemOf, Item, Statement, nesting_limit}
-use Rattle.statement_meaning.specs.Binding.{bound_column, bound_of, bound_on, bound_select, bound_set, bound_table, bound_tuple, bound_where, columns_of, on_place, text_place}
-use Rattle.mdc_ast.specs.Definitions.{AllPlacesDiffer, Definitions, IsShort, are_there, def_named, is_good_type, is_short_key, place_of}
+use Rattle.statement_meaning.specs.Binding.{bound_column, bound_drop_index, bound_of, bound_on, bound_select, bound_set, bound_table, bound_tuple, bound_where, columns_of, on_place, text_place}
+use Rattle.mdc_ast.specs.Definitions.{AllPlacesDiffer, Definitions, IsShort, are_there, def_named, index_place_of, is_good_type, is_short_key, place_of}
 use Rattle.mdc_ast.specs.ValidDatabase.{IsValidDef}
 use Rattle.statement_meaning.specs.Judged.{create_judged, judged_of, targets}
 use Rattle.statement_meaning.specs.Judging.{in_order}
@@ -25,19 +22,14 @@ use Rattle.statement_meaning.proofs.CreateLemmas.{created_is_valid, none_made}
 use Rattle.mdc_ast.proofs.DefinitionsLemmas.{neither}
 use Rattle.statement_meaning.proofs.KeepingLemmas.{IsFaultless, is_faultless}
 use Rattle.mdc_ast.proofs.TestsLemmas.{and_true, both, lt_is_true}
-use Rattle.mdc_ast.specs.TableLimits.{is_given_name, is_good_column, is_good_dimension}
+use Rattle.mdc_ast.specs.TableLimits.{is_good_column, is_good_dimension}
 use Rattle.script_engine.specs.Defining.{IsNewIfMade, IsPlainNewDef}
 use Rattle.script_engine.specs.Held.{IsWritten}
 use Rattle.script_engine.proofs.KeptWordsLemmas.{tokens_kept}
 use Rattle.script_engine.proofs.SpelledTablesLemmas.{IfTable, IsGivenWord, IsTableText, spelled_table}
+use Rattle.script_engine.proofs.WrittenIndexesLemmas.{few_places, given_name, le_is_true, made_index}
 
 -- ---- columns
-
-le_is_true : (i n : ℕ) → i ≤ n → IsTrue (nat_le i n)
-le_is_true i n le = grind (arith, nat_tests, le)
-
-given_name : (name : Name) → IsGivenWord name → IsShort name → IsTrue (is_given_name name)
-given_name name given short = and_true _ _ (and_true _ _ given.0 given.1) (le_is_true (length name.0) 18 short)
 
 good_columns : (all : List ColumnDef) (columns : List ColumnText) → AllByRecursion (λ column. IsGivenWord column.name) columns → AllByRecursion (λ column. IsShort column.name) (map bound_column columns)
     → IsTrue (list_all (λ column. is_good_type column.ty) (map bound_column columns)) → IsTrue (list_all (is_good_column all) (map bound_column columns))
@@ -54,38 +46,6 @@ differ_front (x ∷ xs) ys h =
     let rest : AllPlacesDiffer xs × AllPlacesDiffer ys = differ_front xs ys h.1 in
     let first = neither (list_any (λ other. other == x) xs) (list_any (λ other. other == x) ys) (sym (list_any-append (λ other. other == x) xs ys) ∙ h.0) in
     ((first.0, rest.0), rest.1)
-
-turned : (a b : ℕ) → (a == b) ≡ false → eqb b a ≡ false
-turned a b h = grind (arith, nat_tests, h)
-
-apart_from : (x : ℕ) (xs : List ℕ) → list_any (λ other. other == x) xs ≡ false → AllByRecursion (λ y. eqb x y ≡ false) xs
-apart_from x [] h = tt
-apart_from x (y ∷ xs) h =
-    let parts = neither (y == x) (list_any (λ other. other == x) xs) h in
-    (turned y x parts.0, apart_from x xs parts.1)
-
-distinct : (places : List ℕ) → AllPlacesDiffer places → IsDistinct eqb places
-unfolding IsDistinct
-distinct [] h = tt
-distinct (place ∷ places) h = (apart_from place places h.0, distinct places h.1)
-
-is_below : (n : ℕ) (places : List ℕ) (q : ℕ) → IsTrue (list_all (λ place. nat_lt place n) places) → list_any (eqb q) places ≡ true → q < n
-is_below n [] q all h = cc
-is_below n (place ∷ places) q all h =
-    let parts : IsTrue (nat_lt place n) × IsTrue (list_all (λ place. nat_lt place n) places) = both _ _ all in
-    by_first (eqb q place) refl parts.0 (is_below n places q parts.1) h
-  where
-    same : eqb q place ≡ true → IsTrue (nat_lt place n) → q < n
-    same e lt = grind (arith, nat_tests, e, lt)
-
-    by_first : (b : Bool) → eqb q place ≡ b → IsTrue (nat_lt place n) → (list_any (eqb q) places ≡ true → q < n) → (b || list_any (eqb q) places) ≡ true → q < n
-    by_first true e lt behind h = same e lt
-    by_first false e lt behind h = behind h
-
--- places that differ are no more than there are columns
-few_places : (columns : List ColumnDef) (places : List ℕ) → IsTrue (are_there columns places) → AllPlacesDiffer places → length places ≤ length columns
-few_places columns places there differ =
-    length-le_from_distinct_below places (length columns) (distinct places differ) (λ q h. is_below (length columns) places q there h)
 
 good_dims : (columns : List ColumnDef) (place : Name → ℕ) (dims : List (List Name)) → length columns ≤ 16 → AllByRecursion (λ dim. 1 ≤ length dim) dims
     → IsTrue (list_all (are_there columns) (map (λ dim. map place dim) dims)) → IsTrue (list_all (is_short_key columns) (map (λ dim. map place dim) dims))
@@ -156,10 +116,18 @@ none_made_on defs name bind each = by_place (place_of defs name)
     by_place None = tt
     by_place (Some place) = each place
 
--- a CREATE TABLE that is written, is built, and against which nothing is said, makes a new table
+-- a CREATE TABLE or a CREATE INDEX that is written, is built, and against which nothing is said, makes a new table or index
 pub written_is_new : (defs : Definitions) (stmt : Stmt) → IsWritten stmt → is_built_step stmt ≡ true → in_order (judged_of defs stmt) ≡ [] → IsNewIfMade (bound_of defs stmt)
 written_is_new defs (stmt.CreateTable name columns dims) written built said =
     new_table defs name columns dims (item_table written.0 (Statement (stmt.CreateTable name columns dims)) (stmt.CreateTable name columns dims) written.1 refl) said
+written_is_new defs (stmt.CreateIndex name unique table parts) written built said =
+    made_index defs name table unique parts (place_of defs table) (def_named defs table)
+    (item_table written.0 (Statement (stmt.CreateIndex name unique table parts)) (stmt.CreateIndex name unique table parts) written.1 refl) said
+written_is_new defs (stmt.DropIndex name) written built said = none_dropped (index_place_of defs name)
+  where
+    none_dropped : (found : Option (ℕ × ℕ)) → IsNewIfMade (bound_drop_index found)
+    none_dropped None = tt
+    none_dropped (Some (table, index)) = tt
 written_is_new defs (stmt.DropTable name) written built said = none_made_on defs name (λ place columns. bound.DropTable place) (λ place. tt)
 written_is_new defs (stmt.Insert name listed tuples) written built said = none_made_on defs name (λ place columns. bound.Insert place (map (bound_tuple columns (targets columns listed)) tuples)) (λ place. tt)
 written_is_new defs (stmt.Update name sets pred) written built said = none_made_on defs name (λ place columns. bound.Update place (map (bound_set columns) sets) (bound_where columns pred)) (λ place. tt)

@@ -1,7 +1,6 @@
 -- Damage that is exact: the first rule that the pages of a store break, and the lowest page that breaks it.
 use Rattle.std.specs.Prelude.{◌≡◌, IsTrue, IfOk, IsErrOf, Result, Err, None, false}
 use Rattle.mdc_words.specs.Faults.{CountsFault}
-use Rattle.mdc_ast.specs.ValidDatabase.{AllDefsDiffer}
 use Rattle.mdc_ast.specs.Definitions.{Definitions}
 use Rattle.store_api.specs.Works.{Steady}
 use Rattle.store_api.specs.declared.fault.Damage.{Damage}
@@ -11,6 +10,7 @@ use Rattle.mdc_sound.specs.Breaks.{IsFirstBreak}
 use Rattle.mdc_sound.specs.SoundDatabase.{IsSoundDatabase}
 use Rattle.stored_catalog.specs.StoredDefinitions.{AreStored, AreWithinLimits}
 use Rattle.script_engine.specs.Committing.{IsUncounted}
+use Rattle.script_engine.specs.Ready.{DoNamesDiffer}
 use Rattle.script_engine.specs.declared.engine.Engine.{Engine}
 use Rattle.script_engine.specs.declared.stop.EngineStop.{EngineStop}
 use Rattle.script_engine.specs.declared.stop.EngineStop.TheVariants.{Damaged, Device, Output}
@@ -41,7 +41,7 @@ pub record LoadsExactly {S : Type 0} (g : Ghosts S) (shape : Shape) (result : Re
   pub reads : OnlyReads g old new
   pub stored : IfOk result (λ catalog. IsTrue (g.state old).is_told → AreStored (g.state old).work catalog)
   pub limits : IfOk result AreWithinLimits
-  pub names : IfOk result AllDefsDiffer
+  pub names : IfOk result DoNamesDiffer
   pub device : CountsFault (IsErrOf result Device) (g.disk_faults old) (g.disk_faults new)
   pub damaged : (damage : Damage) → result ≡ Err (Damaged damage) → IsTrue (g.state old).is_told → (shape : Shape) → IsSoundDatabase shape (g.state old).work → ⊥
   pub exact : NamesExactly g shape result new

@@ -3,6 +3,7 @@ use Rattle.std.specs.Prelude.{◌≡◌, ◌<◌, ℕ, Bool, true, false, List, 
 use Rattle.mdc_ast.specs.declared.bound.Bound.{Bound}
 use Rattle.mdc_ast.specs.declared.bound.Bound.TheVariants as bound
 use Rattle.mdc_ast.specs.declared.bound.BoundSet.{BoundSet}
+use Rattle.mdc_ast.specs.declared.definition.IndexDef.{IndexDef}
 use Rattle.mdc_ast.specs.declared.definition.TableDef.{TableDef}
 use Rattle.mdc_ast.specs.declared.predicate.Pred.{Pred}
 use Rattle.mdc_ast.specs.declared.reply.Outcome.{Outcome}
@@ -20,7 +21,7 @@ use Rattle.store_api.specs.declared.pages.Pages.{Ghosts}
 use Rattle.store_api.specs.declared.shape.Shape.{Shape}
 use Rattle.table_trees.specs.SpaceChanges.{MakesChanges, SpaceChange}
 use Rattle.table_trees.specs.ToldPages.{PageList}
-use Rattle.mdc_sound.specs.RunningFull.{CreateRunsFull, InsertRunsFull, ShowsTableSpots, UpdateRunsFull}
+use Rattle.mdc_sound.specs.RunningFull.{CreateRunsFull, IndexRunsFull, InsertRunsFull, ShowsTableSpots, UpdateRunsFull}
 use Rattle.mdc_sound.specs.Placing.{Spot, block_slot_count, rows_from_spot}
 use Rattle.mdc_sound.specs.StandingTable.{pages_of}
 use Rattle.mdc_sound.specs.StandsForDatabase.{PagesStandFor}
@@ -120,6 +121,7 @@ is_reading statement = false
 -- a statement runs full on these pages
 pub data StatementRunsFull (shape : Shape) (work : PageList) (defs : Definitions) : Bound → Type 0 where
   create : {def : TableDef} → CreateRunsFull shape work def → StatementRunsFull shape work defs (bound.CreateTable def)
+  index : {place : ℕ} {index : IndexDef} (def : TableDef) → def_at defs place ≡ Some def → IndexRunsFull shape work def index → StatementRunsFull shape work defs (bound.CreateIndex place index)
   insert : {place : ℕ} {tuples : _} (def : TableDef) → def_at defs place ≡ Some def → InsertRunsFull shape work def (numbered def.next tuples)
       → StatementRunsFull shape work defs (bound.Insert place tuples)
   update : {place : ℕ} {sets : List BoundSet} {pred : Option Pred} (def : TableDef) (spots : List Spot) (rows : List PlacedRow) → def_at defs place ≡ Some def

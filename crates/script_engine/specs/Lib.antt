@@ -14,6 +14,7 @@ pub mod Ready
 pub mod Reloading
 pub mod Resting
 pub mod Serving
+pub mod SetKeys
 pub mod Stops
 pub mod Trying
 pub mod Turns

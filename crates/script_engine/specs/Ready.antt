@@ -1,8 +1,8 @@
 -- When the pages of a store and what is kept of them in memory are ready for a statement.
-use Rattle.std.specs.Prelude.{◌≡◌, true, ℕ, IsTrue, List, Some, OnErr, Result}
+use Rattle.std.specs.Prelude.{◌≡◌, true, ℕ, IsTrue, List, Some, OnErr, Result, flat_map}
 use Rattle.mdc_ast.specs.declared.definition.TableDef.{TableDef}
-use Rattle.mdc_ast.specs.ValidDatabase.{AreValidDefs}
-use Rattle.mdc_ast.specs.Definitions.{Definitions, def_at}
+use Rattle.mdc_ast.specs.ValidDatabase.{AllDefsDiffer, AreValidDefs, index_names}
+use Rattle.mdc_ast.specs.Definitions.{AllNamesDiffer, Definitions, def_at}
 use Rattle.statement_meaning.specs.Built.{are_built}
 use Rattle.store_api.specs.declared.fault.Damage.{Damage}
 use Rattle.store_api.specs.declared.pages.Pages.{Ghosts}
@@ -16,7 +16,11 @@ use Rattle.stored_catalog.specs.StoredDefinitions.{AreStored, AreWithinLimits}
 use Rattle.script_engine.specs.NotedRooms.{rooms_at}
 use Rattle.script_engine.specs.declared.tables.Tables.{Tables}
 
--- the definitions may be written to their pages, and are of forms that are built: no generated columns, and no record indexes
+-- no two tables are of one name, and no two record indexes
+abbrev pub DoNamesDiffer : Definitions → Type 0
+DoNamesDiffer defs = AllDefsDiffer defs × AllNamesDiffer (flat_map index_names defs)
+
+-- the definitions may be written to their pages, and are of forms that are built: no generated columns
 pub record AreServed (defs : Definitions) : Type 0 where
   pub limits : AreWithinLimits defs
   pub valid : AreValidDefs defs

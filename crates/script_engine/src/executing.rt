@@ -18,6 +18,7 @@ ghost use Rattle.script_engine.specs.Ready.{AreServed, BreaksDatabase, IsReady, 
 
 use crate::defining::{create, remove};
 use crate::deleting::delete;
+use crate::indexing::{create_index, drop_index};
 use crate::inserting::insert;
 use crate::querying::query;
 use crate::tables::Tables;
@@ -123,6 +124,8 @@ fn carry_out<P: Pages>(
 {
     match bound {
         Bound::CreateTable(def) => create(tables, pages, def),
+        Bound::CreateIndex { table, index } => create_index(tables, pages, table, index),
+        Bound::DropIndex { table, index } => Ok(drop_index(tables, pages, table, index)?),
         Bound::DropTable(table) => Ok(remove(tables, pages, table)?),
         Bound::Insert { table, rows } => insert(tables, pages, table, rows),
         Bound::Update { table, sets, pred } => {
@@ -130,9 +133,7 @@ fn carry_out<P: Pages>(
         }
         Bound::Delete { table, pred } => Ok(delete(tables, pages, table, &pred)?),
         Bound::Query(select) => Ok(query(tables, pages, &select)?),
-        Bound::CreateIndex { .. }
-        | Bound::DropIndex { .. }
-        | Bound::Explain(_)
+        Bound::Explain(_)
         | Bound::SetRollout(_)
         | Bound::SetPlan(_)
         | Bound::SetPace(_)

@@ -1,12 +1,14 @@
 // The rows of an INSERT.
-ghost use Rattle.std.specs.Prelude.{◌≡◌, ◌≤◌, ◌<◌, ◌-◌, [], List, false, length, Some, IfOk, IfErr, IfSome, OnErr, OnOk, Ok};
+ghost use Rattle.std.specs.Prelude.{◌≡◌, ◌≤◌, ◌-◌, [], List, false, length, Some, None, IfOk, IfErr, IfSome, OnErr, OnOk, Ok};
 ghost use Rattle.mdc_ast.specs.declared.bound.Bound.TheVariants as bound;
 ghost use Rattle.mdc_ast.specs.declared.definition.TableDef.{TableDef};
 ghost use Rattle.mdc_ast.specs.declared.refusal.Refusal.{Refusal};
-ghost use Rattle.statement_meaning.specs.Cause.{NumbersUsedUp, refusal_of};
+ghost use Rattle.statement_meaning.specs.Cause.{refusal_of};
+ghost use Rattle.statement_meaning.specs.Doing.{used_up};
 ghost use Rattle.mdc_ast.specs.Definitions.{def_at, with_def};
 ghost use Rattle.mdc_ast.specs.Database.{appended, numbered};
 ghost use Rattle.store_api.specs.Causes.{store_fault_in};
+ghost use Rattle.store_api.specs.Frame.{NoPage};
 ghost use Rattle.store_api.specs.RunsOverPages.{RunsOverPages};
 ghost use Rattle.extent_map.specs.Damages.{IfFull, store_part_of};
 ghost use Rattle.extent_map.specs.declared.kind.Kind.{Kind};
@@ -18,10 +20,11 @@ ghost use Rattle.row_checks.specs.Served.{IsDefined, MayPut};
 ghost use Rattle.statement_rows.specs.RowsAndSpace.{PutsRowsBy};
 ghost use Rattle.statement_rows.specs.RowsOfStatement.{AnyPage, ChangesRowsOf, IsReadyBetween};
 ghost use Rattle.script_engine.specs.Doing.{DoesStatement, LeavesAll, RunsFullAlone};
-ghost use Rattle.script_engine.specs.Inserting.{first_refusal, numbered_on, tuple_causes};
+ghost use Rattle.script_engine.specs.Inserting.{IsSaidFirst, SaysNothing, first_refusal, numbered_on, tuple_causes};
 ghost use Rattle.script_engine.specs.NotedRooms.{KeepsOtherRooms, rooms_at};
 ghost use Rattle.script_engine.specs.Ready.{AreServed, BreaksDatabase, IsReady, KeepsServed};
 
+use crate::keys::judge_new;
 use crate::tables::Tables;
 use extent_map::SpaceFault;
 use mdc_ast::{Outcome, Refusal, Reply};
@@ -49,18 +52,27 @@ pub fn insert<P: Pages>(
     ensures keeps { KeepsServed result tables.old tables.new }
     ensures runs { RunsOverPages P.Pages AnyPage AnyPage (BreaksDatabase P.Pages pages.old tables.old) pages.old pages.new (store_fault_in store_part_of result) }
 {
-    if let Some(refusal) = judge(tables, table, tuples.as_slice())? {
+    if let Some(refusal) = judge(tables, pages, table, tuples.as_slice())? {
         return Ok(Outcome::Refused(refusal));
     }
     put(tables, pages, table, tuples)
 }
 
-/// Why these tuples may not go into a table, if they may not.
-fn judge(tables: &Tables, table: u8, tuples: &[List<Value>]) -> Result<Option<Refusal>, SpaceFault>
-    requires place { table < 16 }
+/// Why these tuples may not go into a table, if they may not: nulls, then equal keys, then row numbers. It changes no page.
+fn judge<P: Pages>(
+    tables: &Tables,
+    pages: &mut P,
+    table: u8,
+    tuples: &[List<Value>],
+) -> Result<Option<Refusal>, SpaceFault>
+    requires served { AreServed tables.now.catalog }
     requires there { IsDefined (def_at tables.now.catalog table) (MayPut tuples.now) }
-    ensures judges { IfOk result (λ refusal. IfSome (def_at tables.now.catalog table) (λ def. first_refusal (tuple_causes def tuples.now) ≡ refusal)) }
-    ensures memory { IfErr result (λ fault. fault ≡ SpaceFault.Store StoreFault.Memory) }
+    requires going { (P.state pages.old).ended ≡ false }
+    ensures judges { IfOk result (λ refusal. IsSaidFirst P.Pages pages.old tables.now (bound.Insert table tuples.now) refusal) }
+    ensures unsaid { IfOk result (λ refusal. refusal ≡ None → IfSome (def_at tables.now.catalog table) (λ def. tuple_causes def tuples.now ≡ [])) }
+    ensures same { (P.state pages.new).work ≡ (P.state pages.old).work }
+    ensures not_full { IfErr result (λ fault. IfFull fault (λ cap. ⊥)) }
+    ensures runs { RunsOverPages P.Pages NoPage AnyPage (BreaksDatabase P.Pages pages.old tables.now) pages.old pages.new (store_fault_in store_part_of result) }
 {
     let Some(def) = tables.catalog.def(table) else {
         unreachable!()
@@ -68,10 +80,10 @@ fn judge(tables: &Tables, table: u8, tuples: &[List<Value>]) -> Result<Option<Re
     if let Some(misfit) = first_null_in(def.columns.as_slice(), tuples) {
         return null_there(tables.alloc, misfit);
     }
-    if def.next.checked_add(tuples.len() as u64).is_none() {
-        return used_up(tables.alloc, def.next);
+    if let Some(refusal) = judge_new(tables.alloc, def, pages, tuples)? {
+        return Ok(Some(refusal));
     }
-    Ok(None)
+    Ok(judge_numbers(tables.alloc, def.next, tuples.len() as u64))
 }
 
 /// The refusal of a tuple with a null where none may be.
@@ -82,11 +94,14 @@ fn null_there(alloc: Global, misfit: Misfit<'_>) -> Result<Option<Refusal>, Spac
     Ok(Some(unfit(alloc, misfit)?))
 }
 
-/// The refusal of tuples for which there are no row numbers left.
-fn used_up(alloc: Global, next: u64) -> Result<Option<Refusal>, SpaceFault>
-    ensures { result ≡ Ok (Some (refusal_of (NumbersUsedUp next))) }
+/// The refusal of so many tuples, where there are too few row numbers left.
+fn judge_numbers(alloc: Global, next: u64, count: u64) -> Option<Refusal>
+    ensures { result ≡ first_refusal (used_up next count) }
 {
-    Ok(Some(numbers_used_up(alloc, next)))
+    if next.checked_add(count).is_none() {
+        return Some(numbers_used_up(alloc, next));
+    }
+    None
 }
 
 /// Puts tuples against which nothing is said into a table, and writes its next row number.
@@ -99,6 +114,7 @@ fn put<P: Pages>(
     requires served { AreServed tables.old.catalog }
     requires there { IsDefined (def_at tables.old.catalog table) (MayPut tuples) }
     requires unsaid { IfSome (def_at tables.old.catalog table) (λ def. tuple_causes def tuples ≡ []) }
+    requires silent { SaysNothing P.Pages pages.old tables.old (bound.Insert table tuples) }
     requires going { (P.state pages.old).ended ≡ false }
     ensures does { IfOk result (λ outcome. IsReady P.Pages pages.old tables.old → DoesStatement P.Pages pages.old pages.new tables.old tables.new (bound.Insert table tuples) outcome) }
     ensures done { (refusal : Refusal) → result ≡ Ok (Outcome.Refused refusal) → ⊥ }

@@ -9,9 +9,9 @@
 //! stand for such lists, by the law here, and for no others, by one of `mdc_sound`: what is promised for each database that pages
 //! stand for is promised for just one.
 //!
-//! It stands on `binder` for what a statement means, on `table_scan`, `statement_rows` and `stored_catalog` for what it does to
-//! pages, on `mdc_table` for the count of a table's blocks, on `row_checks` for what is said against its rows, and on `file_check` for
-//! which rule pages break.
+//! It stands on `binder` for what a statement means, on `table_scan`, `statement_rows`, `index_building` and `stored_catalog` for what
+//! it does to pages, on `mdc_table` for the count of a table's blocks, on `row_checks` and `unique_keys` for what is said against its
+//! rows, and on `file_check` for which rule pages break.
 #![tactic(auto)]
 
 mod committing;
@@ -20,11 +20,14 @@ mod defining;
 mod deleting;
 mod engine;
 mod executing;
+mod indexing;
 mod inserting;
+mod keys;
 mod laws;
 mod listing;
 mod opening;
 mod querying;
+mod set_keys;
 mod stop;
 mod table_rooms;
 mod tables;

@@ -94,7 +94,7 @@ fn engine_on<S: Store>(alloc: Global, store: S, shape: Shape, catalog: Catalog) 
     }
 }
 
-/// Whether no table has a generated column or a record index.
+/// Whether no table has a generated column.
 pub(crate) fn are_served(catalog: &Catalog) -> bool
     requires limits { AreWithinLimits catalog.now }
     ensures { result ≡ are_built catalog.now }
@@ -107,12 +107,12 @@ pub(crate) fn are_served(catalog: &Catalog) -> bool
     true
 }
 
-/// Whether a table, where there is one, has no generated column and no record index.
+/// Whether a table, where there is one, has no generated column.
 fn is_served(def: Option<&TableDef>) -> bool
     ensures { MatchOption def.entry (result ≡ true) (λ def. result ≡ is_built_place (Some def.now)) }
 {
     match def {
-        Some(def) => has_no_generated(def.columns.as_slice()) && def.indexes.len() == 0,
+        Some(def) => has_no_generated(def.columns.as_slice()),
         None => true,
     }
 }

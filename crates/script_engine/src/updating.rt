@@ -1,6 +1,6 @@
 // The rows of an UPDATE.
 ghost use Rattle.std.specs.Prelude.{◌≡◌, ◌<◌, List, None, flat_map, is_none, length, map, option_map, false, IfOk, IfErr, IsTrue, Ok};
-ghost use Rattle.std.specs.List.{list_all};
+ghost use Rattle.std.specs.List.{AllByRecursion, list_all};
 ghost use Rattle.mdc_ast.specs.declared.bound.Bound.TheVariants as bound;
 ghost use Rattle.mdc_ast.specs.declared.refusal.Refusal.{Refusal};
 ghost use Rattle.mdc_ast.specs.declared.row.Row.{Row};
@@ -25,12 +25,16 @@ ghost use Rattle.row_checks.specs.Served.{IsDefined, MaySet};
 ghost use Rattle.statement_rows.specs.RowsOfStatement.{AnyPage};
 ghost use Rattle.statement_rows.specs.Turning.{turned_row};
 ghost use Rattle.table_scan.specs.FoundRows.{FindsRows};
+ghost use Rattle.unique_keys.specs.Clashes.{BreaksClash, IsClashPage};
 ghost use Rattle.script_engine.specs.Doing.{DoesStatement, LeavesAll, RunsFullAlone};
 ghost use Rattle.script_engine.specs.Ready.{AreServed, BreaksDatabase, IsNoStandingTable, IsReady, KeepsServed};
+ghost use Rattle.script_engine.specs.SetKeys.{JudgesSet};
 
+use crate::keys::judge_turned;
+use crate::set_keys::sets_unique;
 use crate::tables::Tables;
 use extent_map::{SpaceFault, first_page};
-use mdc_ast::{BoundSet, ColumnDef, Outcome, Pred, Reply, Row, TableDef};
+use mdc_ast::{BoundSet, ColumnDef, Outcome, Pred, Refusal, Reply, Row, TableDef};
 use mdc_table::Hit;
 use mdc_values::{List, Memory};
 use row_checks::{Misfit, changed_values, first_misfit, unfit};
@@ -70,6 +74,9 @@ pub fn update<P: Pages>(
     let Ok(turned) = turned_rows(tables.alloc, sets, hits) else {
         return Err(SpaceFault::Store(StoreFault::Memory));
     };
+    if let Some(refusal) = judge_keys(tables.alloc, def, pages, sets, turned.as_slice())? {
+        return Ok(Outcome::Refused(refusal));
+    }
     change_rows(
         tables.alloc,
         def,
@@ -178,4 +185,26 @@ fn turned_rows(alloc: Global, sets: &[BoundSet], hits: Vec<Hit>) -> Result<Vec<T
         turned.push(Turned { hit, row })?;
     }
     Ok(turned)
+}
+
+// Why the rows may not become these: two rows would have equal keys. None is looked for where no column of a UNIQUE index is set.
+fn judge_keys<P: Pages>(
+    alloc: Global,
+    def: &TableDef,
+    pages: &mut P,
+    sets: &[BoundSet],
+    turned: &[Turned],
+) -> Result<Option<Refusal>, SpaceFault>
+    requires defined { IsTableDef def.now.number def.now }
+    requires fit { AllByRecursion (λ values. IsTrue (fits_all def.now.columns values)) (map (λ one. one.row.values) turned.now) }
+    requires going { (P.state pages.old).ended ≡ false }
+    ensures judges { IfOk result (λ refusal. JudgesSet P.Pages pages.old def.now sets.now turned.now refusal) }
+    ensures same { (P.state pages.new).work ≡ (P.state pages.old).work }
+    ensures not_full { IfErr result (λ fault. IfFull fault (λ cap. ⊥)) }
+    ensures runs { RunsOverPages P.Pages NoPage (IsClashPage P.Pages pages.old def.now) (BreaksClash P.Pages pages.old def.now) pages.old pages.new (store_fault_in store_part_of result) }
+{
+    if !sets_unique(def.indexes.as_slice(), sets) {
+        return Ok(None);
+    }
+    judge_turned(alloc, def, pages, turned)
 }

@@ -5,7 +5,7 @@ ghost use Rattle.script_session.specs.Written.{IsReadWritten};
 
 use crate::mixed::{Drawn, script_of};
 use crate::reference::answer_plainly;
-use crate::scripts::{reply_to, run_on, source_of};
+use crate::scripts::{reply_to, run_on, sound_on, source_of};
 use crate::stores::{engine_on, fresh_store};
 use crate::written::{next_written, reader};
 use mdc_outside::Source;
@@ -18,13 +18,14 @@ use store_api::Store;
 // How many extents the stores have: none of the scripts runs full.
 const MOST: u32 = 512;
 
-// How many statements were answered, how many of them were refused, how many for the state of the transaction, and how many were
-// answered alike before the first that wasn't.
+// How many statements were answered, how many of them were refused, how many for the state of the transaction and how many for a
+// key, and how many were answered alike before the first that wasn't.
 #[derive(Clone, Copy, Debug, PartialEq, Eq)]
 struct Compared {
     statements: u32,
     refused: u32,
     not_now: u32,
+    keys: u32,
     alike: u32,
 }
 
@@ -40,6 +41,9 @@ impl Compared {
         }
         if expected.starts_with(b"ERROR 12") {
             self.not_now = self.not_now.saturating_add(1);
+        }
+        if expected.starts_with(b"ERROR 40") {
+            self.keys = self.keys.saturating_add(1);
         }
     }
 }
@@ -81,6 +85,7 @@ fn compare_all<I: Source, S: Store>(
         statements: 0,
         refused: 0,
         not_now: 0,
+        keys: 0,
         alike: 0,
     };
     while let Some(read) = next_written(&mut statements, source)? {
@@ -108,22 +113,13 @@ LIST BLOCKS Q;
 SELECT * FROM P;
 SELECT * FROM Q";
 
-// The replies at the end on a store.
-fn end_on<S: Store + Drop>(alloc: Global, store: S) -> Result<Vec<u8>, Fail>
-    requires going { (S.state store).ended ≡ false }
-    requires unmarked { (S.state store).marked ≡ None }
-{
-    let (said, _) = run_on(alloc, store, MOST, END)?;
-    Ok(said)
-}
-
-// The same once a script was run there.
+// The replies at the end on a store that a script was run on, whose pages are sound then.
 fn end_of<S: Store + Drop>(alloc: Global, store: S, script: &[u8]) -> Result<Vec<u8>, Fail>
     requires going { (S.state store).ended ≡ false }
     requires unmarked { (S.state store).marked ≡ None }
 {
     let (_, left) = run_on(alloc, store, MOST, script)?;
-    end_on(alloc, left)
+    sound_on(alloc, left, MOST, END)
 }
 
 // Compares both engines on the script that is drawn for a seed, and says whether its end is that of the statements that were kept, each
@@ -140,7 +136,7 @@ fn compare_drawn<S: Store + Drop>(
     requires other_unmarked { (S.state other).marked ≡ None }
 {
     let (compared, left) = compare(alloc, store, drawn.script.as_slice())?;
-    let end = end_on(alloc, left)?;
+    let end = sound_on(alloc, left, MOST, END)?;
     let kept = end_of(alloc, other, drawn.kept.as_slice())?;
     Ok((compared, end.as_slice() == kept.as_slice()))
 }
@@ -156,13 +152,16 @@ fn compare_seed(alloc: Global, seed: u64) -> Result<(Compared, bool), Fail> {
 
 #[test]
 fn both_engines_answer_alike(rt: HostRuntime) -> Result<(), Fail> {
+    let mut keys: u32 = 0;
     for seed in 5..13 {
         let (compared, is_kept) = compare_seed(rt.alloc(), seed)?;
-        assert_eq!(rt; compared.statements, 155, "with the seed {seed}");
-        assert_eq!(rt; compared.alike, 155, "with the seed {seed}");
+        assert_eq!(rt; compared.statements, 158, "with the seed {seed}");
+        assert_eq!(rt; compared.alike, 158, "with the seed {seed}");
         assert!(rt; is_kept, "with the seed {seed}");
         assert!(rt; compared.refused < 100, "with the seed {seed}");
         assert!(rt; compared.not_now > 0, "with the seed {seed}");
+        keys = keys.saturating_add(compared.keys);
     }
+    assert!(rt; keys > 20, "{keys} refused for their keys");
     Ok(())
 }

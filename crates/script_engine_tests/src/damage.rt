@@ -8,11 +8,13 @@ use store_api::Damage;
 
 // T is the table of docs/FORMAT.md's picture, with a column more. Its block map is page 18, its index of A and R page 19, that of A
 // page 20 and that of R page 21; block 2 has the pages 22 and 23, block 3 24 and 25, block 4 26 and 27. A row has 22 bytes, and a
-// page 184 slots. U has the pages 28 to 30 and its rows in the blocks 7 and 8, of which the first has the pages 32 and 33.
+// page 184 slots. U has the pages 28 to 30 and its rows in the blocks 7 and 8, of which the first has the pages 32 and 33. The record
+// index V of T is page 31.
 const TABLES: &[u8] = b"CREATE TABLE T (A INTEGER, R INTEGER, B INTEGER) ORGANIZE BY (A, R);
 INSERT INTO T VALUES (1, 7, 10), (2, 7, 20), (1, 7, 30), (NULL, 9, 40);
 CREATE TABLE U (X INTEGER) ORGANIZE BY (X);
-INSERT INTO U VALUES (1), (2)";
+INSERT INTO U VALUES (1), (2);
+CREATE INDEX V ON T (B)";
 
 // On the broken tables a statement stops at the damage that is named. It comes behind one that is answered, and its own reply isn't
 // told.
@@ -239,6 +241,62 @@ fn an_index_of_cells_that_is_no_node_stops(rt: HostRuntime) -> Result<(), Fail> 
     let read = b"SELECT B FROM T; LIST BLOCKS T";
     let said = b"B\n10\n20\n30\n40\n4 ROWS\nUSED 3 FREE 0 PENDING 0\n";
     goes_on(&rt, &broken, read, said)?;
+    Ok(())
+}
+
+// The first entry of V, that of the row with B = 10, has its B at 17 of page 31. Under another key the row is read all the same, and goes
+// once V is gone.
+const BESIDE_AN_ENTRY: &[u8] = b"SELECT B FROM T WHERE B < 20;
+UPDATE T SET B = B WHERE A = 1;
+INSERT INTO T VALUES (1, 7, 11);
+DELETE FROM T WHERE B = 30;
+CREATE UNIQUE INDEX W ON T (A, R, B DESC);
+DROP INDEX V;
+DELETE FROM T WHERE B = 10;
+SELECT B FROM T";
+
+const BESIDE_AN_ENTRY_SAID: &[u8] = b"B
+10
+1 ROWS
+2 ROWS UPDATED
+1 ROWS INSERTED
+1 ROWS DELETED
+OK
+OK
+1 ROWS DELETED
+B
+20
+40
+11
+3 ROWS
+";
+
+#[test]
+fn a_record_index_without_the_entry_of_a_row_stops_what_takes_it_out(
+    rt: HostRuntime,
+) -> Result<(), Fail> {
+    let moved = [bytes_at(31, 20, b"\x0b")];
+    let named = damage_of(11, 31);
+    stops(&rt, &moved, b"DELETE FROM T WHERE B = 10", named)?;
+    stops(&rt, &moved, b"UPDATE T SET B = 5 WHERE A = 1", named)?;
+    stops(&rt, &moved, b"UPDATE T SET R = 8 WHERE R = 7", named)?;
+    goes_on(&rt, &moved, BESIDE_AN_ENTRY, BESIDE_AN_ENTRY_SAID)?;
+    Ok(())
+}
+
+#[test]
+fn a_record_index_that_is_no_node_stops(rt: HostRuntime) -> Result<(), Fail> {
+    let broken = [bytes_at(31, 0, b"\x4d")];
+    let named = damage_of(4, 31);
+    stops(&rt, &broken, b"INSERT INTO T VALUES (1, 7, 50)", named)?;
+    stops(&rt, &broken, b"UPDATE T SET B = 0 WHERE A = 1", named)?;
+    stops(&rt, &broken, b"DELETE FROM T WHERE A = 1", named)?;
+    stops(&rt, &broken, b"DROP INDEX V", named)?;
+    stops(&rt, &broken, b"DROP TABLE T", named)?;
+    let other =
+        b"UPDATE T SET B = B; CREATE INDEX W ON T (B); SELECT B FROM T WHERE A < 3; LIST BLOCKS T";
+    let said = b"4 ROWS UPDATED\nOK\nB\n10\n20\n30\n3 ROWS\nUSED 3 FREE 0 PENDING 0\n";
+    goes_on(&rt, &broken, other, said)?;
     Ok(())
 }
 

@@ -159,7 +159,6 @@ fn what_is_refused_changes_nothing(rt: HostRuntime) -> Result<(), Fail> {
 
 const NOT_BUILT: &[u8] = b"CREATE TABLE T (A INTEGER, B INTEGER) ORGANIZE BY (A);
 CREATE TABLE G (A INTEGER, B INTEGER GENERATED ALWAYS AS (A/10)) ORGANIZE BY (B);
-CREATE UNIQUE INDEX V ON T (B);
 EXPLAIN SELECT * FROM T;
 CLEAN 1 STEPS;
 REORG TABLE T RECLAIM EXTENTS;
@@ -168,7 +167,6 @@ INSERT INTO T VALUES (1, 2);
 SELECT * FROM T";
 
 const NOT_BUILT_SAID: &[u8] = b"OK
-ERROR 14 not built
 ERROR 14 not built
 ERROR 14 not built
 ERROR 14 not built
@@ -219,5 +217,63 @@ ERROR 21 no table U
 #[test]
 fn blocks_are_counted(rt: HostRuntime) -> Result<(), Fail> {
     assert_eq!(rt; said(rt.alloc(), BLOCKS)?.as_slice(), BLOCKS_SAID);
+    Ok(())
+}
+
+const INDEXED: &[u8] = b"CREATE TABLE P (A INTEGER, B INTEGER) ORGANIZE BY (A);
+CREATE INDEX V ON P (B DESC, A);
+CREATE INDEX V ON P (A);
+DROP INDEX V;
+DROP INDEX V;
+CREATE UNIQUE INDEX U ON P (B);
+INSERT INTO P VALUES (1, 1), (1, 2);
+UPDATE P SET B = 3 - B;
+UPDATE P SET B = 7;
+SELECT * FROM P;
+INSERT INTO P VALUES (5, NULL), (6, NULL);
+INSERT INTO P VALUES (5, NULL);
+INSERT INTO P VALUES (6, NULL);
+INSERT INTO P VALUES (6, 1);
+DELETE FROM P WHERE B = 1;
+INSERT INTO P VALUES (1, 1);
+CREATE UNIQUE INDEX W ON P (A);
+DELETE FROM P WHERE A = 1;
+CREATE UNIQUE INDEX W ON P (A);
+UPDATE P SET A = A + 1;
+INSERT INTO P VALUES (6, 8);
+DROP TABLE P;
+DROP INDEX U";
+
+const INDEXED_SAID: &[u8] = b"OK
+OK
+ERROR 24 index V exists
+OK
+ERROR 25 no index V
+OK
+2 ROWS INSERTED
+2 ROWS UPDATED
+ERROR 40 duplicate key in U
+A|B
+1|2
+1|1
+2 ROWS
+ERROR 40 duplicate key in U
+1 ROWS INSERTED
+ERROR 40 duplicate key in U
+ERROR 40 duplicate key in U
+1 ROWS DELETED
+1 ROWS INSERTED
+ERROR 40 duplicate key in W
+2 ROWS DELETED
+OK
+1 ROWS UPDATED
+ERROR 40 duplicate key in W
+OK
+ERROR 25 no index U
+";
+
+#[test]
+fn keys_are_judged_as_the_statement_leaves_rows(rt: HostRuntime) -> Result<(), Fail> {
+    assert_eq!(rt; said(rt.alloc(), INDEXED)?.as_slice(), INDEXED_SAID);
     Ok(())
 }

@@ -4,7 +4,8 @@
 //! It promises what a caller of the engine has to know of each statement that a reader gives (`next_written`), and lends a store, an
 //! engine and patches of pages to tests of other crates.
 //! Each scenario is a function over any store, so that its proof knows no concrete one. What is answered is written by hand from
-//! docs/SQL.md, or is what the plain engine answers; which damage is named is worked out by hand from docs/FORMAT.md.
+//! docs/SQL.md, or is what the plain engine answers; which damage is named, and at which claim a file is full, is worked out by hand
+//! from docs/FORMAT.md. Behind scripts that are drawn or run full the check finds sound pages.
 #![tactic(auto)]
 
 #[cfg(test)]
@@ -19,6 +20,8 @@ mod dice;
 mod files;
 #[cfg(test)]
 mod full;
+#[cfg(test)]
+mod full_indexes;
 #[cfg(test)]
 mod language;
 #[cfg(test)]

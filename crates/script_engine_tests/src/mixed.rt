@@ -1,5 +1,5 @@
-// Scripts of statements that are drawn at random: two tables of one form of columns, with other dimensions, in transactions and
-// outside.
+// Scripts of statements that are drawn at random: two tables of one form of columns, with other dimensions and record indexes, in
+// transactions and outside.
 use crate::dice::Dice;
 use std::alloc::Global;
 use std::test::Fail;
@@ -7,6 +7,9 @@ use std::test::Fail;
 const BEGINNING: &[u8] =
     b"CREATE TABLE P (A INTEGER, B CHAR(4), C BIGINT, D DATE, E CHAR(8)) ORGANIZE BY (A);
 CREATE TABLE Q (A INTEGER NOT NULL, B CHAR(4), C BIGINT, D DATE, E CHAR(8)) ORGANIZE BY (D, (B, A));
+CREATE INDEX I ON P (B DESC, A);
+CREATE UNIQUE INDEX U ON P (C DESC, A);
+CREATE INDEX J ON Q (D, E DESC);
 ";
 
 const END: &[u8] = b"SELECT * FROM P;
@@ -16,12 +19,17 @@ SELECT * FROM Q;
 static CONTROLS: [&[u8]; 3] = [b"BEGIN", b"COMMIT WORK", b"ROLLBACK"];
 
 // Definitions, of which most are refused: the tables are mostly there.
-static DEFINITIONS: [&[u8]; 5] = [
+static DEFINITIONS: [&[u8]; 10] = [
     b"CREATE TABLE P (A INTEGER, B CHAR(4), C BIGINT, D DATE, E CHAR(8)) ORGANIZE BY (A)",
     b"CREATE TABLE Q (A INTEGER NOT NULL, B CHAR(4), C BIGINT, D DATE, E CHAR(8)) ORGANIZE BY (D, (B, A))",
     b"CREATE TABLE R (A INTEGER, A DATE) ORGANIZE BY (A)",
     b"DROP TABLE Q",
     b"CREATE TABLE Q (A INTEGER, B CHAR(4), C BIGINT, D DATE, E CHAR(8)) ORGANIZE BY (A, B, C, E)",
+    b"CREATE UNIQUE INDEX K ON Q (E, B DESC, A, C)",
+    b"DROP INDEX I",
+    b"CREATE INDEX I ON P (E, C DESC)",
+    b"DROP INDEX U",
+    b"CREATE UNIQUE INDEX U ON P (A, C DESC)",
 ];
 
 static TABLES: [&[u8]; 2] = [b"P", b"Q"];

@@ -39,9 +39,12 @@ fn said_on<S: Store + Drop>(
     Ok((said_first, said_second))
 }
 
+// An index has the name of a table.
 const FIRST: &[u8] = b"CREATE TABLE T (A INTEGER, B CHAR(9)) ORGANIZE BY (A);
 CREATE TABLE U (X BIGINT NOT NULL) ORGANIZE BY (X);
 INSERT INTO T VALUES (1, 'one'), (NULL, 'none');
+CREATE UNIQUE INDEX U ON T (B DESC);
+CREATE INDEX V ON U (X);
 INSERT INTO U VALUES (-9223372036854775808);
 DELETE FROM T WHERE A = 1;
 INSERT INTO T VALUES (2, NULL)";
@@ -49,6 +52,8 @@ INSERT INTO T VALUES (2, NULL)";
 const FIRST_SAID: &[u8] = b"OK
 OK
 2 ROWS INSERTED
+OK
+OK
 1 ROWS INSERTED
 1 ROWS DELETED
 1 ROWS INSERTED
@@ -56,8 +61,17 @@ OK
 
 const SECOND: &[u8] = b"SELECT * FROM T;
 SELECT * FROM U;
-INSERT INTO T VALUES (3, 'x');
-SELECT A FROM T";
+INSERT INTO T VALUES (3, 'x'), (4, 'none');
+INSERT INTO T VALUES (4, NULL);
+CREATE INDEX V ON T (A);
+INSERT INTO T VALUES (3, 'x'), (4, 'one');
+UPDATE T SET B = 'y' WHERE B IS NULL;
+DROP INDEX V;
+DROP INDEX U;
+INSERT INTO T VALUES (4, 'none');
+CREATE UNIQUE INDEX V ON T (A, B);
+DELETE FROM U;
+SELECT * FROM T";
 
 const SECOND_SAID: &[u8] = b"A|B
 NULL|'none'
@@ -66,12 +80,23 @@ NULL|'none'
 X
 -9223372036854775808
 1 ROWS
+ERROR 40 duplicate key in U
+ERROR 40 duplicate key in U
+ERROR 24 index V exists
+2 ROWS INSERTED
+1 ROWS UPDATED
+OK
+OK
 1 ROWS INSERTED
-A
-NULL
-2
-3
-3 ROWS
+OK
+1 ROWS DELETED
+A|B
+NULL|'none'
+2|'y'
+3|'x'
+4|'one'
+4|'none'
+5 ROWS
 ";
 
 // Each statement was committed, so the pages of the last commit are those that the first engine left.
@@ -92,12 +117,14 @@ INSERT INTO T VALUES (1);
 BEGIN;
 INSERT INTO T VALUES (2);
 CREATE TABLE U (A INTEGER) ORGANIZE BY (A);
+CREATE UNIQUE INDEX V ON T (A);
 SELECT * FROM T";
 
 const LEFT_OPEN_SAID: &[u8] = b"OK
 1 ROWS INSERTED
 OK
 1 ROWS INSERTED
+OK
 OK
 A
 1
@@ -107,13 +134,15 @@ A
 
 const CLOSED: &[u8] = b"COMMIT;
 SELECT * FROM T;
-SELECT * FROM U";
+SELECT * FROM U;
+DROP INDEX V";
 
 const CLOSED_SAID: &[u8] = b"ERROR 12 transaction state
 A
 1
 1 ROWS
 ERROR 21 no table U
+ERROR 25 no index V
 ";
 
 #[test]

@@ -8,13 +8,15 @@ ghost use Rattle.script_session.specs.Written.{IsReadWritten};
 use crate::stores::engine_on;
 use crate::written::{next_written, reader};
 use answer_text::outcome_bytes;
+use entry_tree_tests::extents_of;
+use file_check::{Verdict, check};
 use mdc_ast::Outcome;
 use mdc_outside::{MemSource, Source};
 use script_engine::{Engine, EngineStop};
 use sql_reader::Read;
 use std::alloc::Global;
 use std::test::Fail;
-use store_api::{Damage, Store};
+use store_api::{Damage, Pages, Store};
 
 /// How many extents the tests have where they don't run full.
 pub const AMPLE: u32 = 64;
@@ -147,4 +149,29 @@ pub fn run_on<S: Store + Drop>(
         return Err("damage where there is none")?;
     }
     Ok((came.said, store))
+}
+
+/// What an engine on a store answers to a script, in which it meets no damage, and behind which the pages are sound.
+pub fn sound_on<S: Store + Drop>(
+    alloc: Global,
+    store: S,
+    cap: u32,
+    script: &[u8],
+) -> Result<Vec<u8>, Fail>
+    requires going { (S.state store).ended ≡ false }
+    requires unmarked { (S.state store).marked ≡ None }
+{
+    let (said, left) = run_on(alloc, store, cap, script)?;
+    let mut store = left;
+    if !are_sound(alloc, &mut store, cap)? {
+        return Err(Fail::new("pages that aren't sound"));
+    }
+    Ok(said)
+}
+
+// Whether the pages of a database of at most so many extents are sound.
+fn are_sound<P: Pages>(alloc: Global, pages: &mut P, cap: u32) -> Result<bool, Fail>
+    requires going { (P.state pages.old).ended ≡ false }
+{
+    Ok(check(alloc, extents_of(cap)?, pages)? == Verdict::Sound)
 }

@@ -10,9 +10,10 @@ use Rattle.node_page.specs.Node.{node_of}
 use Rattle.row_page.specs.Row.{column_value, row_in}
 use Rattle.row_page.specs.RowPage.{count_rows, row_page_head, rows_of}
 use Rattle.entry_tree.specs.Forest.Forest.{Leaf, Nil}
-use Rattle.block_map.specs.MapLines.{MapLine, map_lines, used_blocks}
+use Rattle.block_map.specs.MapLines.{MapLine, map_lines}
 use Rattle.table_trees.specs.RowCells.{AreOfOneCell}
 use Rattle.table_trees.specs.ToldPages.{HasTree, PageList}
+use Rattle.mdc_sound.specs.BlockLines.{HasUsedLine, mapped_line}
 use Rattle.mdc_sound.specs.BlockRules.{IsBlockPageSound, IsIdleCountSound, IsOfOneCell, IsUsedCountSound}
 use Rattle.mdc_sound.specs.Breaks.{BreaksRule}
 use Rattle.mdc_sound.specs.EmptyDatabase.{few_extents}
@@ -58,9 +59,9 @@ pub breaks_row : BreaksRule few_extents (with_byte 21 55 5) 7 21
 breaks_row = BreaksRule.row
     2
     def_sales
-    1
+    (mapped_line old_map 1)
     placed_half
-    (shows half_pages def_sales old_map (λ map_tree. Contains (used_blocks map_tree) 1) (still_defined half_pages refl) (mapped_by_21 5 55) (0, omega arith, refl))
+    (shows half_pages def_sales old_map (λ map_tree. HasUsedLine map_tree (mapped_line old_map 1)) (still_defined half_pages refl) (mapped_by_21 5 55) ((0, omega arith, refl), refl))
     (subst (λ rows. Contains rows placed_half) (sym rows_with_half) (0, omega arith, refl))
     five_is_no_half
 
@@ -82,9 +83,9 @@ pub breaks_row_page : BreaksRule few_extents (with_byte 21 5 3) 7 21
 breaks_row_page = BreaksRule.row_page
     2
     def_sales
+    (mapped_line old_map 1)
     1
-    1
-    (shows stated_pages def_sales old_map (λ map_tree. Contains (used_blocks map_tree) 1) (still_defined stated_pages refl) (mapped_by_21 3 5) (0, omega arith, refl))
+    (shows stated_pages def_sales old_map (λ map_tree. HasUsedLine map_tree (mapped_line old_map 1)) (still_defined stated_pages refl) (mapped_by_21 3 5) ((0, omega arith, refl), refl))
     (omega arith)
     not_three
 
@@ -197,6 +198,6 @@ pub breaks_cell : BreaksRule few_extents (with_byte 21 35 8) 9 20
 breaks_cell = BreaksRule.cell
     2
     def_sales
-    1
-    (shows month_pages def_sales old_map (λ map_tree. Contains (used_blocks map_tree) 1) (still_defined month_pages refl) (mapped_by_21 8 35) (0, omega arith, refl))
+    (mapped_line old_map 1)
+    (shows month_pages def_sales old_map (λ map_tree. HasUsedLine map_tree (mapped_line old_map 1)) (still_defined month_pages refl) (mapped_by_21 8 35) ((0, omega arith, refl), refl))
     two_cells

@@ -108,14 +108,11 @@ defs_are = record {
           short_keys = refl;
           short_composite = refl;
           sources = refl;
-          indexes = record {
-            few = omega arith;
-            good = (
-              record { name = refl; some_parts = omega arith; few_parts = omega arith; there = refl; apart = (refl, (refl, tt)); short = refl; root = omega arith },
-              (record { name = refl; some_parts = omega arith; few_parts = omega arith; there = refl; apart = (refl, (refl, tt)); short = refl; root = omega arith }, tt),
-            );
-            differ = (refl, (refl, tt));
-          };
+          few_indexes = omega arith;
+          indexes = (
+            record { short = omega arith; there = refl; apart = (refl, (refl, tt)); short_key = refl },
+            (record { short = omega arith; there = refl; apart = (refl, (refl, tt)); short_key = refl }, tt),
+          );
           few_rows = omega arith;
         },
         (
@@ -137,7 +134,8 @@ defs_are = record {
                 short_keys = refl;
                 short_composite = refl;
                 sources = refl;
-                indexes = record { few = omega arith; good = tt; differ = tt };
+                few_indexes = omega arith;
+                indexes = tt;
                 few_rows = omega arith;
               },
               (tt, (tt, (tt, (tt, (tt, (tt, (tt, (tt, (tt, (tt, tt)))))))))),

@@ -40,7 +40,7 @@ names_differ earlier (column ∷ columns) e =
 
 -- ---- columns
 
-is_short : (name : Name) → long_name name ≡ [] → IsShort name
+pub is_short : (name : Name) → long_name name ≡ [] → IsShort name
 is_short name e = at_most (length name.0) (none_if _ _ e)
   where
     at_most : (n : ℕ) → nat_lt 18 n ≡ false → n ≤ 18
@@ -96,10 +96,10 @@ few_dims i columns all (dim ∷ dims) le e =
     below i le is = grind (arith, nat_tests, le, is)
 
 -- each of the names is a column's
-abbrev are_among : List Name → List Name → Bool
+abbrev pub are_among : List Name → List Name → Bool
 are_among columns names = list_all (λ name. is_among name columns) names
 
-all_among : (columns earlier names : List Name) → listed_names columns earlier names ≡ [] → IsTrue (are_among columns names)
+pub all_among : (columns earlier names : List Name) → listed_names columns earlier names ≡ [] → IsTrue (are_among columns names)
 all_among columns earlier [] e = refl
 all_among columns earlier (name ∷ names) e =
     let rest = none_of_both (cause_if (not (is_among name columns)) (NoColumn name) ++ cause_if (is_among name earlier) (ColumnTwice name)) (listed_names columns (name ∷ earlier) names) e in
@@ -137,7 +137,7 @@ is_named name (column ∷ columns) i h = by_cases (is_same name column.name) ref
 text_place-k : (name : Name) (columns : List ColumnText) (found : IsNamed name columns 0) → text_place columns name ≡ found.k
 text_place-k name columns found = ap (λ place. unwrap_or place 0) found.placed ∙ omega arith
 
-within : {X : Type 0} (xs : List X) (i : ℕ) (x : X) → slice_get xs i ≡ Some x → i < length xs
+pub within : {X : Type 0} (xs : List X) (i : ℕ) (x : X) → slice_get xs i ≡ Some x → i < length xs
 within [] i x e = cc
 within (y ∷ xs) zero x e = omega arith
 within (y ∷ xs) (suc i) x e = omega (arith, within xs i x e)
@@ -167,7 +167,7 @@ places_flat columns (dim ∷ dims) = ap (λ rest. map (text_place columns) dim +
 
 -- ---- no column twice
 
-bytes_eq_is : (xs ys : List ℕ) → IsTrue (bytes_eq xs ys) → xs ≡ ys
+pub bytes_eq_is : (xs ys : List ℕ) → IsTrue (bytes_eq xs ys) → xs ≡ ys
 bytes_eq_is [] [] h = refl
 bytes_eq_is [] (y ∷ ys) h = cc
 bytes_eq_is (x ∷ xs) [] h = cc
@@ -206,20 +206,22 @@ place_apart columns a b h k differ = by_cases (text_place columns b == text_plac
         let same : first.column ≡ second.column = some_is first.column second.column (sym first.at ∙ ap (slice_get columns) (sym (one_place e)) ∙ second.at) in
         absurd (false≢true (sym differ ∙ same_column a b first.column second.column first.same second.same same))
 
-apart_places : (columns : List ColumnText) (x : Name) (earlier names : List Name) → IsTrue (is_among x (text_names columns)) → ((c : Name) → is_among c earlier ≡ false → is_same c x ≡ false) → listed_names (text_names columns) earlier names ≡ [] → list_any (λ other. other == text_place columns x) (map (text_place columns) names) ≡ false
-apart_places columns x earlier [] there not_same e = refl
-apart_places columns x earlier (name ∷ names) there not_same e =
-    let rest = none_of_both (cause_if (not (is_among name (text_names columns))) (NoColumn name) ++ cause_if (is_among name earlier) (ColumnTwice name)) (listed_names (text_names columns) (name ∷ earlier) names) e in
-    let first = none_of_both (cause_if (not (is_among name (text_names columns))) (NoColumn name)) (cause_if (is_among name earlier) (ColumnTwice name)) rest.0 in
-    let apart_here : (text_place columns name == text_place columns x) ≡ false = place_apart columns x name there (none_if_not _ _ first.0) (is_same-sym x name ∙ not_same name (none_if _ _ first.1)) in
-    rw apart_here (apart_places columns x (name ∷ earlier) names there (λ c is. not_same c (neither (is_same c name) (is_among c earlier) is).1) rest.1)
+-- names of which one stands twice nowhere have places of which none does, where names that aren't the same have places that aren't
+module _ (columns : List Name) (place : Name → ℕ) (apart : (a b : Name) → IsTrue (is_among a columns) → IsTrue (is_among b columns) → is_same a b ≡ false → (place b == place a) ≡ false) where
+  apart_places : (x : Name) (earlier names : List Name) → IsTrue (is_among x columns) → ((c : Name) → is_among c earlier ≡ false → is_same c x ≡ false) → listed_names columns earlier names ≡ [] → list_any (λ other. other == place x) (map place names) ≡ false
+  apart_places x earlier [] there not_same e = refl
+  apart_places x earlier (name ∷ names) there not_same e =
+      let rest = none_of_both (cause_if (not (is_among name columns)) (NoColumn name) ++ cause_if (is_among name earlier) (ColumnTwice name)) (listed_names columns (name ∷ earlier) names) e in
+      let first = none_of_both (cause_if (not (is_among name columns)) (NoColumn name)) (cause_if (is_among name earlier) (ColumnTwice name)) rest.0 in
+      let apart_here : (place name == place x) ≡ false = apart x name there (none_if_not _ _ first.0) (is_same-sym x name ∙ not_same name (none_if _ _ first.1)) in
+      rw apart_here (apart_places x (name ∷ earlier) names there (λ c is. not_same c (neither (is_same c name) (is_among c earlier) is).1) rest.1)
 
-places_differ : (columns : List ColumnText) (earlier names : List Name) → listed_names (text_names columns) earlier names ≡ [] → AllPlacesDiffer (map (text_place columns) names)
-places_differ columns earlier [] e = tt
-places_differ columns earlier (name ∷ names) e =
-    let rest = none_of_both (cause_if (not (is_among name (text_names columns))) (NoColumn name) ++ cause_if (is_among name earlier) (ColumnTwice name)) (listed_names (text_names columns) (name ∷ earlier) names) e in
-    let first = none_of_both (cause_if (not (is_among name (text_names columns))) (NoColumn name)) (cause_if (is_among name earlier) (ColumnTwice name)) rest.0 in
-    (apart_places columns name (name ∷ earlier) names (none_if_not _ _ first.0) (λ c is. (neither (is_same c name) (is_among c earlier) is).0) rest.1, places_differ columns (name ∷ earlier) names rest.1)
+  pub places_differ : (earlier names : List Name) → listed_names columns earlier names ≡ [] → AllPlacesDiffer (map place names)
+  places_differ earlier [] e = tt
+  places_differ earlier (name ∷ names) e =
+      let rest = none_of_both (cause_if (not (is_among name columns)) (NoColumn name) ++ cause_if (is_among name earlier) (ColumnTwice name)) (listed_names columns (name ∷ earlier) names) e in
+      let first = none_of_both (cause_if (not (is_among name columns)) (NoColumn name)) (cause_if (is_among name earlier) (ColumnTwice name)) rest.0 in
+      (apart_places name (name ∷ earlier) names (none_if_not _ _ first.0) (λ c is. (neither (is_same c name) (is_among c earlier) is).0) rest.1, places_differ (name ∷ earlier) names rest.1)
 
 -- ---- keys
 
@@ -282,10 +284,11 @@ created_is_valid defs name columns dims place named limited =
       narrow = rw (column_types-map columns) within.narrow;
       few_dims = rw (length-map (λ dim. map (text_place columns) dim) dims) (omega (arith, few_dims 0 columns flat dims (omega arith) rest.1));
       dims_there = dims_there columns dims (all_among (text_names columns) [] flat names.1);
-      dims_apart = subst AllPlacesDiffer (sym (places_flat columns dims)) (places_differ columns [] flat names.1);
+      dims_apart = subst AllPlacesDiffer (sym (places_flat columns dims)) (places_differ (text_names columns) (text_place columns) (place_apart columns) [] flat names.1);
       short_keys = keys.0;
       short_composite = subst (λ places. IsTrue (is_short_key (map bound_column columns) places)) (sym (places_flat columns dims)) (short_key columns flat (all_among (text_names columns) [] flat names.1) keys.1);
       sources = sources (map bound_column columns) columns;
-      indexes = record { few = omega arith; good = tt; differ = tt };
+      few_indexes = omega arith;
+      indexes = tt;
       few_rows = omega arith;
     }

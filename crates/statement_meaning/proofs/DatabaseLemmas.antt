@@ -1,13 +1,14 @@
 -- A valid database is valid once one of its places holds another table, or none.
 use Rattle.std.proofs.Common.{true, ◌≡◌, ℕ, zero, suc, ◌+◌, [], ◌∷◌, refl, ap, subst, ◌∙◌, arith}
-use Rattle.std.specs.Prelude.{Option, Some, None, option_map, slice_set}
+use Rattle.std.specs.Prelude.{Option, Some, None, flat_map, option_map, slice_set}
 use Rattle.std.specs.List.{AllByRecursion}
 use Rattle.mdc_ast.specs.declared.definition.TableDef.{TableDef}
-use Rattle.mdc_ast.specs.ValidDatabase.{AreValidRows, IsValidTable, AreValidFrom, IsValidDef, IsValidPlace}
+use Rattle.mdc_ast.specs.ValidDatabase.{AreValidRows, IsValidTable, AreValidFrom, IsValidDef, IsValidPlace, index_names}
 use Rattle.mdc_ast.specs.Database.{Database, PlainTable, changed_at, defs_of, table_at, with_place}
-use Rattle.mdc_ast.specs.Definitions.{Definitions, def_at}
+use Rattle.mdc_ast.specs.Definitions.{AllNamesDiffer, Definitions, def_at}
 use Rattle.statement_meaning.specs.Built.{IsBuiltDatabase, are_built, is_built_place}
-use Rattle.statement_meaning.proofs.BuiltLemmas.{built_at, built_put, index_names_differ}
+use Rattle.statement_meaning.proofs.BuiltLemmas.{built_at, built_put}
+use Rattle.statement_meaning.proofs.IndexNamesLemmas.{IsThinner, names_put}
 use Rattle.mdc_ast.proofs.DefinitionsLemmas.{IsFreeBut, own_name, put_keeps_defs}
 use Rattle.mdc_ast.proofs.TestsLemmas.{some_is}
 
@@ -27,12 +28,12 @@ rows_put (table ∷ db) (suc place) new valid is = (valid.0, rows_put db place n
 
 -- another table of a built form, or none, in a place
 pub with_place_keeps : (db : Database) (place : ℕ) (new : Option PlainTable) → IsBuiltDatabase db → is_built_place (def_of new) ≡ true → IsValidPlace place (def_of new) → AreValidRows new
-    → IsFreeBut (defs_of db) place (def_of new) → IsBuiltDatabase (with_place db place new)
-with_place_keeps db place new was is def rows free =
+    → IsFreeBut (defs_of db) place (def_of new) → AllNamesDiffer (flat_map index_names (slice_set (defs_of db) place (def_of new))) → IsBuiltDatabase (with_place db place new)
+with_place_keeps db place new was is def rows free names =
     let built : are_built (slice_set (defs_of db) place (def_of new)) ≡ true = built_put (defs_of db) place (def_of new) was.built is in
     record {
       valid = record {
-        defs = rw (defs_of-with_place db place new) (put_keeps_defs (defs_of db) place (def_of new) was.valid.defs def free (index_names_differ (slice_set (defs_of db) place (def_of new)) built));
+        defs = rw (defs_of-with_place db place new) (put_keeps_defs (defs_of db) place (def_of new) was.valid.defs def free names);
         tables = rows_put db place new was.valid.tables rows;
       };
       built = rw (defs_of-with_place db place new) built;
@@ -85,9 +86,27 @@ changed_at-none (None ∷ db) zero change at = refl
 changed_at-none (Some t ∷ db) zero change at = cc
 changed_at-none (t ∷ db) (suc place) change at = ap (λ rest. t ∷ rest) (changed_at-none db place change at)
 
--- a table of the same name in the place of one
-pub changed_at_keeps : (db : Database) (place : ℕ) (table : PlainTable) (change : PlainTable → PlainTable) → IsBuiltDatabase db → table_at db place ≡ Some table → (change table).def.name ≡ table.def.name
-    → is_built_place (Some (change table).def) ≡ true → IsValidDef place (change table).def → IsValidTable (change table) → IsBuiltDatabase (changed_at db place change)
-changed_at_keeps db place table change was at name is def rows =
+-- what is there, once the table is changed
+pub table_at-changed : (db : Database) (place : ℕ) (table : PlainTable) (change : PlainTable → PlainTable) → table_at db place ≡ Some table → table_at (changed_at db place change) place ≡ Some (change table)
+table_at-changed [] place table change at = absurd (cc at)
+table_at-changed (None ∷ db) zero table change at = absurd (cc at)
+table_at-changed (Some t ∷ db) zero table change at = ap (λ x. Some (change x)) (some_is t table at)
+table_at-changed (t ∷ db) (suc place) table change at = table_at-changed db place table change at
+
+-- the definition there
+pub def_there : (db : Database) (place : ℕ) (table : PlainTable) → table_at db place ≡ Some table → def_at (defs_of db) place ≡ Some table.def
+def_there db place table at = def_at-defs_of db place ∙ ap def_of at
+
+-- a table of the same name in the place of one, where no name of an index stands twice
+pub changed_names_keep : (db : Database) (place : ℕ) (table : PlainTable) (change : PlainTable → PlainTable) → IsBuiltDatabase db → table_at db place ≡ Some table → (change table).def.name ≡ table.def.name
+    → is_built_place (Some (change table).def) ≡ true → IsValidDef place (change table).def → IsValidTable (change table) → AllNamesDiffer (flat_map index_names (slice_set (defs_of db) place (Some (change table).def)))
+    → IsBuiltDatabase (changed_at db place change)
+changed_names_keep db place table change was at name is def rows names =
     rw (changed_at-with_place db place table change at)
-    (with_place_keeps db place (Some (change table)) was is def rows (rw name (own_name (defs_of db) place table.def was.valid.defs.differ (def_at-defs_of db place ∙ ap def_of at))))
+    (with_place_keeps db place (Some (change table)) was is def rows (rw name (own_name (defs_of db) place table.def was.valid.defs.differ (def_there db place table at))) names)
+
+-- a table of the same name, with no more record indexes, in the place of one
+pub changed_at_keeps : (db : Database) (place : ℕ) (table : PlainTable) (change : PlainTable → PlainTable) → IsBuiltDatabase db → table_at db place ≡ Some table → (change table).def.name ≡ table.def.name
+    → IsThinner (index_names (Some (change table).def)) (index_names (Some table.def)) → is_built_place (Some (change table).def) ≡ true → IsValidDef place (change table).def → IsValidTable (change table) → IsBuiltDatabase (changed_at db place change)
+changed_at_keeps db place table change was at name thin is def rows =
+    changed_names_keep db place table change was at name is def rows (names_put (defs_of db) place table.def (change table).def (def_there db place table at) thin was.valid.defs.index_names_differ)

@@ -3,7 +3,10 @@ pub mod BuiltLemmas
 pub mod CausesLemmas
 pub mod CreateLemmas
 pub mod DatabaseLemmas
+pub mod IndexLemmas
+pub mod IndexNamesLemmas
 pub mod KeepingLemmas
+pub mod KeysLemmas
 pub mod LiteralsLemmas
 pub mod RowsLemmas
 pub mod UpdateLemmas

@@ -1,5 +1,5 @@
 -- A statement with its names as places and its literals as values. It means something where nothing is said against it.
-use Rattle.std.specs.Prelude.{ℕ, List, [], ◌∷◌, map, min, if◌then◌else◌, Option, Some, None, option_map, unwrap_or}
+use Rattle.std.specs.Prelude.{ℕ, Bool, List, [], ◌∷◌, map, min, if◌then◌else◌, Option, Some, None, option_map, unwrap_or}
 use Rattle.std.specs.List.{position_from}
 use Rattle.mdc_values.specs.declared.literal.Literal.{Literal}
 use Rattle.mdc_values.specs.declared.value.ColType.{ColType}
@@ -18,6 +18,7 @@ use Rattle.mdc_ast.specs.declared.bound.BoundOut.TheVariants as bound_out
 use Rattle.mdc_ast.specs.declared.bound.BoundSelect.{BoundSelect}
 use Rattle.mdc_ast.specs.declared.bound.BoundSet.{BoundSet}
 use Rattle.mdc_ast.specs.declared.definition.ColumnDef.{ColumnDef}
+use Rattle.mdc_ast.specs.declared.definition.IndexDef.{IndexDef}
 use Rattle.mdc_ast.specs.declared.definition.KeyPart.{KeyPart}
 use Rattle.mdc_ast.specs.declared.definition.TableDef.{TableDef}
 use Rattle.mdc_ast.specs.declared.name.Name.{Name}
@@ -51,7 +52,7 @@ use Rattle.mdc_ast.specs.declared.statement.SetItem.TheVariants.{One, Two}
 use Rattle.mdc_ast.specs.declared.statement.SetText.{SetText}
 use Rattle.mdc_ast.specs.declared.statement.Stmt.{Stmt}
 use Rattle.mdc_ast.specs.declared.statement.Stmt.TheVariants as stmt
-use Rattle.mdc_ast.specs.Definitions.{Definitions, def_named, place_of, column_place, column_named, column_names, is_same}
+use Rattle.mdc_ast.specs.Definitions.{Definitions, def_named, index_place_of, place_of, column_place, column_named, column_names, is_same}
 use Rattle.statement_meaning.specs.Judging.{fit_compared, judged_value}
 use Rattle.statement_meaning.specs.Judged.{targets, type_of}
 
@@ -187,6 +188,17 @@ bound_select place columns select = record {
   first = bound_first select.first;
 }
 
+-- ---- CREATE INDEX and DROP INDEX
+
+-- a record index that isn't in a database yet has no root
+abbrev pub bound_index : List ColumnDef → Name → Bool → List KeyText → IndexDef
+bound_index columns name unique parts = record { name = name; unique = unique; parts = map (bound_key columns) parts; root = 0 }
+
+-- DROP INDEX by the place of the table and the index's own; of one that isn't there it is refused
+abbrev pub bound_drop_index : Option (ℕ × ℕ) → Bound
+bound_drop_index None = bound.Begin
+bound_drop_index (Some (table, index)) = bound.DropIndex table index
+
 -- ---- any statement that is built
 
 -- the columns of a table; where there is no table, none
@@ -206,6 +218,9 @@ bound_on defs name bind = on_place (place_of defs name) (columns_of (def_named d
 -- a statement in places and values; each other form, and one on no table, is BEGIN, which does nothing here
 abbrev pub bound_of : Definitions → Stmt → Bound
 bound_of defs (stmt.CreateTable name columns dims) = bound.CreateTable (bound_table name columns dims)
+bound_of defs (stmt.CreateIndex name unique table parts) =
+    bound_on defs table (λ place columns. bound.CreateIndex place (bound_index columns name unique parts))
+bound_of defs (stmt.DropIndex name) = bound_drop_index (index_place_of defs name)
 bound_of defs (stmt.DropTable name) = bound_on defs name (λ place columns. bound.DropTable place)
 bound_of defs (stmt.Insert name listed tuples) =
     bound_on defs name (λ place columns. bound.Insert place (map (bound_tuple columns (targets columns listed)) tuples))

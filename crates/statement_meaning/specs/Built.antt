@@ -1,20 +1,15 @@
 -- Which forms are built: those of statements, and those of tables (docs/SQL.md, "What is built").
-use Rattle.std.specs.Prelude.{◌≡◌, List, [], ◌∷◌, Bool, true, false, ◌&&◌, is_none, Option, Some, None}
+use Rattle.std.specs.Prelude.{◌≡◌, List, Bool, true, false, is_none, Option, Some, None}
 use Rattle.std.specs.List.{list_all}
 use Rattle.mdc_ast.specs.declared.definition.TableDef.{TableDef}
 use Rattle.mdc_ast.specs.declared.statement.ColumnText.{ColumnText}
 use Rattle.mdc_ast.specs.declared.statement.Stmt.{Stmt}
-use Rattle.mdc_ast.specs.declared.statement.Stmt.TheVariants.{CreateTable, DropTable, Insert, Update, Delete, Query}
+use Rattle.mdc_ast.specs.declared.statement.Stmt.TheVariants.{CreateIndex, CreateTable, DropIndex, DropTable, Insert, Update, Delete, Query}
 use Rattle.mdc_ast.specs.Database.{Database, defs_of}
 use Rattle.mdc_ast.specs.Definitions.{Definitions}
 use Rattle.mdc_ast.specs.ValidDatabase.{AreValidDefs, IsValid}
 
 -- ---- statements
-
--- an empty list, as a clause has that isn't written
-abbrev pub is_empty : {X : Type 0} → List X → Bool
-is_empty [] = true
-is_empty (x ∷ xs) = false
 
 -- no column is generated
 abbrev pub has_no_generated : List ColumnText → Bool
@@ -23,7 +18,9 @@ has_no_generated columns = list_all (λ column. is_none column.made) columns
 -- a form by which a database steps, and which is built; BEGIN, COMMIT, ROLLBACK and LIST BLOCKS, which are, turn a session
 abbrev pub is_built_step : Stmt → Bool
 is_built_step (CreateTable name columns dims) = has_no_generated columns
+is_built_step (CreateIndex name unique table parts) = true
 is_built_step (DropTable name) = true
+is_built_step (DropIndex name) = true
 is_built_step (Insert name listed tuples) = true
 is_built_step (Update name sets pred) = true
 is_built_step (Delete name pred) = true
@@ -32,10 +29,10 @@ is_built_step stmt = false
 
 -- ---- tables
 
--- a place has no table, or one with no generated column and no record index
+-- a place has no table, or one with no generated column
 abbrev pub is_built_place : Option TableDef → Bool
 is_built_place None = true
-is_built_place (Some def) = list_all (λ column. is_none column.made) def.columns && is_empty def.indexes
+is_built_place (Some def) = list_all (λ column. is_none column.made) def.columns
 
 -- so has each place
 abbrev pub are_built : Definitions → Bool

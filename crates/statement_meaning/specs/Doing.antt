@@ -1,5 +1,5 @@
 -- What a bound statement does to the plain database, and what is said against it row by row.
-use Rattle.std.specs.Prelude.{ℕ, ◌+◌, ℤ, ◌+ℤ◌, ◌-ℤ◌, ◌*ℤ◌, List, [], ◌∷◌, ◌++◌, map, flat_map, filter, length, Bool, true, false, not, ◌&&◌, nat_lt, if◌then◌else◌, Option, Some, None, slice_get, slice_set}
+use Rattle.std.specs.Prelude.{ℕ, ◌+◌, ℤ, ◌+ℤ◌, ◌-ℤ◌, ◌*ℤ◌, List, [], ◌∷◌, ◌++◌, map, flat_map, filter, length, Bool, false, not, ◌&&◌, nat_lt, if◌then◌else◌, Option, Some, None, slice_get, slice_set}
 use Rattle.mdc_values.specs.declared.value.ColType.{ColType}
 use Rattle.mdc_values.specs.declared.value.ColType.TheVariants as column
 use Rattle.mdc_values.specs.declared.value.Value.{Value}
@@ -11,10 +11,9 @@ use Rattle.mdc_ast.specs.declared.bound.BoundItem.{BoundItem}
 use Rattle.mdc_ast.specs.declared.bound.BoundItem.TheVariants.{One, Two}
 use Rattle.mdc_ast.specs.declared.bound.BoundOperand.{BoundOperand}
 use Rattle.mdc_ast.specs.declared.bound.BoundOperand.TheVariants as operand
-use Rattle.mdc_ast.specs.declared.bound.BoundOut.{BoundOut}
-use Rattle.mdc_ast.specs.declared.bound.BoundOut.TheVariants as out
 use Rattle.mdc_ast.specs.declared.bound.BoundSet.{BoundSet}
 use Rattle.mdc_ast.specs.declared.definition.ColumnDef.{ColumnDef}
+use Rattle.mdc_ast.specs.declared.definition.IndexDef.{IndexDef}
 use Rattle.mdc_ast.specs.declared.definition.TableDef.{TableDef}
 use Rattle.mdc_ast.specs.declared.predicate.Pred.{Pred}
 use Rattle.mdc_ast.specs.declared.reply.Reply.{Reply}
@@ -23,11 +22,13 @@ use Rattle.mdc_ast.specs.declared.row.Row.{Row}
 use Rattle.mdc_ast.specs.declared.statement.Sign.{Sign}
 use Rattle.mdc_ast.specs.declared.statement.Sign.TheVariants.{Plus, Minus, Times}
 use Rattle.mdc_ast.specs.Truth.{qualifies, value_at}
-use Rattle.statement_meaning.specs.Cause.{Cause, cause_if, Overflow, TextTooLong, NullIn, NumbersUsedUp}
+use Rattle.statement_meaning.specs.Cause.{Cause, cause_if, DuplicateKey, Overflow, TextTooLong, NullIn, NumbersUsedUp}
 use Rattle.mdc_ast.specs.Database.{appended, Database, PlainTable, defs_of, table_at, with_place, changed_at, is_null}
-use Rattle.mdc_ast.specs.Definitions.{empty_place}
+use Rattle.mdc_ast.specs.Definitions.{empty_place, with_index, without_index}
+use Rattle.row_groups.specs.Numbers.{values_of}
 use Rattle.row_groups.specs.Shape.{shape_of}
 use Rattle.statement_meaning.specs.Judging.{of_some}
+use Rattle.statement_meaning.specs.Keys.{have_twins}
 use Rattle.statement_meaning.specs.Queries.{lines_of, sum_causes}
 
 -- ---- rows as they will be
@@ -119,10 +120,6 @@ abbrev pub number_causes : Database → Bound → List Cause
 number_causes db (bound.Insert place tuples) = of_some (table_at db place) (λ table. used_up table.def.next (length tuples))
 number_causes db statement = []
 
--- what is said against a bound statement by the rows: values, then keys (none yet), then row numbers
-abbrev pub causes_of_rows : Database → Bound → List Cause
-causes_of_rows db statement = value_causes db statement ++ number_causes db statement
-
 -- ---- effects
 
 -- a table enters a place with that number, and has no rows
@@ -143,6 +140,14 @@ changed_table sets pred table = record table { rows = map (changed_row sets pred
 abbrev pub left_table : Option Pred → PlainTable → PlainTable
 left_table pred table = record table { rows = filter (λ row. not (qualifies pred row.values)) table.rows }
 
+-- the table with one record index more, behind its others; its rows stay
+abbrev pub indexed_table : IndexDef → PlainTable → PlainTable
+indexed_table index table = record table { def = with_index table.def index }
+
+-- the table without the record index in a place; its rows stay
+abbrev pub unindexed_table : ℕ → PlainTable → PlainTable
+unindexed_table place table = record table { def = without_index table.def place }
+
 -- the columns of the table in a place, and none of an empty place
 abbrev pub columns_at : Option PlainTable → List ColumnDef
 columns_at None = []
@@ -151,6 +156,8 @@ columns_at (Some table) = table.def.columns
 -- the database after a bound statement, and the reply
 abbrev pub effect : Database → Bound → Database × Reply
 effect db (bound.CreateTable def) = (entered db (empty_place (defs_of db)) def, Done)
+effect db (bound.CreateIndex place index) = (changed_at db place (indexed_table index), Done)
+effect db (bound.DropIndex place index) = (changed_at db place (unindexed_table index), Done)
 effect db (bound.DropTable place) = (with_place db place None, Done)
 effect db (bound.Insert place tuples) = (changed_at db place (appended tuples), Inserted (length tuples))
 effect db (bound.Update place sets pred) = (changed_at db place (changed_table sets pred), Updated (length (hits pred (table_at db place))))
@@ -158,3 +165,30 @@ effect db (bound.Delete place pred) = (changed_at db place (left_table pred), De
 effect db (bound.Query select) =
     (db, Lines (lines_of (columns_at (table_at db select.table)) (shape_of select) (hits select.pred (table_at db select.table))))
 effect db statement = (db, Done)
+
+-- ---- keys
+
+-- 40 of a record index: it is UNIQUE, and two of these rows have equal keys
+abbrev pub twin_causes : List (List Value) → IndexDef → List Cause
+twin_causes rows index = cause_if (index.unique && have_twins index.parts rows) (DuplicateKey index.name)
+
+-- 40 of a table, by its record indexes in the order in which they were made
+abbrev pub duplicate_causes : PlainTable → List Cause
+duplicate_causes table = flat_map (twin_causes (values_of table.rows)) table.def.indexes
+
+-- the place of the table that a statement may leave with two rows of equal keys
+abbrev pub keyed_place : Bound → Option ℕ
+keyed_place (bound.Insert place tuples) = Some place
+keyed_place (bound.Update place sets pred) = Some place
+keyed_place (bound.CreateIndex place index) = Some place
+keyed_place statement = None
+
+-- the keys, on the rows as the whole statement leaves them
+abbrev pub key_causes : Database → Bound → List Cause
+key_causes db statement = of_some (keyed_place statement) (λ place. of_some (table_at (effect db statement).0 place) duplicate_causes)
+
+-- ---- what is said by the rows
+
+-- what is said against a bound statement by the rows: values, then keys, then row numbers
+abbrev pub causes_of_rows : Database → Bound → List Cause
+causes_of_rows db statement = value_causes db statement ++ key_causes db statement ++ number_causes db statement

@@ -6,10 +6,12 @@ use Rattle.mdc_values.specs.declared.value.ColType.{ColType}
 use Rattle.mdc_values.specs.declared.value.ColType.TheVariants.{Integer, Bigint, Char, Date}
 use Rattle.mdc_values.specs.Fitting.{fit_of, in_bigint, signed}
 use Rattle.mdc_ast.specs.declared.definition.ColumnDef.{ColumnDef}
+use Rattle.mdc_ast.specs.declared.definition.TableDef.{TableDef}
 use Rattle.mdc_ast.specs.declared.name.Name.{Name}
 use Rattle.mdc_ast.specs.declared.statement.ColumnText.{ColumnText}
 use Rattle.mdc_ast.specs.declared.statement.InsertItem.{InsertItem}
 use Rattle.mdc_ast.specs.declared.statement.InsertItem.TheVariants as item
+use Rattle.mdc_ast.specs.declared.statement.KeyText.{KeyText}
 use Rattle.mdc_ast.specs.declared.statement.Operand.{Operand}
 use Rattle.mdc_ast.specs.declared.statement.Operand.TheVariants as operand
 use Rattle.mdc_ast.specs.declared.statement.Out.{Out}
@@ -21,12 +23,12 @@ use Rattle.mdc_ast.specs.declared.statement.SetItem.{SetItem}
 use Rattle.mdc_ast.specs.declared.statement.SetItem.TheVariants.{One, Two}
 use Rattle.mdc_ast.specs.declared.statement.SetText.{SetText}
 use Rattle.mdc_ast.specs.declared.statement.Stmt.{Stmt}
-use Rattle.mdc_ast.specs.declared.statement.Stmt.TheVariants.{CreateTable, DropTable, Insert, Update, Delete, Query}
+use Rattle.mdc_ast.specs.declared.statement.Stmt.TheVariants.{CreateIndex, CreateTable, DropIndex, DropTable, Insert, Update, Delete, Query}
 use Rattle.mdc_ast.specs.declared.statement.TypeText.{TypeText}
 use Rattle.mdc_ast.specs.declared.statement.TypeText.TheVariants as type
-use Rattle.statement_meaning.specs.Cause.{Cause, cause_if, TableExists, ColumnTwice, Limit, NotGrouped, WrongType, OutOfRange, WrongCount, GivenGenerated}
-use Rattle.mdc_ast.specs.Definitions.{Definitions, place_of, def_named, empty_place, column_named, column_names, is_among, row_width, key_width}
-use Rattle.statement_meaning.specs.Judging.{Judged, no_fault, of_some, on_table, listed_names, used_name, type_cause, value_cause, operand_columns, kinds_meet, where_judged, then_judged}
+use Rattle.statement_meaning.specs.Cause.{Cause, cause_if, TableExists, ColumnTwice, IndexExists, NoIndex, Limit, NotGrouped, WrongType, OutOfRange, WrongCount, GivenGenerated}
+use Rattle.mdc_ast.specs.Definitions.{Definitions, place_of, def_named, empty_place, index_place_of, column_named, column_names, is_among, row_width, key_width}
+use Rattle.statement_meaning.specs.Judging.{Judged, no_fault, of_some, on_defined, on_table, listed_names, used_name, type_cause, value_cause, operand_columns, kinds_meet, where_judged, then_judged}
 use Rattle.mdc_ast.specs.Kinds.{is_number}
 
 -- ---- CREATE TABLE
@@ -103,6 +105,36 @@ create_judged defs name columns dims = record {
       ++ column_limits 0 columns columns ++ dim_limits 0 columns (flat_map (λ dim. dim) dims) dims;
   values = [];
 }
+
+-- ---- CREATE INDEX and DROP INDEX
+
+-- the names of a key's columns
+abbrev pub part_names : List KeyText → List Name
+part_names parts = map (λ part. part.column) parts
+
+-- the types of the columns of these names, of those that are there
+abbrev pub types_of : List ColumnDef → List Name → List ColType
+types_of columns names = flat_map (λ name. types_in (column_named columns name)) names
+  where
+    types_in : Option ColumnDef → List ColType
+    types_in None = []
+    types_in (Some column) = column.ty ∷ []
+
+-- 26 where the columns of these names make a key of more than 128 bytes
+abbrev pub long_parts : List ColumnDef → List Name → List Cause
+long_parts columns names = cause_if (nat_lt 128 (key_width (types_of columns names))) (Limit 128)
+
+-- CREATE INDEX on a table that is there: 24, then 22 and 23 of its parts, then the limits of its name, the places and the key
+abbrev pub index_judged : Definitions → Name → List KeyText → TableDef → Judged
+index_judged defs name parts def = record no_fault {
+  names = cause_if (is_some (index_place_of defs name)) (IndexExists name);
+  columns = listed_names (column_names def.columns) [] (part_names parts);
+  limits = long_name name ++ cause_if (nat_le 8 (length def.indexes)) (Limit 8) ++ long_parts def.columns (part_names parts);
+}
+
+-- DROP INDEX: 25
+abbrev pub drop_index_judged : Definitions → Name → Judged
+drop_index_judged defs name = record no_fault { names = cause_if (is_none (index_place_of defs name)) (NoIndex name) }
 
 -- ---- INSERT
 
@@ -286,7 +318,9 @@ query_judged select columns =
 -- what is said against a statement by its text and the definitions alone
 abbrev pub judged_of : Definitions → Stmt → Judged
 judged_of defs (CreateTable name columns dims) = create_judged defs name columns dims
+judged_of defs (CreateIndex name unique table parts) = on_defined table (def_named defs table) (index_judged defs name parts)
 judged_of defs (DropTable name) = on_table name (def_named defs name) (λ columns. no_fault)
+judged_of defs (DropIndex name) = drop_index_judged defs name
 judged_of defs (Insert name listed tuples) = on_table name (def_named defs name) (insert_judged listed tuples)
 judged_of defs (Update name sets pred) =
     on_table name (def_named defs name) (λ columns. then_judged (sets_judged sets columns) (where_judged columns pred))

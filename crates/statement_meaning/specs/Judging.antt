@@ -1,12 +1,12 @@
 -- What is said against a statement before a row is looked at: for each class of the order of refusals a flat list, in the
 -- order of the text. A class says nothing of what an earlier one refuses.
-use Rattle.std.specs.Prelude.{List, [], ◌∷◌, ◌++◌, flat_map, Bool, true, false, not, Option, Some, None, is_none, Result, Ok, Err}
+use Rattle.std.specs.Prelude.{List, [], ◌∷◌, ◌++◌, flat_map, not, Option, Some, None, is_none, Result, Ok, Err}
 use Rattle.mdc_values.specs.declared.fitting.ValueFault.{ValueFault}
 use Rattle.mdc_values.specs.declared.fitting.ValueFault.TheVariants as fault
 use Rattle.mdc_values.specs.declared.literal.Literal.{Literal}
 use Rattle.mdc_values.specs.declared.literal.Literal.TheVariants as literal
 use Rattle.mdc_values.specs.declared.value.ColType.{ColType}
-use Rattle.mdc_values.specs.declared.value.ColType.TheVariants.{Integer, Bigint, Char, Date}
+use Rattle.mdc_values.specs.declared.value.ColType.TheVariants.{Integer, Bigint, Char}
 use Rattle.mdc_values.specs.declared.value.Value.{Value}
 use Rattle.mdc_values.specs.declared.value.Value.TheVariants as value
 use Rattle.mdc_values.specs.Fitting.{fit_of}
@@ -58,10 +58,14 @@ abbrev pub of_some : {X : Type 0} → Option X → (X → List Cause) → List C
 of_some None judge = []
 of_some (Some x) judge = judge x
 
--- a statement on a table that is there is judged by its columns
+-- a statement on a table that is there is judged by its definition
+abbrev pub on_defined : Name → Option TableDef → (TableDef → Judged) → Judged
+on_defined name None judge = record no_fault { names = NoTable name ∷ [] }
+on_defined name (Some def) judge = judge def
+
+-- or by its columns alone
 abbrev pub on_table : Name → Option TableDef → (List ColumnDef → Judged) → Judged
-on_table name None judge = record no_fault { names = NoTable name ∷ [] }
-on_table name (Some def) judge = judge def.columns
+on_table name found judge = on_defined name found (λ def. judge def.columns)
 
 -- ---- names
 

@@ -5,6 +5,7 @@ pub mod Doing
 pub mod GroupRows
 pub mod Judged
 pub mod Judging
+pub mod Keys
 pub mod Laws
 pub mod Orders
 pub mod Queries

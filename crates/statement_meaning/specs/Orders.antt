@@ -7,6 +7,7 @@ use Rattle.mdc_values.specs.declared.value.ColType.{ColType}
 use Rattle.mdc_values.specs.declared.value.ColType.TheVariants as column
 use Rattle.mdc_values.specs.declared.value.Value.TheVariants.{Int, Text, Day}
 use Rattle.mdc_ast.specs.declared.definition.ColumnDef.{ColumnDef}
+use Rattle.mdc_ast.specs.declared.definition.IndexDef.{IndexDef}
 use Rattle.mdc_ast.specs.declared.statement.ColumnText.{ColumnText}
 use Rattle.mdc_ast.specs.declared.statement.Operand.{Operand}
 use Rattle.mdc_ast.specs.declared.statement.Operand.TheVariants as operand
@@ -16,11 +17,11 @@ use Rattle.mdc_ast.specs.declared.statement.SetItem.TheVariants.{One, Two}
 use Rattle.mdc_ast.specs.declared.statement.SetText.{SetText}
 use Rattle.mdc_ast.specs.declared.statement.Sign.TheVariants.{Plus, Minus, Times}
 use Rattle.mdc_ast.specs.declared.statement.Stmt.{Stmt}
-use Rattle.mdc_ast.specs.declared.statement.Stmt.TheVariants.{CreateTable, Update}
+use Rattle.mdc_ast.specs.declared.statement.Stmt.TheVariants.{CreateIndex, CreateTable, Update}
 use Rattle.mdc_ast.specs.declared.statement.TypeText.TheVariants.{Integer, Char, Date}
-use Rattle.statement_meaning.specs.Cause.{ColumnTwice, Limit, NoColumn, NoDate, NullIn, NumbersUsedUp, OutOfRange, Overflow, TextTooLong, WrongCount, WrongType}
+use Rattle.statement_meaning.specs.Cause.{ColumnTwice, DuplicateKey, IndexExists, Limit, NoColumn, NoDate, NullIn, NumbersUsedUp, OutOfRange, Overflow, TextTooLong, WrongCount, WrongType}
 use Rattle.mdc_ast.specs.Database.{Database, PlainTable, empty_database}
-use Rattle.statement_meaning.specs.Rows.{answers, column, into, named, null, number, query, t_of_numbers, text}
+use Rattle.statement_meaning.specs.Rows.{answers, column, into, named, null, number, part, query, t_of_numbers, text}
 use Rattle.statement_meaning.specs.Step.{faults}
 
 -- a column of a table, which isn't generated
@@ -129,3 +130,37 @@ too_wide_a_key = refl
 
 key_that_fits : faults empty_database (CreateTable (named "T") (column "A" (Char 127) false ∷ []) ((named "A" ∷ []) ∷ [])) ≡ []
 key_that_fits = refl
+
+-- ---- record indexes
+
+-- a record index of these columns, by their places
+abbrev index_of : String → Bool → List ℕ → IndexDef
+index_of s unique places = record { name = named s; unique = unique; parts = map (λ place. record { column = place; descending = false }) places; root = 0 }
+
+-- T with record indexes
+abbrev with_indexes : List IndexDef → Database
+with_indexes indexes = Some (record t { def = record t.def { indexes = indexes } }) ∷ replicate 15 None
+
+-- nulls before keys, and keys before row numbers; each UNIQUE index in the order in which they were made
+insert_keys : faults (with_indexes (index_of "V" false (1 ∷ []) ∷ index_of "U" true (2 ∷ 3 ∷ []) ∷ index_of "B" true (1 ∷ []) ∷ [])) (into ((null ∷ text "x" ∷ null ∷ null ∷ []) ∷ (number 1 ∷ text "y" ∷ null ∷ null ∷ []) ∷ []))
+    ≡ NullIn (named "A") ∷ DuplicateKey (named "U") ∷ DuplicateKey (named "B") ∷ NumbersUsedUp 18446744073709551614 ∷ []
+insert_keys = refl
+
+-- 24 before 22 and 23, and each part in its place
+index_columns : faults (with_indexes (index_of "U" true (0 ∷ []) ∷ [])) (CreateIndex (named "U") true (named "T") (part "A" false ∷ part "Y" false ∷ part "A" true ∷ []))
+    ≡ IndexExists (named "U") ∷ NoColumn (named "Y") ∷ ColumnTwice (named "A") ∷ []
+index_columns = refl
+
+-- a table of one CHAR(127) and one CHAR(1), with so many record indexes
+abbrev of_texts : ℕ → Database
+of_texts n = Some (record {
+  def = record t.def { columns = defined "A" (column.Char 127) false ∷ defined "B" (column.Char 1) false ∷ []; indexes = replicate n (index_of "I" false (1 ∷ [])) };
+  rows = [];
+}) ∷ replicate 15 None
+
+-- a name of 19 characters, a ninth index and a key of 130 bytes, in this order
+index_limits : faults (of_texts 8) (CreateIndex (named "NAMEOFNINETEENCHARS") false (named "T") (part "A" false ∷ part "B" false ∷ [])) ≡ Limit 18 ∷ Limit 8 ∷ Limit 128 ∷ []
+index_limits = refl
+
+index_that_fits : faults (of_texts 7) (CreateIndex (named "V") true (named "T") (part "A" true ∷ [])) ≡ []
+index_that_fits = refl

@@ -9,14 +9,15 @@ use Rattle.mdc_ast.specs.declared.reply.Outcome.{Outcome}
 use Rattle.mdc_ast.specs.declared.statement.ColumnText.{ColumnText}
 use Rattle.mdc_ast.specs.declared.statement.InsertItem.{InsertItem}
 use Rattle.mdc_ast.specs.declared.statement.InsertItem.TheVariants as item
+use Rattle.mdc_ast.specs.declared.statement.KeyText.{KeyText}
 use Rattle.mdc_ast.specs.declared.statement.Operand.TheVariants as operand
 use Rattle.mdc_ast.specs.declared.statement.OutList.TheVariants.{Star, Outs}
 use Rattle.mdc_ast.specs.declared.statement.OutList.{OutList}
 use Rattle.mdc_ast.specs.declared.statement.Out.TheVariants as out
-use Rattle.mdc_ast.specs.declared.statement.SetItem.TheVariants.{Two}
-use Rattle.mdc_ast.specs.declared.statement.Sign.TheVariants.{Plus}
+use Rattle.mdc_ast.specs.declared.statement.SetItem.TheVariants.{One, Two}
+use Rattle.mdc_ast.specs.declared.statement.Sign.TheVariants.{Minus, Plus}
 use Rattle.mdc_ast.specs.declared.statement.Stmt.{Stmt}
-use Rattle.mdc_ast.specs.declared.statement.Stmt.TheVariants.{Begin, Clean, Commit, CreateTable, Delete, DropTable, Insert, ListBlocks, Query, Rollback, Update}
+use Rattle.mdc_ast.specs.declared.statement.Stmt.TheVariants.{Begin, Clean, Commit, CreateIndex, CreateTable, Delete, DropIndex, DropTable, Insert, ListBlocks, Query, Rollback, Update}
 use Rattle.mdc_ast.specs.declared.statement.TypeText.{TypeText}
 use Rattle.mdc_ast.specs.declared.statement.TypeText.TheVariants.{Integer, Char, Date}
 use Rattle.mdc_ast.specs.Database.{empty_database}
@@ -72,6 +73,22 @@ only s = Outs (out.Column (named s) ∷ [])
 abbrev up_by_one : Stmt
 up_by_one = Update (named "T") (record { column = named "A"; item = Two (operand.Column (named "A")) Plus (operand.Literal (literal.Number false 1)) } ∷ []) None
 
+-- a part of a key, from the least value up or from the greatest down
+abbrev pub part : String → Bool → KeyText
+part s descending = record { column = named s; descending = descending }
+
+-- a record index of one column of T
+abbrev pub indexed : String → Bool → String → Stmt
+indexed name unique column = CreateIndex (named name) unique (named "T") (part column false ∷ [])
+
+-- B = 3 - B
+abbrev b_from_3 : Stmt
+b_from_3 = Update (named "T") (record { column = named "B"; item = Two (operand.Literal (literal.Number false 3)) Minus (operand.Column (named "B")) } ∷ []) None
+
+-- B = n
+abbrev b_is : ℕ → Stmt
+b_is n = Update (named "T") (record { column = named "B"; item = One (operand.Literal (literal.Number false n)) } ∷ []) None
+
 -- the text of what is said, and of what pages tell a mark
 abbrev text_said : Option Outcome → List ℕ
 text_said None = codes "BLOCKS\n"
@@ -122,3 +139,33 @@ listed_blocks : answers (ListBlocks (named "T") ∷ t_of_numbers ∷ ListBlocks 
     ≡ codes "ERROR 21 no table T\nOK\nBLOCKS\nOK\nERROR 21 no table U\n"
 unfolding digits
 listed_blocks = refl
+
+-- a record index has a name of its own, which is free again once it is dropped
+indexes_named : answers (t_of_numbers ∷ indexed "V" false "B" ∷ indexed "V" false "A" ∷ DropIndex (named "V") ∷ DropIndex (named "V") ∷ indexed "T" false "A" ∷ DropTable (named "T") ∷ DropIndex (named "T") ∷ [])
+    ≡ codes "OK\nOK\nERROR 24 index V exists\nOK\nERROR 25 no index V\nOK\nOK\nERROR 25 no index T\n"
+unfolding digits
+indexes_named = refl
+
+-- keys are judged on the rows as the whole statement leaves them: two may be exchanged, and two new ones may not be equal, nor two nulls
+keys_as_left : answers (t_of_numbers ∷ indexed "U" true "B" ∷ into ((number 1 ∷ number 1 ∷ []) ∷ (number 1 ∷ number 2 ∷ []) ∷ []) ∷ b_from_3 ∷ b_is 7 ∷ query (only "B") None ∷ into ((number 5 ∷ null ∷ []) ∷ (number 6 ∷ null ∷ []) ∷ []) ∷ [])
+    ≡ codes "OK\nOK\n2 ROWS INSERTED\n2 ROWS UPDATED\nERROR 40 duplicate key in U\nB\n2\n1\n2 ROWS\nERROR 40 duplicate key in U\n"
+unfolding digits
+keys_as_left = refl
+
+-- a UNIQUE index isn't made on rows of which two have equal keys; one by both columns is, and one that isn't UNIQUE
+keys_there : answers (t_of_numbers ∷ into ((number 1 ∷ null ∷ []) ∷ (number 2 ∷ null ∷ []) ∷ []) ∷ indexed "U" true "B" ∷ CreateIndex (named "U") true (named "T") (part "B" true ∷ part "A" false ∷ []) ∷ indexed "V" false "B" ∷ into ((number 2 ∷ null ∷ []) ∷ []) ∷ into ((number 3 ∷ null ∷ []) ∷ []) ∷ [])
+    ≡ codes "OK\n2 ROWS INSERTED\nERROR 40 duplicate key in U\nOK\nOK\nERROR 40 duplicate key in U\n1 ROWS INSERTED\n"
+unfolding digits
+keys_there = refl
+
+-- of two UNIQUE indexes the one is named that was made first, and without it the other
+first_index : answers (t_of_numbers ∷ indexed "U" true "B" ∷ indexed "A" true "A" ∷ into ((number 1 ∷ number 1 ∷ []) ∷ []) ∷ into ((number 1 ∷ number 1 ∷ []) ∷ []) ∷ DropIndex (named "U") ∷ into ((number 1 ∷ number 1 ∷ []) ∷ []) ∷ DropIndex (named "A") ∷ into ((number 1 ∷ number 1 ∷ []) ∷ []) ∷ [])
+    ≡ codes "OK\nOK\nOK\n1 ROWS INSERTED\nERROR 40 duplicate key in U\nOK\nERROR 40 duplicate key in A\nOK\n1 ROWS INSERTED\n"
+unfolding digits
+first_index = refl
+
+-- the order of refusals: the table before the index, columns before a name that is too long, and then the key
+index_refusals : answers (CreateIndex (named "V") false (named "U") (part "A" false ∷ []) ∷ t_of_numbers ∷ indexed "V" false "B" ∷ CreateIndex (named "V") false (named "U") (part "A" false ∷ []) ∷ indexed "V" false "C" ∷ indexed "W" false "C" ∷ CreateIndex (named "W") false (named "T") (part "A" false ∷ part "A" true ∷ []) ∷ indexed "A234567890123456789" false "C" ∷ indexed "A234567890123456789" false "A" ∷ [])
+    ≡ codes "ERROR 21 no table U\nOK\nOK\nERROR 21 no table U\nERROR 24 index V exists\nERROR 22 no column C\nERROR 23 column A twice\nERROR 22 no column C\nERROR 26 limit 18\n"
+unfolding digits
+index_refusals = refl

@@ -1,6 +1,5 @@
 -- What a statement does to the plain database: the first cause against it, in the order of refusals, or else its effect.
-use Rattle.std.specs.Prelude.{List, [], ◌∷◌, ◌++◌, Bool, true, false, ◌&&◌, if◌then◌else◌, is_none}
-use Rattle.std.specs.List.{list_all}
+use Rattle.std.specs.Prelude.{List, [], ◌∷◌, ◌++◌, ◌&&◌, if◌then◌else◌}
 use Rattle.mdc_ast.specs.declared.refusal.Refusal.{Refusal}
 use Rattle.mdc_ast.specs.declared.reply.Reply.{Reply}
 use Rattle.mdc_ast.specs.declared.statement.Stmt.{Stmt}

@@ -7,12 +7,11 @@ use Rattle.std.proofs.lemmas.Bool.{cases_Bool}
 use Rattle.std.proofs.lemmas.List.Folds.{list_any-append}
 use Rattle.std.proofs.lemmas.Option.{none-some, same_Some}
 use Rattle.block_map.proofs.MapLinesLemmas.{contains_more}
-use Rattle.catalog.specs.IndexPlaces.{index_in, index_place_from, index_place_of}
 use Rattle.mdc_ast.specs.declared.definition.IndexDef.{IndexDef}
 use Rattle.mdc_ast.specs.declared.definition.TableDef.{TableDef}
 use Rattle.mdc_ast.specs.declared.name.Name.{Name}
 use Rattle.mdc_ast.specs.ValidDatabase.{index_names}
-use Rattle.mdc_ast.specs.Definitions.{AllNamesDiffer, Definitions, def_at, is_among, is_same}
+use Rattle.mdc_ast.specs.Definitions.{AllNamesDiffer, Definitions, def_at, index_in, index_place_from, index_place_of, is_among, is_same}
 use Rattle.mdc_ast.proofs.DefinitionsLemmas.{is_same-sym, neither}
 use Rattle.stored_catalog.specs.StoredDefinitions.{taken_index}
 use Rattle.stored_catalog.proofs.LoadingLemmas.{one_name}

@@ -3,10 +3,9 @@
 use Rattle.std.specs.Prelude.{◌≡◌, ◌≢◌, ◌≤◌, ◌<◌, ◌⊎◌, ℕ, ◌+◌, List, [], ◌∷◌, length, Contains, Option, Some, None, slice_set}
 use Rattle.std.specs.List.{AllZip, range_with_len}
 use Rattle.std.specs.Option.{option_or}
-use Rattle.catalog.specs.IndexPlaces.{index_place_of}
 use Rattle.mdc_ast.specs.declared.definition.IndexDef.{IndexDef}
 use Rattle.mdc_ast.specs.declared.definition.TableDef.{TableDef}
-use Rattle.mdc_ast.specs.Definitions.{Definitions, def_at}
+use Rattle.mdc_ast.specs.Definitions.{Definitions, def_at, index_place_of}
 use Rattle.store_api.specs.Frame.{HoldsPage}
 use Rattle.store_api.specs.StoreState.{zero_page}
 use Rattle.store_api.specs.declared.fault.Damage.{Damage}

@@ -30,7 +30,6 @@ use Rattle.mdc_sound.specs.Placing.{block_slot_count}
 use Rattle.mdc_sound.specs.StandingTable.{BreaksTable, IsBlockOrMapPage, IsPageOfBlock, StandsTable, TableForests}
 use Rattle.mdc_sound.proofs.StandingTableLemmas.{stands_same}
 use Rattle.table_blocks.specs.Seats.{HasSeat}
-use Rattle.table_blocks.specs.declared.filling.Seat.{Seat}
 use Rattle.table_blocks.proofs.AroundLemmas.{breaks_rows}
 use Rattle.table_blocks.proofs.FilledRoomLemmas.{CountsRow}
 use Rattle.table_blocks.proofs.FillingLemmas.{opens_counted}
@@ -71,7 +70,7 @@ module _ {S : Type 0} {g : Ghosts S} (shape : Shape) (def : TableDef) (block : �
 
     -- it was found
     pub has_seat : {new : S} (row : Row) (slot : ℕ) → Steady g mid new → (g.state new).work ≡ (g.state mid).work → slot < block_slot_count shape def
-        → ((slots : List (Option Row)) → HoldsRows g shape mid def block slots → IsSeat def row slots slot) → HasSeat g shape new def tree block row (record { line = line; slot = slot })
+        → ((slots : List (Option Row)) → HoldsRows g shape mid def block slots → IsSeat def row slots slot) → HasSeat g shape new def tree block row line slot
     has_seat row slot steady still below seats = record {
       used = found.used;
       there = λ t h. found.there t (holds_back asked.works.steady same (holds_back steady still h));
@@ -84,11 +83,11 @@ module _ {S : Type 0} {g : Ghosts S} (shape : Shape) (def : TableDef) (block : �
 
   -- ---- its line counts the row
 
-  pub counts_seat : {s mid : S} {row : Row} {seat : Seat} → HasSeat g shape s def tree block row seat
-      → ((t : Forest) → HoldsTree g s tree t → IsMapForm t → ChangesRowTo g mid tree seat.line.row (used_row seat.line.row.block (seat.line.row.rows + 1)) t)
+  pub counts_seat : {s mid : S} {row : Row} {line : FoundRow} {slot : ℕ} → HasSeat g shape s def tree block row line slot
+      → ((t : Forest) → HoldsTree g s tree t → IsMapForm t → ChangesRowTo g mid tree line.row (used_row line.row.block (line.row.rows + 1)) t)
       → length (g.state mid).work ≡ length (g.state s).work → RunsOverPages g (IsTreePage g s tree) (IsTreePage g s tree) (BreaksMapTree g s tree AnyMap) s mid None
-      → CountsRow g shape s mid def block tree seat.line.row.rows
-  counts_seat {s} {mid} {row} {seat} has more count run = record {
+      → CountsRow g shape s mid def block tree line.row.rows
+  counts_seat {s} {mid} {row} {line} {slot} has more count run = record {
     defined = defined;
     low = low;
     root = root;
@@ -97,9 +96,9 @@ module _ {S : Type 0} {g : Ghosts S} (shape : Shape) (def : TableDef) (block : �
     fewer = has.fewer;
     there = λ t h. subst (λ (r : BlockRow). HasRow r t) has.used (has.there t h);
     changes = λ t h form.
-        let named : seat.line.row.block ≡ block = ap (λ (r : BlockRow). r.block) has.used in
-        subst (λ (b : ℕ). ChangesRowTo g mid tree (used_row block seat.line.row.rows) (used_row b (seat.line.row.rows + 1)) t) named
-        (subst (λ (r : BlockRow). ChangesRowTo g mid tree r (used_row seat.line.row.block (seat.line.row.rows + 1)) t) has.used (more t h form));
+        let named : line.row.block ≡ block = ap (λ (r : BlockRow). r.block) has.used in
+        subst (λ (b : ℕ). ChangesRowTo g mid tree (used_row block line.row.rows) (used_row b (line.row.rows + 1)) t) named
+        (subst (λ (r : BlockRow). ChangesRowTo g mid tree r (used_row line.row.block (line.row.rows + 1)) t) has.used (more t h form));
     count = count;
     run = run;
   }

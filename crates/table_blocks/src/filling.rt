@@ -1,7 +1,6 @@
 // A row more in a Used block.
 ghost use Rattle.std.specs.Prelude.{◌≡◌, ◌<◌, List, Option, Some, None, false, length, IfOk, IfSome, OnOk, slice_index_or};
 ghost use Rattle.store_api.specs.Causes.{fault_of};
-ghost use Rattle.store_api.specs.Frame.{NoPage};
 ghost use Rattle.store_api.specs.RunsOverPages.{RunsOverPages};
 ghost use Rattle.extent_map.specs.declared.kind.Kind.{Kind};
 ghost use Rattle.extent_map.specs.declared.space_notes.SpaceNotes.{SpaceNotes};
@@ -69,13 +68,6 @@ pub fn put_in_block<P: Pages>(
     })
 }
 
-/// Where a row goes in a Used block of its cell: the block's row in the block map, and the lowest empty slot.
-#[derive(Drop)]
-pub(crate) struct Seat {
-    pub(crate) line: FoundRow,
-    pub(crate) slot: u16,
-}
-
 /// Puts a row into the lowest empty slot of a Used block of the table that is of the row's cell by the row in its lowest slot, and
 /// answers where it lies. None where the block is no such block, or has no room: then nothing is changed. It claims no page.
 pub fn put_if_room<P: Pages>(
@@ -101,41 +93,17 @@ pub fn put_if_room<P: Pages>(
         (BreaksTable P.Pages shape pages.old def.now) pages.old pages.new (fault_of result) }
 {
     let map = BlockMap::at(alloc, def.roots.map);
-    let Some(seat) = seat_in_block(def, shape, &map, pages, block, row)? else {
-        return Ok(None);
-    };
-    put_in_seat(def, shape, &map, pages, block, &seat, row)?;
-    let slot = seat.slot;
-    Ok(Some(Rid { block, slot }))
-}
-
-/// The seat of a row in a block. None where the block isn't a Used one of the table that is of the row's cell by the row in its lowest
-/// slot, or has no room. The block map is asked first, and the block's pages are looked at only where it is the table's own.
-fn seat_in_block<P: Pages>(
-    def: &TableDef,
-    shape: Shape,
-    map: &BlockMap,
-    pages: &mut P,
-    block: u32,
-    row: &Row,
-) -> Result<Option<Seat>, StoreFault>
-    requires defined { IsTableDef def.now.number def.now }
-    requires fits { RowFits def.now row.now }
-    requires root { map.now.tree.root ≡ def.now.roots.map }
-    requires within { block < shape.extents }
-    requires going { (P.state pages.old).ended ≡ false }
-    ensures seat { IfOk result (λ found. IfSome found (HasSeat P.Pages shape pages.new def.now map.now.tree block row.now)) }
-    ensures same { (P.state pages.new).work ≡ (P.state pages.old).work }
-    ensures runs { RunsOverPages P.Pages NoPage (IsBlockOrMapPage P.Pages shape pages.old def.now block) (BreaksTable P.Pages shape pages.old def.now) pages.old pages.new (fault_of result) }
-{
     let slots = shape.extent_pages * u32::from(capacity(&def.columns));
+    // The block map is asked first: the block's pages are looked at only where it is the table's own.
     let Some(line) = map.find_room(pages, block, slots)? else {
         return Ok(None);
     };
     let Some(slot) = find_seat(def, shape, pages, block, row)? else {
         return Ok(None);
     };
-    Ok(Some(Seat { line, slot }))
+    let rid = Rid { block, slot };
+    put_in_seat(def, shape, &map, pages, &line, rid, row)?;
+    Ok(Some(rid))
 }
 
 /// Puts a row into its seat in a block, and counts it.
@@ -144,28 +112,27 @@ fn put_in_seat<P: Pages>(
     shape: Shape,
     map: &BlockMap,
     pages: &mut P,
-    block: u32,
-    seat: &Seat,
+    line: &FoundRow,
+    rid: Rid,
     row: &Row,
 ) -> Result<(), StoreFault>
     requires defined { IsTableDef def.now.number def.now }
     requires fits { RowFits def.now row.now }
     requires root { map.now.tree.root ≡ def.now.roots.map }
-    requires within { block < shape.extents }
-    requires seat { HasSeat P.Pages shape pages.old def.now map.now.tree block row.now seat.now }
+    requires within { rid.block < shape.extents }
+    requires seat { HasSeat P.Pages shape pages.old def.now map.now.tree rid.block row.now line.now rid.slot }
     requires going { (P.state pages.old).ended ≡ false }
     ensures fills { OnOk result ((noted : SpaceNotes) (owners : List Kind) (forests : TableForests) → StandsTable P.Pages shape pages.old def.now owners forests
-        → HasRoomFor def.now row.now (slice_index_or (spots_of P.Pages shape pages.old def.now owners forests) block OtherBlock)
-        × FillsSlot P.Pages shape noted pages.old pages.new def.now (record { block = block; slot = seat.now.slot }) row.now owners forests) }
+        → HasRoomFor def.now row.now (slice_index_or (spots_of P.Pages shape pages.old def.now owners forests) rid.block OtherBlock)
+        × FillsSlot P.Pages shape noted pages.old pages.new def.now rid row.now owners forests) }
     ensures makes { OnOk result ((owners : List Kind) (forests : TableForests) → StandsTable P.Pages shape pages.old def.now owners forests
-        → MakesChanges shape (pages_of P.Pages pages.old) (block_changes def.now row.now block (slice_index_or (spots_of P.Pages shape pages.old def.now owners forests) block OtherBlock)) (pages_of P.Pages pages.new)) }
+        → MakesChanges shape (pages_of P.Pages pages.old) (block_changes def.now row.now rid.block (slice_index_or (spots_of P.Pages shape pages.old def.now owners forests) rid.block OtherBlock)) (pages_of P.Pages pages.new)) }
     ensures count { length (P.state pages.new).work ≡ length (P.state pages.old).work }
-    ensures runs { RunsOverPages P.Pages (IsBlockOrMapPage P.Pages shape pages.old def.now block) (IsBlockOrMapPage P.Pages shape pages.old def.now block)
+    ensures runs { RunsOverPages P.Pages (IsBlockOrMapPage P.Pages shape pages.old def.now rid.block) (IsBlockOrMapPage P.Pages shape pages.old def.now rid.block)
         (BreaksTable P.Pages shape pages.old def.now) pages.old pages.new (fault_of result) }
 {
-    map.count_found(pages, &seat.line)?;
-    let slot = seat.slot;
-    put_slot(def, shape, pages, Rid { block, slot }, row)?;
+    map.count_found(pages, line)?;
+    put_slot(def, shape, pages, rid, row)?;
     Ok(())
 }
 

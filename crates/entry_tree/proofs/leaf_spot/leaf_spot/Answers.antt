@@ -10,3 +10,6 @@ returns-clause-seen g c t h =
 pub returns-clause-parent : goal.returns-clause-parent
 returns-clause-parent g c =
     last_holds (λ place. place.0 < length (g.P.Pages.state c.args.pages.now).work) c.in_ok-way.way.path.items c.pop-parent.new.self.items c.pop-parent.result c.pop-parent.ensures.items c.in_ok-way.ensures.path
+
+pub returns-clause-shown : goal.returns-clause-shown
+returns-clause-shown g c told = let s = c.in_ok-way.ensures.seen told in (s.next, s.seen)

@@ -1,9 +1,10 @@
-use Rattle.std.proofs.Common.{◌≡◌, ◌<◌, None, IfSome, length}
+use Rattle.std.proofs.Common.{◌≡◌, ◌<◌, None, IfSome, IsTrue, length}
 use Rattle.store_api.specs.Frame.{NoPage}
 use Rattle.store_api.specs.RunsOverPages.{RunsOverPages}
 use Rattle.entry_tree.specs.Forest.{Forest}
 use Rattle.entry_tree.specs.HeldTrees.{HoldsTree, IsTreePage, BreaksTree}
-use Rattle.entry_tree.specs.Spots.{FenceFits}
+use Rattle.entry_tree.specs.Spots.{FenceFits, fence_bound}
+use Rattle.entry_tree.proofs.ShownLemmas.{GoesOn}
 use Rattle.entry_tree.proofs.SpotLemmas.{IsPassed}
 use Rattle.entry_tree.proofs.spot.find_spot.Given as goal
 
@@ -11,6 +12,7 @@ use Rattle.entry_tree.proofs.spot.find_spot.Given as goal
 abbrev pub invariant-loop-step : goal.invariant-loop-step
 invariant-loop-step g l = record {
   way : (t : Forest) → HoldsTree g.P.Pages l.fn.pages l.tree t → IsPassed t l.entry l.page l.step l.low l.high l.parent;
+  shown : IsTrue (g.P.Pages.state l.fn.pages).is_told → GoesOn l.tree.width (g.P.Pages.state l.fn.pages).work l.tree.root l.entry l.page (fence_bound l.high);
   low : FenceFits l.tree.width l.low;
   high : FenceFits l.tree.width l.high;
   parent : IfSome l.parent (λ place. place.0 < length (g.P.Pages.state l.fn.pages).work);

@@ -1,8 +1,7 @@
 use Rattle.std.proofs.Common.{◌≡◌, ◌∙◌, ℕ, IsTrue, Some, length, map, ap, subst, sym}
-use Rattle.mdc_ast.specs.Definitions.{def_at, with_def}
+use Rattle.mdc_ast.specs.Definitions.{def_at, with_def, with_index}
 use Rattle.mdc_ast.specs.declared.definition.TableDef.{TableDef}
 use Rattle.mdc_ast.specs.TableLimits.{IsTableDef}
-use Rattle.catalog.specs.IndexPlaces.{with_index}
 use Rattle.store_api.proofs.RunsOverPagesLemmas.{runs_exit_as}
 use Rattle.extent_map.specs.Damages.{store_part_of}
 use Rattle.entry_tree.proofs.ClaimsLemmas.{if_err_by}

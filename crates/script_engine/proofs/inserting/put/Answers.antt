@@ -13,7 +13,7 @@ pub returns-in_err-put_rows-clause-full : goal.returns-in_err-put_rows-clause-fu
 returns-in_err-put_rows-clause-full g c =
     let there = there_is _ _ c.requires.there in
     if_err_by c.from_residual.result c.in_err-put_rows.field-0.0 _ c.from_residual.ensures.1
-    (full_insert g.P.Pages c.args.pages.now c.args.tables.now c.args.table there.0 c.args.tuples c.in_err-put_rows.field-0.0 c.requires.served there.1 (of_that _ there.0 _ there.1 c.requires.unsaid) (c.in_err-put_rows.ensures.full there.0 there.1))
+    (full_insert g.P.Pages c.args.pages.now c.args.tables.now c.args.table there.0 c.args.tuples c.in_err-put_rows.field-0.0 c.requires.served there.1 c.requires.silent (c.in_err-put_rows.ensures.full there.0 there.1))
 
 pub save_next-requires-clause-place : goal.save_next-requires-clause-place
 save_next-requires-clause-place g c =
@@ -44,6 +44,7 @@ returns-in-Ok-clause-does g c ready =
       served = c.requires.served;
       at = there.1;
       unsaid = of_that _ there.0 _ there.1 c.requires.unsaid;
+      silent = c.requires.silent;
       inserts = c.in_ok-put_rows.ensures.inserts there.0 there.1;
       catalog = c.in_ok-put_rows.ensures.numbers there.0 there.1;
       shape = c.in_ok-put_rows.ensures.shape;

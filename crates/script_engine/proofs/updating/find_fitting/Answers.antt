@@ -1,6 +1,6 @@
 use Rattle.std.proofs.Common.{false, true}
 use Rattle.store_api.proofs.RunsOverPagesLemmas.{runs_damage, runs_exit, runs_wider}
-use Rattle.script_engine.proofs.DoneRowsLemmas.{unfit_breaks}
+use Rattle.script_engine.proofs.UpdatedRowsLemmas.{unfit_breaks}
 use Rattle.script_engine.proofs.TurnedRowsLemmas.{fit_of}
 use Rattle.script_engine.proofs.updating.find_fitting.Goals as goal
 

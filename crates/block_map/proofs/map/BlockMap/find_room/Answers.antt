@@ -1,23 +1,15 @@
-use Rattle.std.proofs.Common.{◌≡◌, arith, sym, subst, ◌∙◌, inl, inr}
-use Rattle.block_map.specs.Counting.{FindsUsed}
-use Rattle.block_map.proofs.CountingLemmas.{used_rows}
+use Rattle.block_map.proofs.CountingLemmas.{finds_with_room, full_where_lacking, full_where_none}
 use Rattle.block_map.proofs.map.BlockMap.find_room.Goals as goal
 
-pub returns-in_default-clause-full : goal.returns-in_default-clause-full
-returns-in_default-clause-full g c t h form rows small has =
-    absurd (subst (FindsUsed g.P.Pages c.args.pages.now c.find_used.new.pages c.args.self.now.tree c.args.block) c.in_default.is c.in_ok-found.ensures.finds t h form rows small has)
+pub returns-then-lacks_room-clause-full : goal.returns-then-lacks_room-clause-full
+returns-then-lacks_room-clause-full g c =
+    let found = c.in_ok-found.ensures in
+    full_where_lacking g.P.Pages c.args.pages.now c.find_row.new.pages c.args.self.now.tree c.args.block c.args.most c.in_ok-found.found found.lacks found.found found.named found.stands (c.lacks_room.ensures.lacks c.if-lacks_room.true)
 
-pub returns-then-from-most-clause-full : goal.returns-then-from-most-clause-full
-returns-then-from-most-clause-full g c t h form rows small has =
-    let f = subst (FindsUsed g.P.Pages c.args.pages.now c.find_used.new.pages c.args.self.now.tree c.args.block) c.in-Some.is c.in_ok-found.ensures.finds in
-    let same : c.in-Some.found.row.rows ≡ rows = used_rows f h rows form small has in
-    inl (omega (arith, same, c.if-from-most.true, c.from.ensures))
-
-pub returns-then-had-clause-full : goal.returns-then-had-clause-full
-returns-then-had-clause-full g c t h form rows small has =
-    let f = subst (FindsUsed g.P.Pages c.args.pages.now c.find_used.new.pages c.args.self.now.tree c.args.block) c.in-Some.is c.in_ok-found.ensures.finds in
-    let same : c.in-Some.found.row.rows ≡ rows = used_rows f h rows form small has in
-    inr (sym same ∙ c.if-had.true)
+pub returns-clause-full : goal.returns-clause-full
+returns-clause-full g c = full_where_none g.P.Pages c.args.pages.now c.find_row.new.pages c.args.self.now.tree c.args.block c.args.most c.in_ok-found.found c.in_ok-found.ensures.lacks
 
 pub returns-clause-finds : goal.returns-clause-finds
-returns-clause-finds g c = subst (FindsUsed g.P.Pages c.args.pages.now c.find_used.new.pages c.args.self.now.tree c.args.block) c.in-Some.is c.in_ok-found.ensures.finds
+returns-clause-finds g c =
+    let found = c.in_ok-found.ensures in
+    finds_with_room g.P.Pages c.args.pages.now c.find_row.new.pages c.args.self.now.tree c.args.block c.args.most c.in_ok-found.found found.found found.named found.stands (c.lacks_room.ensures.room c.if-lacks_room.false)

@@ -1,5 +1,5 @@
 use Rattle.std.proofs.Common.{◌≡◌, drop}
-use Rattle.catalog.specs.IndexPlaces.{index_place_from, index_place_of}
+use Rattle.mdc_ast.specs.Definitions.{index_place_from, index_place_of}
 use Rattle.catalog.proofs.places.Catalog.index.Given as goal
 
 abbrev pub invariant-loop-table : goal.invariant-loop-table

@@ -9,6 +9,7 @@ use Rattle.entry_tree.specs.Standing.{ClaimsPages, GrowsWith, IsTreeSpace, Break
 use Rattle.entry_tree.proofs.GoingDownLemmas.{found_in}
 use Rattle.entry_tree.proofs.ClaimsLemmas.{if_err_by}
 use Rattle.entry_tree.proofs.AddingLemmas.{way_runs, here_in_space, room_breaks, adds_here_found, full_found, claim_breaks, cuts_in_space, cuts_break, adds_with_cuts, root_along, root_here, root_same, root_with_cuts}
+use Rattle.entry_tree.proofs.SeenFullLemmas.{full_seen, whether_seen}
 use Rattle.entry_tree.proofs.tree.Tree.add.Goals as goal
 
 pub returns-then-there-clause-adds : goal.returns-then-there-clause-adds
@@ -140,3 +141,20 @@ returns-clause-root g c owners t s =
     λ owners h. subst (λ l. ClaimsPages g.P.Pages c.args.shape c.args.notes.now c.claim_pages.new.notes c.claim_pages.new.pages owners l) (sym c.deref.ensures.value) (c.in_ok-claimed.ensures.claims owners h) in
     root_with_cuts c.args.shape c.args.notes.now c.claim_pages.new.notes c.args.pages.now c.find_way.new.pages c.claim_pages.new.pages c.put_with_cuts.new.pages c.args.self.now c.args.entry.now owners t way.path.items way.page way.at way.asked way.there
     c.deref.result.now c.in_ok-path.ensures.found c.if-there.false c.in_ok-path.ensures.runs c.in_ok-path.ensures.same claims c.claim_pages.ensures.root c.put_with_cuts.ensures.runs.touches s
+
+pub returns-then-there-clause-seen : goal.returns-then-there-clause-seen
+returns-then-there-clause-seen g c told =
+    let way = c.in_ok-path.field-0 in
+    whether_seen (c.in_ok-path.ensures.seen told) (c.if-there.true)
+
+pub returns-then-asked-eq0-clause-seen : goal.returns-then-asked-eq0-clause-seen
+returns-then-asked-eq0-clause-seen g c told = whether_seen (c.in_ok-path.ensures.seen told) c.if-there.false
+
+pub returns-clause-seen : goal.returns-clause-seen
+returns-clause-seen g c told = whether_seen (c.in_ok-path.ensures.seen told) c.if-there.false
+
+pub returns-in_err-claimed-clause-full_seen : goal.returns-in_err-claimed-clause-full_seen
+returns-in_err-claimed-clause-full_seen g c =
+    if_err_by c.from_residual-in_err-claimed.result c.in_err-claimed.field-0.0 _ c.from_residual-in_err-claimed.ensures.1
+    (full_seen c.args.shape c.args.notes.now c.claim_pages.new.notes c.args.pages.now c.find_way.new.pages c.claim_pages.new.pages c.args.self.now c.args.entry.now c.in_err-claimed.field-0.0 c.in_ok-path.ensures.runs c.in_ok-path.ensures.same
+    c.claim_pages.ensures.runs.works.steady c.if-there.false c.in_ok-path.ensures.seen c.in_err-claimed.ensures.full)

@@ -4,6 +4,7 @@ use Rattle.store_api.proofs.RunsOverPagesLemmas.{runs_exit, runs_then, runs_wide
 use Rattle.store_api.proofs.WorksLemmas.{steady_then}
 use Rattle.entry_tree.specs.HeldTrees.{BreaksTree, IsTreePage}
 use Rattle.entry_tree.proofs.AmendedLemmas.{amends_there, breaks_moved, breaks_slot, has_behind, holds_back, is_there, leaf_meanwhile, meanwhile, moved_page, not_false, not_there, not_true, spot_page}
+use Rattle.entry_tree.proofs.ShownLemmas.{leaf_whether}
 use Rattle.entry_tree.proofs.ReadLeafLemmas.{breaks_still, tree_page_still}
 use Rattle.entry_tree.proofs.tree.Tree.amend.Goals as goal
 
@@ -108,3 +109,9 @@ returns-clause-runs g c =
           c.in_ok-moved.ensures.room steady2 same2 c.in_ok-set_moved.ensures.sets c.in_ok-set_moved.ensures.runs c.set_moved.ensures.count,
     ))
     there b)
+
+pub returns-then-not-spot-clause-seen : goal.returns-then-not-spot-clause-seen
+returns-then-not-spot-clause-seen g c told = leaf_whether (c.in_ok-spot.ensures.seen told) (not_true c.in_ok-spot.spot.there c.if-not-spot.true)
+
+pub returns-clause-seen : goal.returns-clause-seen
+returns-clause-seen g c told = leaf_whether (c.in_ok-spot.ensures.seen told) (not_false c.in_ok-spot.spot.there c.if-not-spot.false)

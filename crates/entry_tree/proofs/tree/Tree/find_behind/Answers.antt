@@ -4,12 +4,14 @@ use Rattle.mdc_words.specs.ByteOrder.{Entry}
 use Rattle.entry_tree.specs.Finding.{IsFoundEntry}
 use Rattle.entry_tree.specs.Forest.{leaf_entries}
 use Rattle.entry_tree.specs.Reading.{IsFirstFrom, IsFirstOr}
+use Rattle.entry_tree.specs.Shown.{ReadsFirst}
 use Rattle.entry_tree.specs.Spots.{fence_bound}
 use Rattle.entry_tree.specs.declared.finding.FoundEntry.{FoundEntry}
 use Rattle.entry_tree.specs.declared.spot.Fence.{Fence}
 use Rattle.entry_tree.proofs.FindingLemmas.{found_first}
 use Rattle.entry_tree.proofs.FirstFromLemmas.{first_behind, first_here, first_spot}
 use Rattle.entry_tree.proofs.ReadLeafLemmas.{breaks_still, holds_still, tree_page_still}
+use Rattle.entry_tree.proofs.ShownLemmas.{reads_first_behind, first_none, first_of_leaf, first_some}
 use Rattle.entry_tree.proofs.WayLemmas.{runs_broken}
 use Rattle.entry_tree.proofs.tree.Tree.find_behind.Goals as goal
 
@@ -94,3 +96,21 @@ returns-in-None-clause-runs g c =
     (ap fence_bound c.in-Some-high.is ∙ ap (λ (b : Entry). Some b) (sym b))
     (first_spot _ t c.bytes.result.now behind.page behind.at behind.there behind.low behind.high c.take_first-2.result (c.in_ok-behind.ensures.found t (holds_still steady c.find_spot.ensures.same h)).spot
     (λ items e. c.take_first-2.ensures.taken items (c.in_ok-behind.ensures.lent items e)))).1 c.in-None.is)
+
+pub returns-in-Some-clause-seen : goal.returns-in-Some-clause-seen
+returns-in-Some-clause-seen g c told =
+    subst (λ (f : FoundEntry). ReadsFirst c.args.self.now.width (g.P.Pages.state c.args.pages.now).work c.args.self.now.root c.args.bound.now (Some f.entry)) (sym c.found_at.ensures)
+    (first_some (first_of_leaf (c.in_ok-spot.ensures.seen told) (c.in_ok-spot.ensures.at_hand told) c.take_first.ensures.shown) c.in-Some.is)
+
+pub returns-in_default-high-clause-seen : goal.returns-in_default-high-clause-seen
+returns-in_default-high-clause-seen g c told =
+    first_none (first_of_leaf (c.in_ok-spot.ensures.seen told) (c.in_ok-spot.ensures.at_hand told) c.take_first.ensures.shown) c.in_default.is (ap fence_bound c.in_default-high.is)
+
+pub returns-in-Some-take_first-clause-seen : goal.returns-in-Some-take_first-clause-seen
+returns-in-Some-take_first-clause-seen g c told =
+    let b : c.bytes.result.now ≡ c.in-Some-high.next.bound = c.bytes.ensures ∙ ap (λ (f : Fence). f.bound) c.in-Some-high.next-is in
+    let later = c.in_ok-spot.ensures.runs.works.steady.is_told ∙ told in
+    subst (λ (f : FoundEntry). ReadsFirst c.args.self.now.width (g.P.Pages.state c.args.pages.now).work c.args.self.now.root c.args.bound.now (Some f.entry)) (sym c.found_at-in-Some-take_first.ensures)
+    (reads_first_behind (first_of_leaf (c.in_ok-spot.ensures.seen told) (c.in_ok-spot.ensures.at_hand told) c.take_first.ensures.shown) c.in_default.is
+    (ap fence_bound c.in-Some-high.is ∙ ap (λ (b : Entry). Some b) (sym b)) c.find_spot.ensures.same
+    (first_of_leaf (c.in_ok-behind.ensures.seen later) (c.in_ok-behind.ensures.at_hand later) c.take_first-2.ensures.shown) c.in-Some-take_first.is)

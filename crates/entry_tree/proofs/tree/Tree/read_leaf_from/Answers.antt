@@ -1,6 +1,7 @@
 use Rattle.std.proofs.Common.{◌≡◌, arith, ap, sym, ◌∙◌, None, Some}
 use Rattle.store_api.proofs.RunsOverPagesLemmas.{runs_exit, runs_then}
 use Rattle.entry_tree.proofs.ReadLeafLemmas.{breaks_still, gives_first, gives_none, gives_second, holds_still, tree_page_still}
+use Rattle.entry_tree.proofs.ShownLemmas.{reads_behind, reads_none, reads_some}
 use Rattle.entry_tree.proofs.WayLemmas.{runs_broken}
 use Rattle.entry_tree.proofs.tree.Tree.read_leaf_from.Goals as goal
 
@@ -42,3 +43,16 @@ returns-clause-runs g c =
     let steady = c.in_ok-read_leaf.ensures.runs.works.steady in
     runs_then c.in_ok-read_leaf.ensures.runs c.in_ok-read_leaf-2.ensures.runs (λ p there none. absurd none) (λ p is. tree_page_still p steady c.read_leaf.ensures.same is)
     (λ damage b. breaks_still damage steady c.read_leaf.ensures.same b)
+
+pub returns-then-len-gt0-clause-seen : goal.returns-then-len-gt0-clause-seen
+returns-then-len-gt0-clause-seen g c told = reads_some (c.in_ok-read_leaf.ensures.seen told) (omega (arith, c.if-len-gt0.true, c.len.ensures))
+
+pub returns-in_default-clause-seen : goal.returns-in_default-clause-seen
+returns-in_default-clause-seen g c told =
+    let old_none : c.read_leaf.new.leaf.next ≡ None = sym c.take.ensures.value ∙ c.in_default.is in
+    reads_none (c.in_ok-read_leaf.ensures.seen told) old_none (c.take.ensures.after ∙ sym old_none)
+
+pub returns-clause-seen : goal.returns-clause-seen
+returns-clause-seen g c told =
+    reads_behind (c.in_ok-read_leaf.ensures.seen told) (omega (arith, c.if-len-gt0.false, c.len.ensures)) (sym c.take.ensures.value ∙ c.in-Some.is ∙ ap Some (sym c.bytes.ensures))
+    c.read_leaf.ensures.same (c.in_ok-read_leaf-2.ensures.seen (c.in_ok-read_leaf.ensures.runs.works.steady.is_told ∙ told)) (omega (arith, c.if-len-eq0.false, c.len-2.ensures))

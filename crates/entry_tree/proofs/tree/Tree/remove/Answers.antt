@@ -5,6 +5,7 @@ use Rattle.entry_tree.specs.HeldTrees.{nodes_in}
 use Rattle.entry_tree.proofs.HeldTreesLemmas.{nodes_same}
 use Rattle.entry_tree.specs.Pruning.{BreaksTreeOrReturn, IsTreeOrMapPage}
 use Rattle.entry_tree.proofs.RemoveLemmas.{breaks_held, breaks_same, held_same, item_same, not_false, not_true_is, page_same, removes_it, stands_same, tree_page}
+use Rattle.entry_tree.proofs.ShownLemmas.{leaf_whether}
 use Rattle.entry_tree.proofs.tree.Tree.remove.Goals as goal
 
 pub returns-in_err-spot-clause-runs : goal.returns-in_err-spot-clause-runs
@@ -51,3 +52,9 @@ returns-clause-runs g c =
     (BreaksTreeOrReturn g.P.Pages c.args.shape c.args.pages.now c.args.self.now) c.args.pages.now c.leaf_spot.new.pages None =
     runs_wider (runs_on c.in_ok-spot.ensures.runs) (λ p there none. absurd none) (λ p is. tree_page is) (λ damage b. b) in
     runs_then start c.in_ok-take_out.ensures.runs (λ p there is. page_same told same is) (λ p is. page_same told same is) (λ damage b. breaks_same told same b)
+
+pub returns-then-not-spot-clause-seen : goal.returns-then-not-spot-clause-seen
+returns-then-not-spot-clause-seen g c told = leaf_whether (c.in_ok-spot.ensures.shown told).1 (not_true_is c.in_ok-spot.spot.there c.if-not-spot.true)
+
+pub returns-clause-seen : goal.returns-clause-seen
+returns-clause-seen g c told = leaf_whether (c.in_ok-spot.ensures.shown told).1 (not_false c.in_ok-spot.spot.there c.if-not-spot.false)

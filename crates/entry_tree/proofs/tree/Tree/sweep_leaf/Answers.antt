@@ -2,6 +2,7 @@ use Rattle.std.proofs.Common.{ℕ, None, subst, sym}
 use Rattle.store_api.specs.RunsOverPages.{RunsOverPages}
 use Rattle.store_api.proofs.RunsOverPagesLemmas.{runs_exit, runs_on, runs_then, runs_wider}
 use Rattle.entry_tree.specs.Pruning.{BreaksTreeOrReturn, IsTreeOrMapPage}
+use Rattle.entry_tree.specs.Shown.{SeesSwept}
 use Rattle.entry_tree.specs.Sweeping.{SweepsLeaf}
 use Rattle.entry_tree.proofs.HeldTreesLemmas.{nodes_same}
 use Rattle.entry_tree.proofs.RemoveLemmas.{breaks_held, breaks_same, held_same, page_same, stands_same, tree_page}
@@ -48,3 +49,9 @@ returns-clause-runs g c =
     (BreaksTreeOrReturn g.P.Pages c.args.shape c.args.pages.now c.args.self.now) c.args.pages.now c.first_leaf.new.pages None =
     runs_wider (runs_on c.in_ok-spot.ensures.runs) (λ p there none. absurd none) (λ p is. tree_page is) (λ damage b. b) in
     runs_then start c.in_ok-removed.ensures.runs (λ p there is. page_same told same is) (λ p is. page_same told same is) (λ damage b. breaks_same told same b)
+
+pub returns-clause-seen : goal.returns-clause-seen
+returns-clause-seen g c told =
+    let spot = c.in_ok-spot.spot in
+    subst (SeesSwept c.args.self.now.width (g.P.Pages.state c.args.pages.now).work c.args.self.now.root c.args.bound.now) (sym c.fence_bound.ensures)
+    (record { leaf = spot.page; at = spot.at; there = spot.there; first = c.in_ok-spot.ensures.seen told })

@@ -1,5 +1,6 @@
-use Rattle.std.proofs.Common.{sym}
-use Rattle.plain_engine.proofs.TablesLemmas.{is_placed, not_empty, number_is, number_known, are_tables-number}
+use Rattle.std.proofs.Common.{refl, sym}
+use Rattle.plain_engine.proofs.TablesLemmas.{are_tables-number, is_placed, not_empty, number_known, redefined_is}
+use Rattle.plain_engine.specs.Tables.{with_next}
 use Rattle.plain_engine.proofs.tables.Tables.number_from.Goals as goal
 
 pub take-requires : goal.take-requires
@@ -20,6 +21,6 @@ invariant_of-self c =
 
 pub returns : goal.returns
 returns c =
-    number_is c.self.inside.catalog c.take.new.self c.put.new.self c.self.inside.rows.items c.args.self.now c.args.place c.args.next c.in-Some.def c.self.view_is c.self.invariant
-    (sym c.in-Some.ensures.taken) (number_known c.self.inside.catalog c.self.inside.rows.items c.args.self.now c.args.place c.in-Some.def c.self.view_is (sym c.in-Some.ensures.taken) c.requires.numbered)
+    redefined_is c.self.inside.catalog c.take.new.self c.put.new.self c.self.inside.rows.items c.args.self.now c.args.place c.in-Some.def (record c.in-Some.def { next = c.args.next }) (with_next c.args.next) c.self.view_is c.self.invariant
+    (sym c.in-Some.ensures.taken) (number_known c.self.inside.catalog c.self.inside.rows.items c.args.self.now c.args.place c.in-Some.def c.self.view_is (sym c.in-Some.ensures.taken) c.requires.numbered) refl
     c.take.ensures.left c.put.ensures
