@@ -1,0 +1,15 @@
+pub mod AllowingLemmas
+pub mod AskedLemmas
+pub mod CutLemmas
+pub mod FewLemmas
+pub mod FitLemmas
+pub mod JoinLemmas
+pub mod KindsLemmas
+pub mod NarrowingLemmas
+pub mod PlanLemmas
+pub mod PlannedLemmas
+pub mod ReadingLemmas
+pub mod RowLemmas
+pub mod SourceLemmas
+pub mod SpansLemmas
+pub mod ToldLemmas
