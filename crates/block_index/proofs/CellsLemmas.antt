@@ -4,7 +4,7 @@ use Rattle.std.specs.Prelude.{Bool, ◌&&◌, nat_lt, IsTrue, Some, map, slice_g
 use Rattle.std.specs.List.{AllByRecursion}
 use Rattle.std.proofs.lemmas.Bool.{cases_lt}
 use Rattle.std.proofs.lemmas.Bool.Decides.{nat_tests}
-use Rattle.std.proofs.Math.Seq.{drop-append_seam, take-append_seam}
+use Rattle.std.proofs.Math.Seq.{drop-append_seam}
 use Rattle.std.proofs.lemmas.List.{drop_all, length-map, length-take, map-append, take_at}
 use Rattle.std.proofs.lemmas.Option.{get_or_from_slice_get, same_Some, slice_get_read, slice_get_within}
 use Rattle.byteorder.specs.Endian.{big_bytes}
@@ -28,15 +28,6 @@ use Rattle.block_index.specs.Cells.{FitPlaces, FitsCell, HaveKeys, cell_entries,
 -- an entry has the bytes of the key and four more
 under : (key : List ℕ) (w block : ℕ) → length key ≡ w → length (entry_under key block) ≡ w + 4
 under key w block wide = length-append key (big_bytes 4 block) ∙ ap (λ n. n + 4) wide
-
--- a key and a block that are written in front of other bytes
-pub entry_in_front : (key front buf more post : List ℕ) (block : ℕ) → front ≡ key → buf ≡ big_bytes 4 block ++ more → take (length key + 4) (front ++ (buf ++ post)) ≡ entry_under key block
-entry_in_front key front buf more post block front_is buf_is =
-    let n = length key + 4 in
-    let whole : key ++ ((big_bytes 4 block ++ more) ++ post) ≡ entry_under key block ++ (more ++ post) = simp append_assoc in
-    ap (λ f. take n (f ++ (buf ++ post))) front_is
-    ∙ (ap (λ b. take n (key ++ (b ++ post))) buf_is
-    ∙ (ap (take n) whole ∙ (ap (λ k. take k (entry_under key block ++ (more ++ post))) (sym (under key (length key) block refl)) ∙ take-append_seam (entry_under key block) (more ++ post))))
 
 -- ---- lists of values, cut
 

@@ -3,9 +3,11 @@ pub mod LeavesLemmas
 pub mod ListedCellsLemmas
 pub mod ListingLemmas
 pub mod ListingSpaceLemmas
+pub mod NumberedLemmas
 pub mod PartRangesLemmas
 pub mod ReadingRunsLemmas
 pub mod RisingLemmas
 pub mod SameValuesLemmas
 pub mod SpansLemmas
+pub mod TakenLemmas
 pub mod UnderKeyLemmas

@@ -29,7 +29,8 @@ use Rattle.table_trees.proofs.PageCountLemmas.{grows_pages_none, grows_pages_the
 use Rattle.table_trees.proofs.SideBySideLemmas.{changes_none, changes_then, place_space, place_trees_or_map, space_back, sum_no_less, sum_no_more, tree_among, trees_or_map_back}
 use Rattle.table_trees.proofs.TreesBesideLemmas.{adds_beside, removes_beside, space_of_tree, trees_or_map_of_removal}
 use Rattle.block_index.specs.Cells.{cell_entries, index_listings}
-use Rattle.block_index.specs.Listing.{BreaksEntering, BreaksLeaving, BreaksListing, BreaksUnlisting, ChangesFirst, ComesTo, FillsListing, GainsEntry, GainsFirst, LosesEntry, LosesFirst, ListsBlock, MoveFirst, UnlistsBlock}
+use Rattle.block_index.specs.IndexDamage.{BreaksEntering, BreaksLeaving}
+use Rattle.block_index.specs.Listing.{BreaksListing, BreaksUnlisting, ChangesFirst, ComesTo, FillsListing, GainsEntry, GainsFirst, LosesEntry, LosesFirst, ListsBlock, MoveFirst, UnlistsBlock}
 use Rattle.block_index.proofs.ListingSpaceLemmas.{HaveAdded, HaveRemoved, added_full, added_next, added_none, made_all, removed_next, removed_none}
 
 -- an answer of a call that is a truth value
@@ -125,13 +126,13 @@ module _ {S : Type 0} (g : Ghosts S) (shape : Shape) (before : SpaceNotes) (old 
 
     module _ (new : S) (fault : Option StoreFault) where
       pub entering_runs : HaveGained now mid n → RunsOverPages g Space Space (BreaksListing g shape before old def values block) old mid None
-          → RunsOverPages g (IsTreeSpace g shape mid tree) (IsTreeSpace g shape mid tree) (BreaksEntering g shape mid tree x) mid new fault → RunsOverPages g Space Space (BreaksListing g shape before old def values block) old new fault
+          → RunsOverPages g (IsTreeSpace g shape mid tree) (IsTreeSpace g shape mid tree) (BreaksEntering g 10 shape mid tree x) mid new fault → RunsOverPages g Space Space (BreaksListing g shape before old def values block) old new fault
       entering_runs done run more =
           runs_then run more (λ p there mine. space_so_far done p (space_of_tree shape mid tree p mine)) (λ p mine. space_so_far done p (space_of_tree shape mid tree p mine))
           (λ damage breaks. record { now = now; mid = mid; tree = tree; x = x; comes = comes_to GainsEntry (gained_changed now mid n done); breaks = breaks })
 
       pub leaving_runs : HaveLost now mid n → RunsOverPages g TreesAndMap TreesAndMap (BreaksUnlisting g shape before old def values block) old mid None
-          → RunsOverPages g (IsTreeOrMapPage g shape mid tree) (IsTreeOrMapPage g shape mid tree) (BreaksLeaving g shape mid tree x) mid new fault
+          → RunsOverPages g (IsTreeOrMapPage g shape mid tree) (IsTreeOrMapPage g shape mid tree) (BreaksLeaving g 10 shape mid tree x) mid new fault
           → RunsOverPages g TreesAndMap TreesAndMap (BreaksUnlisting g shape before old def values block) old new fault
       leaving_runs done run more =
           runs_then run more (λ p there mine. trees_and_map_so_far done p (trees_or_map_of_removal shape mid tree p mine)) (λ p mine. trees_and_map_so_far done p (trees_or_map_of_removal shape mid tree p mine))
@@ -178,7 +179,7 @@ module _ {S : Type 0} {g : Ghosts S} (shape : Shape) (before now noted : SpaceNo
   -- one index more
   pub enters_next : IsListing g shape before now old mid def values block n
       → ((owners : List Kind) (t : Forest) → StandsTree g shape mid tree owners t → AddsEntry g shape now noted mid new tree x owners t)
-      → RunsOverPages g (IsTreeSpace g shape mid tree) (IsTreeSpace g shape mid tree) (BreaksEntering g shape mid tree x) mid new None
+      → RunsOverPages g (IsTreeSpace g shape mid tree) (IsTreeSpace g shape mid tree) (BreaksEntering g 10 shape mid tree x) mid new None
       → IsListing g shape before noted old new def values block (n + 1)
   enters_next so adds more = record {
     done = subst (HaveGained g shape before old def values block noted new) (omega arith)
@@ -197,7 +198,7 @@ module _ {S : Type 0} {g : Ghosts S} (shape : Shape) (before now noted : SpaceNo
 
   pub leaves_next : IsUnlisting g shape before now old mid def values block n → length (g.state new).work ≡ length (g.state mid).work
       → ((owners : List Kind) (t : Forest) → StandsTree g shape mid tree owners t → RemovesEntry g shape now noted new tree x owners t)
-      → RunsOverPages g (IsTreeOrMapPage g shape mid tree) (IsTreeOrMapPage g shape mid tree) (BreaksLeaving g shape mid tree x) mid new None
+      → RunsOverPages g (IsTreeOrMapPage g shape mid tree) (IsTreeOrMapPage g shape mid tree) (BreaksLeaving g 10 shape mid tree x) mid new None
       → IsUnlisting g shape before noted old new def values block (n + 1)
   leaves_next so count removes more = record {
     done = subst (HaveLost g shape before old def values block noted new) (omega arith)

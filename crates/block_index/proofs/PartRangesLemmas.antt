@@ -1,5 +1,5 @@
 -- Which entries a walk for a range of one part goes over.
-use Rattle.std.proofs.Common.{◌≡◌, ◌≢◌, ◌<◌, ◌≤◌, ◌+◌, ◌-◌, ◌==◌, ℕ, zero, suc, List, [], ◌∷◌, ◌++◌, refl, ap, arith, sym, ◌∙◌, subst, add-one, append-nil, append_assoc, drop-cons, get_or, length, length-append, take, drop, replicate, ◌⊎◌, inl, inr, Ordering}
+use Rattle.std.proofs.Common.{◌≡◌, ◌≢◌, ◌<◌, ◌≤◌, ◌+◌, ◌-◌, ◌==◌, ℕ, zero, suc, List, [], ◌∷◌, ◌++◌, refl, ap, arith, sym, ◌∙◌, subst, append-nil, get_or, length, take, drop, replicate, ◌⊎◌, inl, inr, Ordering}
 use Rattle.std.specs.Prelude.{Bool, true, false, not, ◌&&◌, cond, Option, Some, None, count_by, filter, map, if◌then◌else◌}
 use Rattle.std.specs.declared.cmp.Ordering.TheVariants.{Less, Equal, Greater}
 use Rattle.std.specs.Ordering.{is_lt, nat_cmp, ordering_then}
@@ -7,19 +7,18 @@ use Rattle.std.specs.Cmp.Lexicographic.{slice_cmp}
 use Rattle.std.proofs.lemmas.Bool.{cases_eq, ne_eqb}
 use Rattle.std.proofs.lemmas.Bool.Decides.{nat_tests}
 use Rattle.std.specs.List.{AllByRecursion}
-use Rattle.std.proofs.Math.Seq.{drop-length, take-length, take-suc}
 use Rattle.std.proofs.lemmas.List.{drop-replicate, length-drop, length-take-le, take-append-drop, take-replicate}
 use Rattle.std.proofs.lemmas.List.Sums.{sum_by-cons}
 use Rattle.mdc_words.specs.ByteOrder.{Entry, below}
 use Rattle.key_codec.proofs.OrderLemmas.{slice_cmp-append}
 use Rattle.key_codec.specs.Spans.{is_in_range, reaches}
 use Rattle.entry_tree.specs.Entries.{AreOfWidth}
-use Rattle.entry_tree.specs.EntryBounds.{Bound, Climbs, IsEntryOf, Rises}
+use Rattle.entry_tree.specs.EntryBounds.{Climbs, IsEntryOf, Rises}
 use Rattle.entry_tree.specs.Reading.{entries_from}
 use Rattle.entry_tree.proofs.EntryBoundsLemmas.{below_trans}
-use Rattle.block_index.specs.PartRanges.{blocks_in_range, ends_walk, entries_until, has_part_in, last_block, start_of_walk}
-use Rattle.block_index.specs.Reading.{entries_left}
+use Rattle.block_index.specs.PartRanges.{blocks_in_range, ends_walk, entries_until, has_part_in, last_block, start_of_walk, walked}
 use Rattle.block_index.specs.declared.part_range.PartRange.{PartRange}
+use Rattle.block_index.proofs.TakenLemmas.{IsTakingOf, taking_next_of, taking_none_of}
 
 -- ---- zeros behind a bound
 
@@ -195,10 +194,6 @@ wide_entry width [] x wide i = absurd i
 wide_entry width (y ∷ ys) x wide (inl same) = ap length same ∙ wide.0
 wide_entry width (y ∷ ys) x wide (inr i) = wide_entry width ys x wide.1 i
 
--- the entries that a walk for a range goes over
-abbrev pub walked : ℕ → PartRange → List Entry → List Entry
-walked width range all = entries_until range (entries_from (start_of_walk width range) all)
-
 -- at the first part these are the entries in the range
 pub walk_of_first : (width : ℕ) (range : PartRange) (all : List Entry) → range.at ≡ 0 → length range.low ≤ width → AreOfWidth width all → Rises None None all → walked width range all ≡ filter (has_part_in range) all
 walk_of_first width range all at within wide rises =
@@ -292,63 +287,17 @@ blocks_in_range-push range (y ∷ xs) x = go (has_part_in range y) (blocks_in_ra
     go true e = ap (λ r. last_block y ∷ r) e
     go false e = e
 
--- the first i entries of a leaf were gone over, and no walk ends at one of them
-pub record IsTaking (range : PartRange) (leaf : List Entry) (i : ℕ) (old blocks : List ℕ) (before count : ℕ) : Type 0 where
-  pub blocks_are : blocks ≡ old ++ blocks_in_range range (take i leaf)
-  pub count_is : count ≡ before + i
-  pub goes : (rest : List Entry) → entries_until range (leaf ++ rest) ≡ take i leaf ++ entries_until range (drop i leaf ++ rest)
+-- the first i entries of a leaf were gone over, and their blocks in the range were taken
+abbrev pub IsTaking : PartRange → List Entry → ℕ → List ℕ → List ℕ → ℕ → ℕ → Type 0
+IsTaking range leaf i old blocks before count = IsTakingOf (blocks_in_range range) range leaf i old blocks before count
 
 pub taking_none : (range : PartRange) (leaf : List Entry) (old : List ℕ) (before : ℕ) → IsTaking range leaf 0 old old before before
-taking_none range leaf old before = record { blocks_are = sym (append-nil old); count_is = omega arith; goes = λ rest. refl }
+taking_none range leaf old before = taking_none_of (blocks_in_range range) range leaf old before refl
 
-module _ (range : PartRange) (leaf : List Entry) (i : ℕ) (old blocks : List ℕ) (before count : ℕ) (so : IsTaking range leaf i old blocks before count) where
-  module _ (x : Entry) (within : i < length leaf) (here : x ≡ get_or leaf i []) where
-    at_hand : drop i leaf ≡ x ∷ drop (i + 1) leaf
-    at_hand = rw (add-one i) (drop-cons leaf i [] within ∙ ap (λ y. y ∷ drop (suc i) leaf) (sym here))
-
-    one_more : take (i + 1) leaf ≡ take i leaf ++ x ∷ []
-    one_more = rw (add-one i) (take-suc leaf i [] within ∙ ap (λ y. take i leaf ++ y ∷ []) (sym here))
-
-    pub taking_next : (blocks_now : List ℕ) → ends_walk range x ≡ false → blocks_now ≡ blocks ++ cond (has_part_in range x) (last_block x ∷ []) [] → IsTaking range leaf (i + 1) old blocks_now before (count + 1)
-    taking_next blocks_now goes_on now = record {
-      blocks_are =
-          let last = cond (has_part_in range x) (last_block x ∷ []) [] in
-          now ∙ (ap (λ b. b ++ last) so.blocks_are ∙ (append_assoc old (blocks_in_range range (take i leaf)) last
-          ∙ ap (λ b. old ++ b) (sym (blocks_in_range-push range (take i leaf) x) ∙ ap (blocks_in_range range) (sym one_more))));
-      count_is = omega (arith, so.count_is);
-      goes = λ rest.
-          let behind = drop (i + 1) leaf in
-          so.goes rest ∙ (ap (λ d. take i leaf ++ entries_until range (d ++ rest)) at_hand
-          ∙ (ap (λ b. take i leaf ++ (if b then [] else x ∷ entries_until range (behind ++ rest))) goes_on
-          ∙ (sym (append_assoc (take i leaf) (x ∷ []) (entries_until range (behind ++ rest))) ∙ ap (λ f. f ++ entries_until range (behind ++ rest)) (sym one_more))));
-    }
-
-    module _ (ends : ends_walk range x ≡ true) where
-      pub taking_ends : (rest : List Entry) → entries_until range (leaf ++ rest) ≡ take i leaf
-      taking_ends rest =
-          so.goes rest ∙ (ap (λ d. take i leaf ++ entries_until range (d ++ rest)) at_hand
-          ∙ (ap (λ b. take i leaf ++ (if b then [] else x ∷ entries_until range (drop (i + 1) leaf ++ rest))) ends ∙ append-nil (take i leaf)))
-
-      pub taking_ends_here : entries_until range leaf ≡ take i leaf
-      taking_ends_here = ap (entries_until range) (sym (append-nil leaf)) ∙ taking_ends []
-
-  -- all entries
-  pub taking_all : i ≡ length leaf → (rest : List Entry) → entries_until range (leaf ++ rest) ≡ leaf ++ entries_until range rest
-  taking_all whole rest =
-      let front : take i leaf ≡ leaf = ap (λ n. take n leaf) whole ∙ take-length leaf in
-      let behind : drop i leaf ≡ [] = ap (λ n. drop n leaf) whole ∙ drop-length leaf in
-      so.goes rest ∙ (ap (λ f. f ++ entries_until range (drop i leaf ++ rest)) front ∙ ap (λ d. leaf ++ entries_until range (d ++ rest)) behind)
-
-  pub taking_all_here : i ≡ length leaf → entries_until range leaf ≡ leaf
-  taking_all_here whole = ap (entries_until range) (sym (append-nil leaf)) ∙ (taking_all whole [] ∙ append-nil leaf)
-
-  pub taking_all_blocks : i ≡ length leaf → blocks ≡ old ++ blocks_in_range range (entries_until range leaf)
-  taking_all_blocks whole =
-      let front : take i leaf ≡ leaf = ap (λ n. take n leaf) whole ∙ take-length leaf in
-      so.blocks_are ∙ ap (λ xs. old ++ blocks_in_range range xs) (front ∙ sym (taking_all_here whole))
-
-  pub taking_all_count : i ≡ length leaf → count ≡ before + length (entries_until range leaf)
-  taking_all_count whole = so.count_is ∙ ap (λ n. before + n) (whole ∙ sym (ap length (taking_all_here whole)))
+pub taking_next : (range : PartRange) (leaf : List Entry) (i : ℕ) (old blocks : List ℕ) (before count : ℕ) → IsTaking range leaf i old blocks before count → (x : Entry) → i < length leaf → x ≡ get_or leaf i [] → (blocks_now : List ℕ) → ends_walk range x ≡ false
+    → blocks_now ≡ blocks ++ cond (has_part_in range x) (last_block x ∷ []) [] → IsTaking range leaf (i + 1) old blocks_now before (count + 1)
+taking_next range leaf i old blocks before count so x within here blocks_now goes_on now =
+    taking_next_of so x within here (cond (has_part_in range x) (last_block x ∷ []) []) blocks_now goes_on (blocks_in_range-push range (take i leaf) x) now
 
 -- entries of a width are long enough
 pub long_entries : (n width : ℕ) (xs : List Entry) → n ≤ width → AreOfWidth width xs → AllByRecursion (λ entry. n ≤ length entry) xs
@@ -368,29 +317,3 @@ blocks_in_range-append range (x ∷ xs) ys = go (has_part_in range x) (blocks_in
         → map last_block (cond b (x ∷ filter (has_part_in range) (xs ++ ys)) (filter (has_part_in range) (xs ++ ys))) ≡ map last_block (cond b (x ∷ filter (has_part_in range) xs) (filter (has_part_in range) xs)) ++ blocks_in_range range ys
     go true e = ap (λ r. last_block x ∷ r) e
     go false e = e
-
--- ---- one leaf of a walk
-
-module _ (range : PartRange) (all given : List Entry) (low : Entry) (next : Bound) (old taken : List ℕ) (whole : entries_from low all ≡ given ++ entries_left all next) (took : taken ≡ old ++ blocks_in_range range (entries_until range given)) where
-  left_is : entries_until range (entries_from low all) ≡ entries_until range (given ++ entries_left all next)
-  left_is = ap (entries_until range) whole
-
-  -- a walk that goes on behind the leaf
-  module _ (goes : entries_until range (given ++ entries_left all next) ≡ entries_until range given ++ entries_until range (entries_left all next)) where
-    pub leaf_walked : old ++ blocks_in_range range (entries_until range (entries_from low all)) ≡ taken ++ blocks_in_range range (entries_until range (entries_left all next))
-    leaf_walked =
-        let rest = blocks_in_range range (entries_until range (entries_left all next)) in
-        ap (λ xs. old ++ blocks_in_range range xs) (left_is ∙ goes)
-        ∙ (ap (λ bs. old ++ bs) (blocks_in_range-append range (entries_until range given) (entries_until range (entries_left all next)))
-        ∙ (sym (append_assoc old (blocks_in_range range (entries_until range given)) rest) ∙ ap (λ bs. bs ++ rest) (sym took)))
-
-    pub leaf_counted : length (entries_until range (entries_from low all)) ≡ length (entries_until range given) + length (entries_until range (entries_left all next))
-    leaf_counted = ap length (left_is ∙ goes) ∙ length-append (entries_until range given) (entries_until range (entries_left all next))
-
-  -- a walk that ended in it
-  module _ (ended : entries_until range (given ++ entries_left all next) ≡ entries_until range given) where
-    pub leaf_ended : taken ≡ old ++ blocks_in_range range (entries_until range (entries_from low all))
-    leaf_ended = took ∙ ap (λ xs. old ++ blocks_in_range range xs) (sym (left_is ∙ ended))
-
-    pub leaf_ended_counted : length (entries_until range (entries_from low all)) ≡ length (entries_until range given)
-    leaf_ended_counted = ap length (left_is ∙ ended)

@@ -8,7 +8,6 @@ use Rattle.std.proofs.lemmas.Bool.Decides.{nat_tests}
 use Rattle.std.proofs.lemmas.List.Sorted.{Contains-permutation, IsPermutation-sym}
 use Rattle.std.proofs.lemmas.List.Elements.{Contains-append_cases, Contains-append_left, Contains-append_right, Contains-push}
 use Rattle.mdc_values.specs.Rising.{IsLower, LastIsBefore}
-use Rattle.block_index.proofs.UnderKeyLemmas.{last_put}
 
 -- the numbers don't fall
 abbrev pub AreSorted : List ℕ → Type 0
@@ -28,11 +27,17 @@ pub record IsRisen (numbers : List ℕ) (i from : ℕ) (blocks : List ℕ) : Typ
   pub last : 0 < from → (0 < i) × (from ≡ get_or numbers (i - 1) 0 + 1)
   pub behind : (e : ℕ) → from ≤ e → LastIsBefore IsLower e blocks
 
-one_of : (x b : ℕ) → Contains (x ∷ []) b → x ≡ b
+-- what is put behind a rising list
+pub last_put : (blocks : List ℕ) (b e : ℕ) → b < e → LastIsBefore IsLower e (blocks ++ b ∷ [])
+last_put [] b e l = l
+last_put (x ∷ []) b e l = l
+last_put (x ∷ y ∷ xs) b e l = last_put (y ∷ xs) b e l
+
+pub one_of : (x b : ℕ) → Contains (x ∷ []) b → x ≡ b
 one_of x b (zero, l, e) = e
 one_of x b (suc k, l, e) = absurd (omega (arith, l))
 
-none_of : (b : ℕ) → Contains {X = ℕ} [] b → ⊥
+pub none_of : (b : ℕ) → Contains {X = ℕ} [] b → ⊥
 none_of b (k, l, e) = omega (arith, l)
 
 -- all of them are

@@ -23,10 +23,10 @@ use Rattle.entry_tree.specs.EntryBounds.{IsEntryOf, Rises}
 use Rattle.table_trees.specs.TableTrees.{TreePlace, dimension_place, dimension_places, place_of_dimension, rising_parts}
 use Rattle.table_trees.proofs.TableTreesLemmas.{AreColumns, narrow_enough}
 use Rattle.block_index.specs.Cells.{FitPlaces, entry_under, key_of_values}
-use Rattle.block_index.specs.PartRanges.{blocks_in_range, has_part_in, last_block, offset_of}
+use Rattle.block_index.specs.PartRanges.{blocks_in_range, has_part_in, last_block, offset_of, walked}
 use Rattle.block_index.specs.Reading.{AreBlocksInSpan, CountsEntries, IsFirstPlace, IsListed, TellsSpan, value_beside}
 use Rattle.block_index.specs.declared.part_range.PartRange.{PartRange}
-use Rattle.block_index.proofs.PartRangesLemmas.{at_cases, count_agree, from_filter, in_filter, length-filter_count, walk_meets, walk_of_first, walk_of_other, walk_within, walked}
+use Rattle.block_index.proofs.PartRangesLemmas.{at_cases, count_agree, from_filter, in_filter, length-filter_count, walk_meets, walk_of_first, walk_of_other, walk_within}
 
 -- ---- the part of a column
 

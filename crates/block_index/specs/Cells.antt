@@ -1,7 +1,6 @@
 -- Cells: the values of the dimension columns, and the entries of a block in the block indexes under them.
 use Rattle.std.specs.Prelude.{◌≡◌, ◌<◌, ℕ, false, List, [], ◌∷◌, ◌++◌, length, drop, zip, IsTrue}
 use Rattle.std.specs.List.{AllByRecursion}
-use Rattle.byteorder.specs.Endian.{big_bytes}
 use Rattle.mdc_words.specs.ByteOrder.{Entry}
 use Rattle.mdc_values.specs.declared.value.Value.{Value}
 use Rattle.mdc_ast.specs.Truth.{value_at}
@@ -10,6 +9,7 @@ use Rattle.mdc_ast.specs.declared.definition.TableDef.{TableDef}
 use Rattle.key_codec.specs.Keys.{has_key, part_bytes, type_of_column}
 use Rattle.table_trees.specs.RowCells.{cell_places}
 use Rattle.table_trees.specs.TableTrees.{TreePlace, block_index_places}
+use Rattle.block_index.specs.Numbered.{numbered}
 
 -- the first values have keys in the columns in these places
 abbrev pub FitPlaces : List ColumnDef → List ℕ → List Value → Type 0
@@ -34,7 +34,7 @@ key_of_values columns (place ∷ places) (value ∷ values) = part_bytes (type_o
 
 -- an entry of a block index: a key, and the block
 abbrev pub entry_under : List ℕ → ℕ → Entry
-entry_under key block = key ++ big_bytes 4 block
+entry_under key block = numbered 4 key block
 
 -- the entries of a block in the indexes of some dimensions, whose values these are in order
 abbrev pub dimension_entries : List ColumnDef → List (List ℕ) → List Value → ℕ → List Entry

@@ -1,5 +1,5 @@
 -- What listing a block in the block indexes does, and taking it out of them.
-use Rattle.std.specs.Prelude.{◌≡◌, ◌⊎◌, ◌≤◌, ℕ, zero, suc, List, [], ◌∷◌, length, sum_by, Some, slice_get}
+use Rattle.std.specs.Prelude.{◌≡◌, ◌≤◌, ℕ, zero, suc, List, [], ◌∷◌, length, sum_by, Some, slice_get}
 use Rattle.mdc_words.specs.ByteOrder.{Entry}
 use Rattle.mdc_values.specs.declared.value.Value.{Value}
 use Rattle.mdc_ast.specs.declared.definition.TableDef.{TableDef}
@@ -10,12 +10,12 @@ use Rattle.extent_map.specs.declared.kind.Kind.{Kind}
 use Rattle.extent_map.specs.declared.space_notes.SpaceNotes.{SpaceNotes}
 use Rattle.entry_tree.specs.EntryBounds.{IsEntryOf, with_entry}
 use Rattle.entry_tree.specs.Forest.{Forest, leaf_entries, times}
-use Rattle.entry_tree.specs.Pruning.{BreaksTreeOrReturn}
-use Rattle.entry_tree.specs.Standing.{BreaksTreeOrMap, FindsFull, StandsTree}
+use Rattle.entry_tree.specs.Standing.{FindsFull, StandsTree}
 use Rattle.entry_tree.specs.declared.tree.Tree.{Tree}
 use Rattle.table_trees.specs.TableTrees.{block_index_places, place_of_tree}
 use Rattle.table_trees.specs.TreesBeside.{ChangesTrees, StandTrees}
 use Rattle.block_index.specs.Cells.{cell_entries}
+use Rattle.block_index.specs.IndexDamage.{BreaksEntering, BreaksLeaving}
 
 -- ---- entries that come and go
 
@@ -76,20 +76,6 @@ pub record ComesTo {S : Type 0} (g : Ghosts S) (Moves : Entry → Forest → For
   pub entry : slice_get (cell_entries def values block) n ≡ Some x
   pub done : (owners : List Kind) (trees : List Forest) → StandTrees g shape old owners (block_index_places def) trees → ChangesFirst g Moves shape before now mid def values block n owners trees
 
--- the damage of a block index names its root and rule 10: it has an entry that it shouldn't have, or hasn't one that it should
-pub record BreaksIndex {S : Type 0} (g : Ghosts S) (shape : Shape) (s : S) (tree : Tree) (Wrong : List Entry → Type 0) (damage : Damage) : Type 0 where
-  pub page : damage.page ≡ tree.root
-  pub rule : damage.rule ≡ 10
-  pub wrong : (owners : List Kind) (t : Forest) → StandsTree g shape s tree owners t → Wrong (leaf_entries t)
-
--- what entering an entry in one index may name: what an addition may, or that the entry is there already
-abbrev pub BreaksEntering : {S : Type 0} → Ghosts S → Shape → S → Tree → Entry → Damage → Type 0
-BreaksEntering g shape s tree x damage = BreaksTreeOrMap g shape s tree damage ⊎ BreaksIndex g shape s tree (IsEntryOf x) damage
-
--- what taking an entry out of one index may name: what a removal may, or that the entry isn't there
-abbrev pub BreaksLeaving : {S : Type 0} → Ghosts S → Shape → S → Tree → Entry → Damage → Type 0
-BreaksLeaving g shape s tree x damage = BreaksTreeOrReturn g shape s tree damage ⊎ BreaksIndex g shape s tree (λ entries. IsEntryOf x entries → ⊥) damage
-
 -- what listing a block may name: at the index that it had come to, what entering its entry there may
 pub record BreaksListing {S : Type 0} (g : Ghosts S) (shape : Shape) (before : SpaceNotes) (old : S) (def : TableDef) (values : List Value) (block : ℕ) (damage : Damage) : Type 0 where
   pub now : SpaceNotes
@@ -97,7 +83,7 @@ pub record BreaksListing {S : Type 0} (g : Ghosts S) (shape : Shape) (before : S
   pub tree : Tree
   pub x : Entry
   pub comes : ComesTo g GainsEntry shape before old def values block now mid tree x
-  pub breaks : BreaksEntering g shape mid tree x damage
+  pub breaks : BreaksEntering g 10 shape mid tree x damage
 
 -- what taking a block out may name: at the index that it had come to, what taking its entry out may
 pub record BreaksUnlisting {S : Type 0} (g : Ghosts S) (shape : Shape) (before : SpaceNotes) (old : S) (def : TableDef) (values : List Value) (block : ℕ) (damage : Damage) : Type 0 where
@@ -106,7 +92,7 @@ pub record BreaksUnlisting {S : Type 0} (g : Ghosts S) (shape : Shape) (before :
   pub tree : Tree
   pub x : Entry
   pub comes : ComesTo g LosesEntry shape before old def values block now mid tree x
-  pub breaks : BreaksLeaving g shape mid tree x damage
+  pub breaks : BreaksLeaving g 10 shape mid tree x damage
 
 -- The listing met a full map at the index that it had come to: map and that index stand afterwards as they did then, but for
 -- pages that were claimed.

@@ -5,6 +5,7 @@ use Rattle.mdc_words.specs.ByteOrder.{Entry}
 use Rattle.mdc_ast.specs.declared.definition.ColumnDef.{ColumnDef}
 use Rattle.key_codec.specs.Keys.{part_width, type_of_column}
 use Rattle.key_codec.specs.Spans.{is_in_range, reaches}
+use Rattle.entry_tree.specs.Reading.{entries_from}
 use Rattle.block_index.specs.declared.part_range.PartRange.{PartRange}
 
 -- how many bytes stand before the part of a column, at its first place
@@ -36,3 +37,7 @@ last_block entry = big_number 4 (drop (length entry - 4) entry)
 -- the blocks that are named by the entries with the part in the range
 abbrev pub blocks_in_range : PartRange → List Entry → List ℕ
 blocks_in_range range entries = map last_block (filter (has_part_in range) entries)
+
+-- the entries that a walk for a range goes over
+abbrev pub walked : ℕ → PartRange → List Entry → List Entry
+walked width range all = entries_until range (entries_from (start_of_walk width range) all)

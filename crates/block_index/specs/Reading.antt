@@ -1,5 +1,5 @@
 -- What is found in the block indexes.
-use Rattle.std.specs.Prelude.{◌≡◌, ◌<◌, ◌≤◌, ◌+◌, ◌-◌, ◌^◌, ◌==◌, ℕ, Bool, IsTrue, List, [], ◌∷◌, length, count_by, Option, Some, None, Contains, if◌then◌else◌}
+use Rattle.std.specs.Prelude.{◌≡◌, ◌<◌, ◌+◌, ◌-◌, ◌^◌, ◌==◌, ℕ, Bool, IsTrue, List, [], ◌∷◌, length, count_by, Option, Some, None, Contains, if◌then◌else◌}
 use Rattle.std.specs.Slice.Scan.{big_endian}
 use Rattle.mdc_words.specs.ByteOrder.{Entry}
 use Rattle.mdc_values.specs.declared.value.Value.{Value}
@@ -10,6 +10,7 @@ use Rattle.key_codec.specs.Spans.{lies_in_span}
 use Rattle.entry_tree.specs.EntryBounds.{Bound, IsEntryOf}
 use Rattle.entry_tree.specs.Reading.{entries_from}
 use Rattle.block_index.specs.Cells.{FitPlaces, entry_under, key_of_values}
+use Rattle.block_index.specs.Numbered.{FindsNumber, IsLowestNumber}
 
 -- ---- under one key
 
@@ -19,15 +20,12 @@ pub record AreBlocksUnder (key : List ℕ) (entries : List Entry) (blocks : List
   pub only : (block : ℕ) → Contains blocks block → IsEntryOf (entry_under key block) entries
 
 -- the lowest block from a number on that an index has under a key
-pub record IsLowestUnder (key : List ℕ) (entries : List Entry) (from block : ℕ) : Type 0 where
-  pub there : IsEntryOf (entry_under key block) entries
-  pub reached : from ≤ block
-  pub lowest : (other : ℕ) → other < 2 ^ 32 → IsEntryOf (entry_under key other) entries → from ≤ other → block ≤ other
+abbrev pub IsLowestUnder : List ℕ → List Entry → ℕ → ℕ → Type 0
+IsLowestUnder key entries from block = IsLowestNumber 4 key entries from block
 
 -- the same, or that there is none
 abbrev pub FindsUnder : List ℕ → List Entry → ℕ → Option ℕ → Type 0
-FindsUnder key entries from None = (other : ℕ) → other < 2 ^ 32 → IsEntryOf (entry_under key other) entries → from ≤ other → ⊥
-FindsUnder key entries from (Some block) = IsLowestUnder key entries from block
+FindsUnder key entries from block = FindsNumber 4 key entries from block
 
 -- ---- listed under values
 

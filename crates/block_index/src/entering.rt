@@ -1,25 +1,24 @@
 // A block comes into the block indexes.
-ghost use Rattle.std.specs.Prelude.{◌≡◌, List, false, length, IfErr, IsTrue, OnOk};
+ghost use Rattle.std.specs.Prelude.{◌≡◌, List, false, IfErr, IsTrue, OnOk};
 ghost use Rattle.store_api.specs.Causes.{store_fault_in};
 ghost use Rattle.store_api.specs.RunsOverPages.{RunsOverPages};
 ghost use Rattle.extent_map.specs.Damages.{IfFull, store_part_of};
 ghost use Rattle.extent_map.specs.Owners.{AreRightNotes};
 ghost use Rattle.extent_map.specs.declared.kind.Kind.{Kind};
 ghost use Rattle.entry_tree.specs.Forest.{Forest};
-ghost use Rattle.entry_tree.specs.Standing.{AddsEntry, FindsFull, IsTreeSpace, StandsTree};
 ghost use Rattle.table_trees.specs.SpaceChanges.{MakesChanges, RunsFull, added_entries};
 ghost use Rattle.table_trees.specs.TableTrees.{HasBlockIndexes, block_index_places};
 ghost use Rattle.table_trees.specs.TreesBeside.{GrowsPages, IsSpaceOfTrees, StandTrees};
 ghost use Rattle.block_index.specs.Cells.{FitsCell, index_listings};
-ghost use Rattle.block_index.specs.Listing.{BreaksEntering, BreaksListing, FillsListing, ListsBlock};
+ghost use Rattle.block_index.specs.Listing.{BreaksListing, FillsListing, ListsBlock};
 
 use crate::entries::cell_entries;
-use entry_tree::Tree;
+use crate::one_entry::enter;
 use extent_map::{SpaceFault, SpaceNotes};
 use mdc_ast::{Cell, TableDef};
 use std::alloc::Global;
 use store_api::rules::BLOCK_INDEXES_RULE;
-use store_api::{Damage, Pages, Shape, StoreFault};
+use store_api::{Pages, Shape};
 use table_trees::block_index_tree;
 
 /// Lists a block under the values of its cell: in the composite index, and then in that of each dimension. It claims no more
@@ -52,40 +51,14 @@ pub fn list_block<P: Pages>(
     let entries = cell_entries(alloc, def, cell, block)?;
     for i in 0..entries.len() {
         let tree = block_index_tree(alloc, def, i);
-        enter(&tree, shape, notes, pages, entries[i].bytes())?;
+        enter(
+            &tree,
+            BLOCK_INDEXES_RULE,
+            shape,
+            notes,
+            pages,
+            entries[i].bytes(),
+        )?;
     }
     Ok(())
-}
-
-/// Enters an entry in an index.
-fn enter<P: Pages>(
-    tree: &Tree,
-    shape: Shape,
-    notes: &mut SpaceNotes,
-    pages: &mut P,
-    entry: &[u8],
-) -> Result<(), SpaceFault>
-    requires width { length entry.now ≡ tree.now.width }
-    requires going { (P.state pages.old).ended ≡ false }
-    ensures adds { OnOk result ((owners : List Kind) (t : Forest) → StandsTree P.Pages shape pages.old tree.now owners t → AddsEntry P.Pages shape notes.old notes.new pages.old pages.new tree.now entry.now owners t) }
-    ensures full { IfErr result (λ fault. IfFull fault (λ cap. (cap ≡ shape.extents)
-        × ((owners : List Kind) (t : Forest) → StandsTree P.Pages shape pages.old tree.now owners t → FindsFull P.Pages shape notes.old notes.new pages.old pages.new tree.now entry.now owners t))) }
-    ensures runs { RunsOverPages P.Pages (IsTreeSpace P.Pages shape pages.old tree.now) (IsTreeSpace P.Pages shape pages.old tree.now)
-        (BreaksEntering P.Pages shape pages.old tree.now entry.now) pages.old pages.new (store_fault_in store_part_of result) }
-{
-    let added = tree.add(shape, notes, pages, entry)?;
-    if !added {
-        return Err(SpaceFault::Store(misplaced(tree)));
-    }
-    Ok(())
-}
-
-/// The fault of a block index that has an entry which it shouldn't have, or hasn't one which it should.
-pub(crate) fn misplaced(tree: &Tree) -> StoreFault
-    ensures { result ≡ StoreFault.Damaged (record { page = tree.now.root; rule = 10 }) }
-{
-    StoreFault::Damaged(Damage {
-        page: tree.root,
-        rule: BLOCK_INDEXES_RULE,
-    })
 }

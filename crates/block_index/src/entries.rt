@@ -1,14 +1,17 @@
 // The entries of a block in the block indexes.
-ghost use Rattle.std.specs.Prelude.{◌≡◌, ◌+◌, ◌≤◌, length, take, IfErr, IfOk};
+ghost use Rattle.std.specs.Prelude.{◌≡◌, ◌≤◌, length, IfErr, IfOk};
 ghost use Rattle.table_trees.specs.TableTrees.{HasBlockIndexes};
 ghost use Rattle.block_index.specs.Cells.{FitsCell, cell_entries, entry_under};
 
+use crate::key_numbers::numbered;
 use crate::keys::{key_of_cell, push_key};
-use byteorder::{BigEndian, ByteOrder};
-use entry_tree::{Entry, MAX_WIDTH};
+use entry_tree::Entry;
 use mdc_ast::{Cell, TableDef};
 use std::alloc::Global;
 use store_api::StoreFault;
+
+/// In how many bytes an entry names its block.
+pub(crate) const BLOCK_BYTES: usize = 4;
 
 /// The entries of a block under the values of its cell: that in the composite index, and then those in the dimensions'.
 pub(crate) fn cell_entries(
@@ -35,21 +38,9 @@ pub(crate) fn cell_entries(
 }
 
 /// A key, and the block behind it. It takes no memory.
-pub(crate) fn entry_under(key: &[u8], block: u32) -> Entry
+fn entry_under(key: &[u8], block: u32) -> Entry
     requires { length key.now ≤ 130 }
     ensures { result ≡ entry_under key.now block }
 {
-    let mut bytes = [0; MAX_WIDTH];
-    put_entry(&mut bytes, key, block);
-    Entry::of(&bytes[..key.len() + 4])
-}
-
-/// Writes a key and the block behind it to the front of `out`.
-fn put_entry(out: &mut [u8], key: &[u8], block: u32)
-    requires { length key.now + 4 ≤ length out.old }
-    ensures { take (length key.now + 4) out.new ≡ entry_under key.now block }
-{
-    let end = key.len();
-    out[..end].copy_from_slice(key);
-    BigEndian::write_u32(&mut out[end..], block);
+    numbered(key, BLOCK_BYTES, u64::from(block))
 }

@@ -4,20 +4,18 @@ ghost use Rattle.store_api.specs.Causes.{fault_of};
 ghost use Rattle.store_api.specs.RunsOverPages.{RunsOverPages};
 ghost use Rattle.extent_map.specs.declared.kind.Kind.{Kind};
 ghost use Rattle.entry_tree.specs.Forest.{Forest};
-ghost use Rattle.entry_tree.specs.Pruning.{IsTreeOrMapPage, RemovesEntry};
-ghost use Rattle.entry_tree.specs.Standing.{StandsTree};
 ghost use Rattle.table_trees.specs.SpaceChanges.{MakesChanges, removed_entries};
 ghost use Rattle.table_trees.specs.TableTrees.{HasBlockIndexes, block_index_places};
 ghost use Rattle.table_trees.specs.TreesBeside.{IsTreesOrMapPage, StandTrees};
 ghost use Rattle.block_index.specs.Cells.{FitsCell, index_listings};
-ghost use Rattle.block_index.specs.Listing.{BreaksLeaving, BreaksUnlisting, UnlistsBlock};
+ghost use Rattle.block_index.specs.Listing.{BreaksUnlisting, UnlistsBlock};
 
-use crate::entering::misplaced;
 use crate::entries::cell_entries;
-use entry_tree::Tree;
+use crate::one_entry::leave;
 use extent_map::SpaceNotes;
 use mdc_ast::{Cell, TableDef};
 use std::alloc::Global;
+use store_api::rules::BLOCK_INDEXES_RULE;
 use store_api::{Pages, Shape, StoreFault};
 use table_trees::block_index_tree;
 
@@ -46,29 +44,14 @@ pub fn unlist_block<P: Pages>(
     let entries = cell_entries(alloc, def, cell, block)?;
     for i in 0..entries.len() {
         let tree = block_index_tree(alloc, def, i);
-        leave(&tree, shape, notes, pages, entries[i].bytes())?;
-    }
-    Ok(())
-}
-
-/// Takes an entry out of an index.
-fn leave<P: Pages>(
-    tree: &Tree,
-    shape: Shape,
-    notes: &mut SpaceNotes,
-    pages: &mut P,
-    entry: &[u8],
-) -> Result<(), StoreFault>
-    requires width { length entry.now ≡ tree.now.width }
-    requires going { (P.state pages.old).ended ≡ false }
-    ensures removes { OnOk result ((owners : List Kind) (t : Forest) → StandsTree P.Pages shape pages.old tree.now owners t → RemovesEntry P.Pages shape notes.old notes.new pages.new tree.now entry.now owners t) }
-    ensures count { length (P.state pages.new).work ≡ length (P.state pages.old).work }
-    ensures runs { RunsOverPages P.Pages (IsTreeOrMapPage P.Pages shape pages.old tree.now) (IsTreeOrMapPage P.Pages shape pages.old tree.now)
-        (BreaksLeaving P.Pages shape pages.old tree.now entry.now) pages.old pages.new (fault_of result) }
-{
-    let was_there = tree.remove(shape, notes, pages, entry)?;
-    if !was_there {
-        return Err(misplaced(tree));
+        leave(
+            &tree,
+            BLOCK_INDEXES_RULE,
+            shape,
+            notes,
+            pages,
+            entries[i].bytes(),
+        )?;
     }
     Ok(())
 }

@@ -18,12 +18,13 @@ use std::alloc::Global;
 use std::sync::ledger::Ledger;
 use store_api::StoreFault;
 
-/// From which byte of an entry a part begins, and between which bounds it lies.
+/// From which byte of an entry a part begins, and between which bounds it lies: at or above the first, and below the second, if
+/// there is one.
 #[derive(Drop)]
-pub(crate) struct PartRange {
-    pub(crate) at: usize,
-    pub(crate) low: Key,
-    pub(crate) high: Option<Key>,
+pub struct PartRange {
+    pub at: usize,
+    pub low: Key,
+    pub high: Option<Key>,
 }
 
 impl PartRange {
@@ -56,7 +57,7 @@ impl PartRange {
     }
 
     /// Where a walk begins that is to meet each entry of the range.
-    pub(crate) fn start(&self, width: u16) -> Entry
+    pub fn start(&self, width: u16) -> Entry
         requires narrow { width ≤ MAX_WIDTH }
         requires within { length self.now.low ≤ width }
         ensures { result ≡ start_of_walk width self.now }
@@ -126,7 +127,7 @@ impl PartRange {
     }
 
     /// Whether a walk for the range ends at an entry.
-    fn ends_at(&self, entry: &[u8]) -> bool
+    pub fn ends_at(&self, entry: &[u8]) -> bool
         ensures { result ≡ ends_walk self.now entry.now }
     {
         if self.at != 0 {

@@ -1,5 +1,5 @@
 // The blocks under one key of the composite index.
-ghost use Rattle.std.specs.Prelude.{◌≡◌, ◌≢◌, ◌+◌, ◌≤◌, ◌++◌, ◌∷◌, [], false, length, take, IfErr, IfNone, IfOk, IfSome, OnOk};
+ghost use Rattle.std.specs.Prelude.{◌≡◌, ◌+◌, ◌≤◌, ◌++◌, ◌∷◌, [], false, length, IfErr, IfOk, IfSome, OnOk};
 ghost use Rattle.mdc_values.specs.Rising.{IsLower, LastIsBefore};
 ghost use Rattle.store_api.specs.Causes.{fault_of};
 ghost use Rattle.store_api.specs.Frame.{NoPage};
@@ -10,13 +10,12 @@ ghost use Rattle.key_codec.specs.Keys.{width_of_parts};
 ghost use Rattle.table_trees.specs.RowCells.{cell_places};
 ghost use Rattle.table_trees.specs.TableTrees.{AreIndexParts, cell_parts, composite_place};
 ghost use Rattle.table_trees.specs.TreesBeside.{BreaksTreeAt, HoldsTreeAt, IsTreePageAt};
-ghost use Rattle.block_index.specs.Cells.{FitsCell, entry_under, key_of_values};
+ghost use Rattle.block_index.specs.Cells.{FitsCell, key_of_values};
 ghost use Rattle.block_index.specs.Reading.{AreBlocksUnder, FindsUnder};
 
-use crate::entries::entry_under;
+use crate::entries::BLOCK_BYTES;
+use crate::key_numbers::next_number;
 use crate::keys::key_of_cell;
-use crate::leaves::out_of_order;
-use byteorder::{BigEndian, ByteOrder};
 use entry_tree::Tree;
 use mdc_ast::{Cell, TableDef};
 use mdc_values::Blocks;
@@ -103,30 +102,9 @@ fn next_block<P: Pages>(
     ensures same { (P.state pages.new).work ≡ (P.state pages.old).work }
     ensures runs { RunsOverPages P.Pages NoPage (IsTreePage P.Pages pages.old tree.now) (BreaksTree P.Pages pages.old tree.now) pages.old pages.new (fault_of result) }
 {
-    let bound = entry_under(key, from);
-    let Some(first) = tree.first_from(pages, bound.bytes())? else {
-        return Ok(None);
-    };
-    let Some(block) = block_under(key, first.bytes()) else {
-        return Ok(None);
-    };
-    if block < from {
-        return Err(out_of_order(tree));
-    }
-    Ok(Some(block))
-}
-
-/// The block that an entry has under a key. None where the entry doesn't begin with the key.
-fn block_under(key: &[u8], entry: &[u8]) -> Option<u32>
-    requires { length key.now + 4 ≡ length entry.now }
-    ensures some { IfSome result (λ block. entry.now ≡ entry_under key.now block) }
-    ensures none { IfNone result (take (length key.now) entry.now ≢ key.now) }
-{
-    let (front, back) = entry.split_at(key.len());
-    if front == key {
-        Some(BigEndian::read_u32(back))
-    } else {
-        None
+    match next_number(tree, pages, key, BLOCK_BYTES, u64::from(from))? {
+        Some(block) => Ok(Some(block as u32)),
+        None => Ok(None),
     }
 }
 

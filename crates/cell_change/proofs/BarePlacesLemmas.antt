@@ -19,7 +19,7 @@ use Rattle.mdc_sound.proofs.SlotRowsLemmas.{few_slots}
 use Rattle.mdc_sound.proofs.TableSpotsLemmas.{length-spots, used_of_spot}
 use Rattle.record_index.specs.FoundRids.{IsRid}
 use Rattle.row_entries.specs.ChosenIndexes.{HasRecordKeys}
-use Rattle.row_entries.specs.RowEntries.{LacksRow}
+use Rattle.row_entries.specs.RowEntries.{LacksRowEntries}
 use Rattle.row_entries.proofs.StandingRowsLemmas.{lacks_entries}
 use Rattle.mdc_table.specs.AnyPlace.{IsFreeSpot, PutsAnywhere}
 use Rattle.mdc_table.proofs.KeptRoomsLemmas.{used_below}
@@ -78,7 +78,7 @@ module _ {S : Type 0} (g : Ghosts S) (shape : Shape) (s : S) (def : TableDef) (r
 
   -- no sound record index has an entry of it, and so none of the same trees
   pub lacks_anywhere : IsTableDef def.number def → HasRecordKeys def row.values → (new : List Spot) → PutsAnywhere def (block_slot_count shape def) (spots_of g shape s def owners forests) row new rid
-      → HasSoundIndexes g shape s def owners forests → (others : List Kind) (more : TableForests) → more.indexes ≡ forests.indexes → LacksRow def row rid others more
+      → HasSoundIndexes g shape s def owners forests → (others : List Kind) (more : TableForests) → more.indexes ≡ forests.indexes → LacksRowEntries def row rid others more
   lacks_anywhere defined keys new puts sound others more same =
       let is = bare_anywhere def (block_slot_count shape def) (spots_of g shape s def owners forests) new row rid puts in
       lacks_entries g shape s def owners forests st sound defined row rid others more keys (place_named new puts) is.0 is.1 same

@@ -20,8 +20,9 @@ use Rattle.mdc_sound.specs.Placing.{IsRowAt, Spot}
 use Rattle.mdc_sound.specs.Placing.Spot.{OtherBlock}
 use Rattle.mdc_sound.specs.RunningFull.{InsertingChanges, InsertRunsFull, ShowsTableSpots, UpdateRunsFull, UpdatingChanges, putting_changes, taking_changes}
 use Rattle.mdc_sound.specs.StandingTable.{RoomNote, StandsTable, TableForests, pages_of, spots_of}
+use Rattle.row_entries.specs.SoundEntries.{placed_at}
 use Rattle.cell_change.specs.ExpectedTables.{PutRunsFull}
-use Rattle.cell_change.specs.RowChanges.{DeletesRow, InsertsRow, MakesOneChange, TurnsRowBy, row_in_place}
+use Rattle.cell_change.specs.RowChanges.{DeletesRow, InsertsRow, MakesOneChange, TurnsRowBy}
 use Rattle.cell_change.proofs.ChangedRowLemmas.{same_claims}
 
 -- what two facts say together of a value that there is
@@ -83,7 +84,7 @@ module _ {S : Type 0} (g : Ghosts S) (shape : Shape) {before mid : SpaceNotes} {
 
   -- ---- it runs full once the row is out
 
-  pub update_full : StandsTable g shape old def owners forests → PutRunsFull shape (pages_of g middle) def free other → UpdateRunsFull shape (pages_of g old) def ((row_in_place rid row, other) ∷ [])
+  pub update_full : StandsTable g shape old def owners forests → PutRunsFull shape (pages_of g middle) def free other → UpdateRunsFull shape (pages_of g old) def ((placed_at rid row, other) ∷ [])
   update_full st (PutRunsFull.placed to spots puts full) =
       let putting = putting_changes def other to (slice_index_or free to.block OtherBlock) in
       record {

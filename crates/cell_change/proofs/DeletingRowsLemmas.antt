@@ -26,7 +26,8 @@ use Rattle.mdc_sound.specs.StandingTable.{BreaksExpected, ChangesTable, IsBlockP
 use Rattle.mdc_sound.specs.TableRows.{PlacedRow}
 use Rattle.mdc_sound.proofs.ChangedRowsLemmas.{rows_after_taking}
 use Rattle.row_entries.specs.ChosenIndexes.{MoveChosen, all_chosen, entry_of}
-use Rattle.row_entries.specs.RowEntries.{HasRow, IsTreeOrMapPageOfTable, LeavesRow, with_indexes}
+use Rattle.row_entries.specs.RowEntries.{HasRowEntries, IsTreeOrMapPageOfTable, LeavesRow, with_indexes}
+use Rattle.row_entries.specs.SoundEntries.{placed_at}
 use Rattle.row_entries.proofs.StandingRowsLemmas.{has_entries}
 use Rattle.table_blocks.specs.BlockSteps.{HasThisRow}
 use Rattle.free_space.specs.RoomNotes.{no_note}
@@ -34,7 +35,7 @@ use Rattle.mdc_table.specs.AnyPlace.{TakesOutAnywhere}
 use Rattle.mdc_table.proofs.KeptBlocksLemmas.{keeps_in_trees}
 use Rattle.mdc_table.proofs.KeptRoomsLemmas.{rooms_forgotten}
 use Rattle.cell_change.specs.ExpectedTables.{WithSoundIndexes}
-use Rattle.cell_change.specs.RowChanges.{DeletesAnywhere, DeletesRow, row_in_place, rows_now}
+use Rattle.cell_change.specs.RowChanges.{DeletesAnywhere, DeletesRow, rows_now}
 use Rattle.cell_change.proofs.KeptOthersLemmas.{block_of_table, keeps_as, keeps_then}
 use Rattle.cell_change.proofs.SpotStepsLemmas.{returned_behind, returns_leave, returns_then, rooms_on, row_on, spots_without, takes_before}
 use Rattle.cell_change.proofs.TableStepsLemmas.{changes_table_then}
@@ -145,7 +146,7 @@ module _ {S : Type 0} (g : Ghosts S) (shape : Shape) {before mid : SpaceNotes} (
         mid = left;
         takes = first;
         returns = returns_then left takes.mid spots_new (returned_behind spots_old spots_mid takes.mid rid row leaves.returns takes.takes) takes.returns;
-        rows = subst (λ (were : List PlacedRow). IsPermutation (row_in_place rid row ∷ now) were) leaves.table.rows
+        rows = subst (λ (were : List PlacedRow). IsPermutation (placed_at rid row ∷ now) were) leaves.table.rows
             (rows_after_taking g shape no_notes middle new def leaves.owners_now forests_mid leaves.table.changes.stands row rid (noted_nowhere g shape middle new def leaves.owners_now forests_mid row rid takes));
       }
 
@@ -185,7 +186,7 @@ module _ {S : Type 0} (g : Ghosts S) (shape : Shape) (old : S) (def : TableDef) 
     Breaks = BreaksExpected g shape old def (WithSoundIndexes g shape old def (HasThisRow g shape old def rid row))
 
     pub runs_leaving : {new : S} {fault : Option StoreFault}
-        → RunsOverPages g (IsTreeOrMapPageOfTable g shape old def) (IsTreeOrMapPageOfTable g shape old def) (BreaksExpected g shape old def (HasRow def row rid)) old new fault
+        → RunsOverPages g (IsTreeOrMapPageOfTable g shape old def) (IsTreeOrMapPageOfTable g shape old def) (BreaksExpected g shape old def (HasRowEntries def row rid)) old new fault
         → RunsOverPages g (IsTableOrMapPage g shape old def) (IsTableOrMapPage g shape old def) Breaks old new fault
     runs_leaving run = runs_wider run (λ p low mine. tree_in_table p mine) tree_in_table (λ damage is. record {
       names = is.names;
@@ -195,7 +196,7 @@ module _ {S : Type 0} (g : Ghosts S) (shape : Shape) (old : S) (def : TableDef) 
     -- and where it did
     pub runs_left : {before mid : SpaceNotes} (middle : S) → ((owners : List Kind) (forests : TableForests) → StandsTable g shape old def owners forests → LeavesRow g shape before mid old middle def row rid owners forests)
         → {new : S} {fault : Option StoreFault}
-        → RunsOverPages g (IsTreeOrMapPageOfTable g shape old def) (IsTreeOrMapPageOfTable g shape old def) (BreaksExpected g shape old def (HasRow def row rid)) old middle None
+        → RunsOverPages g (IsTreeOrMapPageOfTable g shape old def) (IsTreeOrMapPageOfTable g shape old def) (BreaksExpected g shape old def (HasRowEntries def row rid)) old middle None
         → RunsOverPages g (IsTableOrMapPage g shape middle def) (IsTableOrMapPage g shape middle def) (BreaksExpected g shape middle def (HasThisRow g shape middle def rid row)) middle new fault
         → RunsOverPages g (IsTableOrMapPage g shape old def) (IsTableOrMapPage g shape old def) Breaks old new fault
     runs_left middle leaves first second = runs_as first second (λ p low mine. tree_in_table p mine) (λ p low mine. late p mine) tree_in_table late breaks

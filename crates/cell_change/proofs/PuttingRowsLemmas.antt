@@ -27,10 +27,11 @@ use Rattle.mdc_sound.specs.StandingTable.{BreaksExpected, BreaksTable, IsTableSp
 use Rattle.mdc_sound.specs.TableRows.{PlacedRow}
 use Rattle.mdc_sound.proofs.ChangedRowsLemmas.{rows_after_placing}
 use Rattle.row_entries.specs.ChosenIndexes.{HasRecordKeys, MoveChosen, all_chosen, entry_of}
-use Rattle.row_entries.specs.RowEntries.{EntersRow, LacksRow, with_indexes}
+use Rattle.row_entries.specs.RowEntries.{EntersRow, LacksRowEntries, with_indexes}
+use Rattle.row_entries.specs.SoundEntries.{placed_at}
 use Rattle.mdc_table.specs.AnyPlace.{PlacesAnywhere}
 use Rattle.cell_change.specs.ExpectedTables.{HasSoundIndexes, PutRunsFull}
-use Rattle.cell_change.specs.RowChanges.{InsertsRow, row_in_place, rows_now}
+use Rattle.cell_change.specs.RowChanges.{InsertsRow, rows_now}
 use Rattle.cell_change.proofs.KeptOthersLemmas.{keeps_as, keeps_then}
 use Rattle.cell_change.proofs.BarePlacesLemmas.{lacks_anywhere}
 use Rattle.cell_change.proofs.SpotStepsLemmas.{claims_leave, claims_then, rooms_on}
@@ -47,7 +48,7 @@ module _ {S : Type 0} (g : Ghosts S) (shape : Shape) {before mid : SpaceNotes} {
   no_block : (e : ℕ) → table_of_block (owner_of places.owners_now e) ≡ None → table_of_block (owner_of owners e) ≡ None
   no_block = puts_no_block g shape old middle def owners forests st places.owners_now places.forests_now places.mid row rid places.puts places.claims
 
-  rows_placed : IsPermutation (row_in_place rid row ∷ rows_now g shape old def forests) (rows_now g shape middle def places.forests_now)
+  rows_placed : IsPermutation (placed_at rid row ∷ rows_now g shape old def forests) (rows_now g shape middle def places.forests_now)
   rows_placed = rows_after_placing g shape room_of old middle def owners forests st def.number row rid defined places
 
   -- ---- both together
@@ -66,7 +67,7 @@ module _ {S : Type 0} (g : Ghosts S) (shape : Shape) {before mid : SpaceNotes} {
           mid = places.mid;
           puts = places.puts;
           claims = claims_then places.mid spots_mid spots_new places.claims enters.claims;
-          rows = subst (λ (now : List PlacedRow). IsPermutation (row_in_place rid row ∷ rows_now g shape old def forests) now) (sym enters.table.rows) rows_placed;
+          rows = subst (λ (now : List PlacedRow). IsPermutation (placed_at rid row ∷ rows_now g shape old def forests) now) (sym enters.table.rows) rows_placed;
         }
 
     pub put_stays : KeepsBlocksBut g shape old middle def owners (λ block. block ≡ rid.block) → KeepsBlocksBut g shape old new def owners (λ block. block ≡ rid.block)
@@ -102,7 +103,7 @@ module _ {S : Type 0} (g : Ghosts S) (shape : Shape) (old : S) (def : TableDef) 
   module _ {before mid : SpaceNotes} (middle : S) (row : Row) (rid : Rid) (defined : IsTableDef def.number def) (keys : HasRecordKeys def row.values)
       (places : (owners : List Kind) (forests : TableForests) → StandsTable g shape old def owners forests → PlacesAnywhere g shape before mid old middle def owners forests row rid) where
     pub runs_entered : {new : S} {fault : Option StoreFault} → RunsOverPages g (IsTableSpace g shape old def) (IsTableSpace g shape old def) (BreaksTable g shape old def) old middle None
-        → RunsOverPages g (IsTreeSpaceOfTable g shape middle def) (IsTreeSpaceOfTable g shape middle def) (BreaksExpected g shape middle def (LacksRow def row rid)) middle new fault
+        → RunsOverPages g (IsTreeSpaceOfTable g shape middle def) (IsTreeSpaceOfTable g shape middle def) (BreaksExpected g shape middle def (LacksRowEntries def row rid)) middle new fault
         → RunsOverPages g (IsTableSpace g shape old def) (IsTableSpace g shape old def) (BreaksExpected g shape old def (HasSoundIndexes g shape old def)) old new fault
     runs_entered first second = runs_as first second (λ p low mine. mine) (λ p low mine. late p mine) (λ p mine. mine) late breaks
       where
@@ -111,7 +112,7 @@ module _ {S : Type 0} (g : Ghosts S) (shape : Shape) (old : S) (def : TableDef) 
             let any = places owners forests st in
             space_before g shape old middle def owners forests any.owners_now any.forests_now any.changes p (tree_space shape def any.owners_now any.forests_now p (mine any.owners_now any.forests_now any.changes.stands))
 
-        breaks : (damage : Damage) → BreaksExpected g shape middle def (LacksRow def row rid) damage → BreaksExpected g shape old def (HasSoundIndexes g shape old def) damage
+        breaks : (damage : Damage) → BreaksExpected g shape middle def (LacksRowEntries def row rid) damage → BreaksExpected g shape old def (HasSoundIndexes g shape old def) damage
         breaks damage is = record {
           names = is.names;
           broken = λ owners forests st sound.

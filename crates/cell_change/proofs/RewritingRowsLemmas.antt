@@ -24,14 +24,15 @@ use Rattle.mdc_sound.specs.StandingTable.{BreaksExpected, ChangesTable, HasRowAt
 use Rattle.mdc_sound.specs.TableRows.{PlacedRow}
 use Rattle.mdc_sound.proofs.ChangedRowsLemmas.{rows_after_overwriting}
 use Rattle.row_entries.specs.ChosenIndexes.{HasRecordKeys}
-use Rattle.row_entries.specs.RowEntries.{HasRowOnly, RenewsRow, with_indexes}
+use Rattle.row_entries.specs.RowEntries.{HasRowEntriesOnly, RenewsRow, with_indexes}
+use Rattle.row_entries.specs.SoundEntries.{placed_at}
 use Rattle.row_entries.proofs.StandingRowsLemmas.{has_only}
 use Rattle.table_blocks.specs.BlockSteps.{HasThisRow}
 use Rattle.mdc_table.specs.KnownBlocks.{IsExpectedPlace, IsExpectedSpace, IsUsedIfKnown}
 use Rattle.mdc_table.specs.TableReading.{HasRowOfCell}
 use Rattle.mdc_table.proofs.KnownBlocksLemmas.{used_with_row}
 use Rattle.cell_change.specs.ExpectedTables.{WithSoundIndexes}
-use Rattle.cell_change.specs.RowChanges.{ChangesOneRow, TurnsEntries, TurnsRowBy, row_in_place}
+use Rattle.cell_change.specs.RowChanges.{ChangesOneRow, TurnsEntries, TurnsRowBy}
 use Rattle.cell_change.proofs.ChangedRowLemmas.{same_claims, same_returns}
 use Rattle.cell_change.proofs.ChangedSpaceLemmas.{shows_spots}
 use Rattle.cell_change.proofs.KeptOthersLemmas.{keeps_as, keeps_then}
@@ -80,7 +81,7 @@ module _ {S : Type 0} (g : Ghosts S) (shape : Shape) {noted : SpaceNotes} {room_
           claims = renews.claims;
           stay = rows.0;
           were = rows.1;
-          are = subst (λ (now : List PlacedRow). IsPermutation (row_in_place rid other ∷ rows.0) now) (sym renews.table.rows) rows.2;
+          are = subst (λ (now : List PlacedRow). IsPermutation (placed_at rid other ∷ rows.0) now) (sym renews.table.rows) rows.2;
           space = record {
             changes = asked;
             makes = changes_then shape (pages_of g old) (pages_of g middle) (pages_of g new) [] asked (no_changes shape (pages_of g old) (pages_of g middle) same) makes;
@@ -93,7 +94,7 @@ module _ {S : Type 0} (g : Ghosts S) (shape : Shape) {noted : SpaceNotes} {room_
 
   -- ---- they run full
 
-  pub rewriting_full : IsSameSpace shape (pages_of g old) (pages_of g middle) → RunsFull shape (pages_of g middle) asked → UpdateRunsFull shape (pages_of g old) def ((row_in_place rid row, other) ∷ [])
+  pub rewriting_full : IsSameSpace shape (pages_of g old) (pages_of g middle) → RunsFull shape (pages_of g middle) asked → UpdateRunsFull shape (pages_of g old) def ((placed_at rid row, other) ∷ [])
   rewriting_full same full =
       record {
         spots = spots_old;
@@ -147,14 +148,14 @@ module _ {S : Type 0} (g : Ghosts S) (shape : Shape) (old : S) (def : TableDef) 
       → ((owners : List Kind) (forests : TableForests) → StandsTable g shape old def owners forests → This owners forests → ChangesTable g shape noted noted old middle def owners forests owners forests)
       → {new : S} {fault : Option StoreFault}
       → RunsOverPages g (IsExpectedPlace g shape old def (IsUsedIfKnown known rid.block)) (IsExpectedPlace g shape old def (IsUsedIfKnown known rid.block)) (BreaksExpected g shape old def (HasRowAt g shape old def rid)) old middle None
-      → RunsOverPages g (IsTreeSpaceOfTable g shape middle def) (IsTreeSpaceOfTable g shape middle def) (BreaksExpected g shape middle def (HasRowOnly def row other rid)) middle new fault
+      → RunsOverPages g (IsTreeSpaceOfTable g shape middle def) (IsTreeSpaceOfTable g shape middle def) (BreaksExpected g shape middle def (HasRowEntriesOnly def row other rid)) middle new fault
       → RunsOverPages g (IsExpectedSpace g shape old def This) (IsExpectedSpace g shape old def This) Breaks old new fault
   runs_rewritten {known} middle other defined keys other_keys leaves first second = runs_as first second (λ p low is. known_place known p is) (λ p low mine. late p mine) (known_place known) late breaks
     where
       late : (p : ℕ) → IsTreeSpaceOfTable g shape middle def p → IsExpectedSpace g shape old def This p
       late p mine owners forests st this = tree_space shape def owners forests p (mine owners forests (leaves owners forests st this).stands)
 
-      breaks : (damage : Damage) → BreaksExpected g shape middle def (HasRowOnly def row other rid) damage → Breaks damage
+      breaks : (damage : Damage) → BreaksExpected g shape middle def (HasRowEntriesOnly def row other rid) damage → Breaks damage
       breaks damage is = record {
         names = is.names;
         broken = λ owners forests st expected.

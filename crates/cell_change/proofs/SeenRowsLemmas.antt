@@ -1,11 +1,12 @@
 -- What taking a row out of its slot has seen once its entries have left the record indexes, as seen before that.
-use Rattle.std.proofs.Common.{◌≡◌, ◌<◌, ◌+◌, ◌*◌, ◌/◌, ℕ, zero, suc, List, Option, None, length, get_or, ap, arith, sym, ◌∙◌, subst}
+use Rattle.std.proofs.Common.{◌≡◌, ◌<◌, ◌+◌, ◌*◌, ◌/◌, ℕ, zero, suc, IsTrue, List, Option, Some, None, length, get_or, ap, arith, sym, ◌∙◌, subst, inl, inr}
 use Rattle.std.specs.Prelude.{Contains}
 use Rattle.std.proofs.Math.Nat.{div-lt_iff_lt-mul}
 use Rattle.mdc_values.specs.declared.rid.Rid.{Rid}
 use Rattle.mdc_ast.specs.declared.definition.TableDef.{TableDef}
 use Rattle.mdc_ast.specs.declared.row.Row.{Row}
 use Rattle.store_api.specs.Extents.{first_page_of}
+use Rattle.store_api.specs.Frame.{Touches}
 use Rattle.store_api.specs.declared.pages.Pages.{Ghosts}
 use Rattle.store_api.specs.declared.shape.Shape.{Shape}
 use Rattle.extent_map.specs.Owners.{owner_of}
@@ -17,9 +18,12 @@ use Rattle.entry_tree.specs.Forest.{Forest, times}
 use Rattle.entry_tree.specs.HeldTrees.{nodes_in}
 use Rattle.entry_tree.proofs.ForestLemmas.{same_forest}
 use Rattle.block_map.specs.MapLines.{used_blocks}
-use Rattle.block_rows.specs.SeenRows.{SeesSomeRow}
-use Rattle.table_trees.specs.TableTrees.{map_place}
-use Rattle.table_trees.specs.TreesBeside.{HoldsTreeAt}
+use Rattle.block_rows.specs.SeenRows.{SeesSlot, SeesSomeRow}
+use Rattle.table_trees.specs.TableTrees.{map_place, record_places}
+use Rattle.table_trees.specs.ToldPages.{PageList}
+use Rattle.table_trees.specs.TreesBeside.{HoldsTreeAt, IsTreesOrMapPage}
+use Rattle.table_trees.proofs.SideBySideLemmas.{tree_still}
+use Rattle.mdc_sound.specs.Placing.{block_slot_count}
 use Rattle.mdc_sound.specs.StandingTable.{StandsTable, TableForests, pages_of}
 use Rattle.mdc_sound.specs.TableRows.{block_slots}
 use Rattle.mdc_sound.proofs.BlockRulesLemmas.{named_owned}
@@ -28,6 +32,18 @@ use Rattle.mdc_sound.proofs.SlotRowsLemmas.{length-block_slots}
 use Rattle.mdc_sound.proofs.TableRowsLemmas.{KeepsBlockPages, block_slots-kept}
 use Rattle.row_entries.specs.RowEntries.{LeavesRow}
 use Rattle.table_blocks.specs.SeenSlots.{IsMapApart, SeesUsedSlot}
+use Rattle.table_blocks.proofs.SeenSlotsLemmas.{seen_before}
+use Rattle.cell_change.specs.ApartIndexes.{DoIndexesStandApart}
+
+-- the slot of a row that was seen is one of the block's
+slot_within : (shape : Shape) (pages : PageList) (def : TableDef) (rid : Rid) (row : Row) → SeesSlot shape pages def rid (Some row) → rid.slot < block_slot_count shape def
+slot_within shape pages def rid row slot = omega (arith, filled_below (block_slots shape pages def rid.block) rid.slot row (sym slot.row_is), length-block_slots shape pages def rid.block)
+
+-- two trees where the block map lies are one
+one_map : {S : Type 0} (g : Ghosts S) (s : S) (def : TableDef) (t other : Forest) → HoldsTreeAt g s (map_place def) t → HoldsTreeAt g s (map_place def) other → t ≡ other
+one_map g s def t other here holds = same_forest (nodes_in (map_place def).width (g.state s)) t other here.is_tree.holds holds.is_tree.holds (here.is_tree.head ∙ sym holds.is_tree.head)
+
+-- ---- in a table that stands
 
 -- a slot of some lies on one of the pages that they are on
 on_page : (pages each slot : ℕ) → slot < pages * each → slot / each < pages
@@ -41,9 +57,7 @@ module _ {S : Type 0} (g : Ghosts S) (shape : Shape) {before mid : SpaceNotes} (
   held_then = leaves.table.changes.stands.trees.held.0
 
   one_map_tree : (t : Forest) → HoldsTreeAt g old (map_place def) t → forests.map ≡ t
-  one_map_tree t holds =
-      let here = st.trees.held.0 in
-      same_forest (nodes_in (map_place def).width (g.state old)) forests.map t here.is_tree.holds holds.is_tree.holds (here.is_tree.head ∙ sym holds.is_tree.head)
+  one_map_tree t holds = one_map g old def forests.map t st.trees.held.0 holds
 
   -- and as far apart from the block
   pub apart_left : IsMapApart g shape old def rid.block → IsMapApart g shape middle def rid.block
@@ -64,9 +78,7 @@ module _ {S : Type 0} (g : Ghosts S) (shape : Shape) {before mid : SpaceNotes} (
       let slot = sees.1.slot in
       let used = sees.1.used forests.map held_then in
       let kept = pages_kept used in
-      let now = block_slots shape (pages_of g middle) def rid.block in
-      let within : rid.slot < shape.extent_pages * slot_count def.columns =
-      omega (arith, filled_below now rid.slot sees.0 (sym slot.row_is), length-block_slots shape (pages_of g middle) def rid.block) in (
+      let within = slot_within shape (pages_of g middle) def rid sees.0 slot in (
         sees.0,
         record {
           used = λ t holds. subst (λ (m : Forest). Contains (used_blocks m) rid.block) (one_map_tree t holds) used;
@@ -77,3 +89,26 @@ module _ {S : Type 0} (g : Ghosts S) (shape : Shape) {before mid : SpaceNotes} (
           };
         },
       )
+
+-- ---- on told pages that hold the record indexes apart
+
+module _ {S : Type 0} (g : Ghosts S) (shape : Shape) (old middle : S) (def : TableDef) (rid : Rid) (told : IsTrue (g.state old).is_told) (still : (g.state middle).is_told ≡ (g.state old).is_told)
+    (touched : Touches g (IsTreesOrMapPage g shape old (record_places def)) old middle) (beside : DoIndexesStandApart g shape old def rid.block) where
+  -- each tree that stood where the block map lies stands there
+  map_still : (t : Forest) → HoldsTreeAt g old (map_place def) t → HoldsTreeAt g middle (map_place def) t
+  map_still t held =
+      tree_still (IsTreesOrMapPage g shape old (record_places def)) old middle (map_place def) t held touched still
+      (λ p of. beside.apart p (inr (λ other holds. subst (λ (m : Forest). 0 < times p m) (one_map g old def t other held holds) of)))
+
+  pub apart_beside : IsMapApart g shape old def rid.block → IsMapApart g shape middle def rid.block
+  apart_beside apart p of tree = apart p of (λ t held. tree t (map_still t held))
+
+  pub seen_beside : length (pages_of g middle) ≡ length (pages_of g old) → SeesSomeRow (SeesUsedSlot g shape middle def rid)
+      → SeesSomeRow (SeesUsedSlot g shape old def rid)
+  seen_beside count sees = (
+    sees.0,
+    record {
+      used = λ t held. sees.1.used t (map_still t held);
+      slot = seen_before g shape old middle def rid (Some sees.0) beside.within (slot_within shape (pages_of g middle) def rid sees.0 sees.1.slot) told count touched (λ p of. beside.apart p (inl of)) sees.1.slot;
+    },
+  )

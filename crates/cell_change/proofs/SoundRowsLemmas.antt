@@ -23,11 +23,12 @@ use Rattle.mdc_sound.specs.TableRows.{PlacedRow}
 use Rattle.mdc_sound.proofs.ChangedTablesLemmas.{between_with_definition, between_with_next}
 use Rattle.mdc_sound.proofs.NextNumberLemmas.{with_next}
 use Rattle.mdc_sound.proofs.RowNumbersLemmas.{numbers_in_order, numbers_over, numbers_with, numbers_without}
-use Rattle.row_entries.specs.SoundEntries.{AreIndexesSound, LieApart, StayPending, StayPendingSpots, placed_at}
+use Rattle.record_index.specs.SoundRows.{LieApart}
+use Rattle.row_entries.specs.SoundEntries.{AreIndexesSound, StayPending, StayPendingSpots, placed_at}
 use Rattle.row_entries.proofs.PendingSpotsLemmas.{stay_claimed, stay_put, stay_returned, stay_taken}
 use Rattle.row_entries.proofs.SoundEntriesLemmas.{sound_coming, sound_giving_way, sound_going}
 use Rattle.row_entries.proofs.StandingRowsLemmas.{lie_apart, pending_by_spot}
-use Rattle.cell_change.specs.RowChanges.{ChangesOneRow, DeletesAnywhere, DeletesRow, InsertsRow, TurnsEntries, row_in_place, rows_now}
+use Rattle.cell_change.specs.RowChanges.{ChangesOneRow, DeletesAnywhere, DeletesRow, InsertsRow, TurnsEntries, rows_now}
 use Rattle.cell_change.proofs.RowChangesLemmas.{deleted_anywhere, indexes_here, numbers_here}
 use Rattle.cell_change.proofs.SpotStepsLemmas.{pending_turned}
 
@@ -73,9 +74,9 @@ module _ {S : Type 0} (g : Ghosts S) where
     sound_inserted row rid inserts number small touched longer between =
         let were = rows_now g shape old def forests in
         let now = rows_now g shape new def inserts.forests_now in
-        let more = numbers_with def (def.next + 1) (row_in_place rid row) were (numbers_here g shape old def owners forests between st) (omega (arith, number)) (omega (arith, number)) in
+        let more = numbers_with def (def.next + 1) (placed_at rid row) were (numbers_here g shape old def owners forests between st) (omega (arith, number)) (omega (arith, number)) in
         between_with_next g shape old new def owners inserts.owners_now forests inserts.forests_now between.sound st inserts.changes touched longer between.rule11 between.numbers between.other_keys
-        (indexes_inserted row rid inserts (indexes_here g shape old def owners forests between st)) (def.next + 1) small (numbers_in_order (with_next def (def.next + 1)) (row_in_place rid row ∷ were) now inserts.rows more)
+        (indexes_inserted row rid inserts (indexes_here g shape old def owners forests between st)) (def.next + 1) small (numbers_in_order (with_next def (def.next + 1)) (placed_at rid row ∷ were) now inserts.rows more)
 
     -- ---- a row less
 
@@ -93,10 +94,10 @@ module _ {S : Type 0} (g : Ghosts S) where
     sound_deleted row rid deletes touched longer between =
         let were = rows_now g shape old def forests in
         let now = rows_now g shape new def deletes.forests_now in
-        let first = row_in_place rid row ∷ now in
+        let first = placed_at rid row ∷ now in
         let numbers = numbers_in_order def were first (IsPermutation-sym first were deletes.rows) (numbers_here g shape old def owners forests between st) in
         between_with_definition g shape old new def owners deletes.owners_now forests deletes.forests_now between.sound st deletes.changes touched longer between.rule11 between.numbers between.other_keys
-        (indexes_deleted row rid (deleted_anywhere g shape old new def row rid owners forests deletes) (indexes_here g shape old def owners forests between st)) (numbers_without def (row_in_place rid row) now numbers)
+        (indexes_deleted row rid (deleted_anywhere g shape old new def row rid owners forests deletes) (indexes_here g shape old def owners forests between st)) (numbers_without def (placed_at rid row) now numbers)
 
     -- ---- a row that became another
 
@@ -106,11 +107,11 @@ module _ {S : Type 0} (g : Ghosts S) where
     sound_changed row other rid to one number touched longer between =
         let were = rows_now g shape old def forests in
         let now = rows_now g shape new def one.forests_now in
-        let first = row_in_place rid row ∷ one.stay in
+        let first = placed_at rid row ∷ one.stay in
         let pending = pending_stay shape old new def owners forests st one.owners_now one.forests_now one.changes.stands
         (pending_changed def (block_slot_count shape def) (spots_of g shape old def owners forests) one.mid (spots_of g shape new def one.owners_now one.forests_now) rid to row other one.turns one.claims) in
         let numbers = numbers_in_order def were first (IsPermutation-sym first were one.were) (numbers_here g shape old def owners forests between st) in
         let indexes = indexes_turned def row other rid were now one.stay (pending_blocks forests.map) (pending_blocks one.forests_now.map) forests.indexes one.forests_now.indexes (indexes_here g shape old def owners forests between st)
         (lie_apart g shape old def owners forests st) to one.entries one.were one.are pending in
         between_with_definition g shape old new def owners one.owners_now forests one.forests_now between.sound st one.changes touched longer between.rule11 between.numbers between.other_keys
-        indexes (numbers_in_order def (row_in_place to other ∷ one.stay) now one.are (numbers_over def (row_in_place rid row) (row_in_place to other) one.stay number numbers))
+        indexes (numbers_in_order def (placed_at to other ∷ one.stay) now one.are (numbers_over def (placed_at rid row) (placed_at to other) one.stay number numbers))

@@ -14,7 +14,8 @@ use Rattle.mdc_sound.specs.SoundDatabase.{IsSoundBetweenChanges, with_table_page
 use Rattle.mdc_sound.specs.StandingTable.{IsTableSpace, RoomNote, StandsTable, TableForests, pages_of}
 use Rattle.mdc_sound.specs.StandsForDatabase.{PagesStandFor, with_row, without_row}
 use Rattle.mdc_sound.proofs.NextNumberLemmas.{with_next}
-use Rattle.cell_change.specs.RowChanges.{ChangesOneRow, DeletesRow, InsertsRow, row_in_place}
+use Rattle.row_entries.specs.SoundEntries.{placed_at}
+use Rattle.cell_change.specs.RowChanges.{ChangesOneRow, DeletesRow, InsertsRow}
 use Rattle.mdc_sound.proofs.ChangedDatabaseLemmas.{database_with, database_with_more, database_without}
 use Rattle.cell_change.proofs.RowChangesLemmas.{numbers_here}
 
@@ -26,18 +27,18 @@ module _ {S : Type 0} (g : Ghosts S) (shape : Shape) {before noted : SpaceNotes}
       → PagesStandFor shape (with_table_page (with_next def (def.next + 1)) (pages_of g new)) (changed_at db def.number (appended (row.values ∷ [])))
   database_inserted row rid inserts number small =
       database_with_more g shape old new def owners inserts.owners_now forests inserts.forests_now between.sound st inserts.changes touched longer
-      (numbers_here g shape old def owners forests between st) db stands (row_in_place rid row) number small inserts.rows
+      (numbers_here g shape old def owners forests between st) db stands (placed_at rid row) number small inserts.rows
 
   -- a row less
   pub database_deleted : (row : Row) (rid : Rid) → DeletesRow g shape before noted room_of old new def row rid owners forests
       → PagesStandFor shape (with_table_page def (pages_of g new)) (changed_at db def.number (without_row row.number))
   database_deleted row rid deletes =
       database_without g shape old new def owners deletes.owners_now forests deletes.forests_now between.sound st deletes.changes touched longer
-      (numbers_here g shape old def owners forests between st) db stands (row_in_place rid row) deletes.rows
+      (numbers_here g shape old def owners forests between st) db stands (placed_at rid row) deletes.rows
 
   -- a row that became another
   pub database_changed : (row other : Row) (rid to : Rid) → ChangesOneRow g shape before noted room_of old new def row other rid to owners forests → other.number ≡ row.number
       → PagesStandFor shape (with_table_page def (pages_of g new)) (changed_at db def.number (with_row other))
   database_changed row other rid to one number =
       database_with g shape old new def owners one.owners_now forests one.forests_now between.sound st one.changes touched longer
-      (numbers_here g shape old def owners forests between st) db stands (row_in_place rid row) (row_in_place to other) one.stay number one.were one.are
+      (numbers_here g shape old def owners forests between st) db stands (placed_at rid row) (placed_at to other) one.stay number one.were one.are

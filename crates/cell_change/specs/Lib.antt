@@ -1,2 +1,3 @@
+pub mod ApartIndexes
 pub mod ExpectedTables
 pub mod RowChanges

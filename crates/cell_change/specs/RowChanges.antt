@@ -19,14 +19,11 @@ use Rattle.mdc_sound.specs.RunningFull.{differing_indexes, listings_in, putting_
 use Rattle.mdc_sound.specs.StandingTable.{AreRightRooms, ChangesTable, RoomNote, TableForests, pages_of, spots_of}
 use Rattle.mdc_sound.specs.TableRows.{PlacedRow, rows_in_table}
 use Rattle.row_entries.specs.ChosenIndexes.{MoveChosen, all_chosen, differing_chosen, entry_of}
+pub use Rattle.row_entries.specs.SoundEntries.{placed_at}
 
 -- the rows of a table as a store has them now
 abbrev pub rows_now : {S : Type 0} → Ghosts S → Shape → S → TableDef → TableForests → List PlacedRow
 rows_now g shape s def forests = rows_in_table shape (pages_of g s) def forests.map
-
--- a row in a place
-abbrev pub row_in_place : Rid → Row → PlacedRow
-row_in_place rid row = record { rid = rid; row = row }
 
 -- ---- a row more, and one less
 
@@ -41,7 +38,7 @@ pub record InsertsRow {S : Type 0} (g : Ghosts S) (shape : Shape) (before noted 
   pub mid : List Spot
   pub puts : PutsRow def (block_slot_count shape def) (spots_of g shape old def owners forests) row mid rid
   pub claims : SpotsAfterClaims mid (spots_of g shape new def owners_now forests_now)
-  pub rows : IsPermutation (row_in_place rid row ∷ rows_now g shape old def forests) (rows_now g shape new def forests_now)
+  pub rows : IsPermutation (placed_at rid row ∷ rows_now g shape old def forests) (rows_now g shape new def forests_now)
 
 -- The row was taken out, and after that trees may have given extents back. Each record index lost its entry and nothing else, and
 -- the rows are those that there were without it.
@@ -54,7 +51,7 @@ pub record DeletesRow {S : Type 0} (g : Ghosts S) (shape : Shape) (before noted 
   pub mid : List Spot
   pub takes : TakesRow (spots_of g shape old def owners forests) rid row mid
   pub returns : SpotsAfterReturns mid (spots_of g shape new def owners_now forests_now)
-  pub rows : IsPermutation (row_in_place rid row ∷ rows_now g shape new def forests_now) (rows_now g shape old def forests)
+  pub rows : IsPermutation (placed_at rid row ∷ rows_now g shape new def forests_now) (rows_now g shape old def forests)
 
 -- The same whatever the notes say, which may be wrong.
 pub record DeletesAnywhere {S : Type 0} (g : Ghosts S) (shape : Shape) (before noted : SpaceNotes) (old new : S) (def : TableDef) (row : Row) (rid : Rid) (owners : List Kind) (forests : TableForests) : Type 0 where
@@ -65,7 +62,7 @@ pub record DeletesAnywhere {S : Type 0} (g : Ghosts S) (shape : Shape) (before n
   pub mid : List Spot
   pub takes : TakesRow (spots_of g shape old def owners forests) rid row mid
   pub returns : SpotsAfterReturns mid (spots_of g shape new def owners_now forests_now)
-  pub rows : IsPermutation (row_in_place rid row ∷ rows_now g shape new def forests_now) (rows_now g shape old def forests)
+  pub rows : IsPermutation (placed_at rid row ∷ rows_now g shape new def forests_now) (rows_now g shape old def forests)
 
 -- ---- a row that becomes another
 
@@ -105,6 +102,6 @@ pub record ChangesOneRow {S : Type 0} (g : Ghosts S) (shape : Shape) (before not
   pub turns : ChangesRow def (block_slot_count shape def) (spots_of g shape old def owners forests) rid row other mid to
   pub claims : SpotsAfterClaims mid (spots_of g shape new def owners_now forests_now)
   pub stay : List PlacedRow
-  pub were : IsPermutation (row_in_place rid row ∷ stay) (rows_now g shape old def forests)
-  pub are : IsPermutation (row_in_place to other ∷ stay) (rows_now g shape new def forests_now)
+  pub were : IsPermutation (placed_at rid row ∷ stay) (rows_now g shape old def forests)
+  pub are : IsPermutation (placed_at to other ∷ stay) (rows_now g shape new def forests_now)
   pub space : MakesOneChange g shape old new def row other rid owners forests (spots_of g shape new def owners_now forests_now)

@@ -14,12 +14,14 @@ ghost use Rattle.mdc_sound.specs.RunningFull.{UpdateRunsFull};
 ghost use Rattle.mdc_sound.specs.SoundDatabase.{IsSoundBetweenChanges, with_table_page};
 ghost use Rattle.mdc_sound.specs.StandingTable.{BreaksExpected, IsReadyTable, KeepsBlocksBut, StandsTable, TableForests, pages_of};
 ghost use Rattle.mdc_sound.specs.StandsForDatabase.{PagesStandFor, with_row};
+ghost use Rattle.row_entries.specs.SoundEntries.{placed_at};
 ghost use Rattle.free_space.specs.RoomNotes.{room_of};
 ghost use Rattle.mdc_table.specs.KnownBlocks.{IsExpectedSpace};
 ghost use Rattle.table_blocks.specs.BlockSteps.{HasThisRow};
 ghost use Rattle.table_blocks.specs.SeenSlots.{IsMapApart};
+ghost use Rattle.cell_change.specs.ApartIndexes.{AreIndexesApart};
 ghost use Rattle.cell_change.specs.ExpectedTables.{WithSoundIndexes};
-ghost use Rattle.cell_change.specs.RowChanges.{ChangesOneRow, row_in_place};
+ghost use Rattle.cell_change.specs.RowChanges.{ChangesOneRow};
 
 use crate::deleting::delete_row;
 use crate::putting::put_row;
@@ -58,7 +60,8 @@ pub fn change_row<P: Pages>(
     ensures changes { IfOk result (λ to. (owners : List Kind) (forests : TableForests) → IsReadyTable P.Pages shape notes.old (room_of rooms.old) pages.old def.now owners forests
         → HasThisRow P.Pages shape pages.old def.now rid was.now owners forests
         → ChangesOneRow P.Pages shape notes.old notes.new (room_of rooms.new) pages.old pages.new def.now was.now is.now rid to owners forests) }
-    ensures seen { OnOk result (IsTrue (P.state pages.old).is_told → def.now.indexes ≡ [] → IsMapApart P.Pages shape pages.old def.now rid.block → SeesSomeRow (SeesSlot shape (pages_of P.Pages pages.old) def.now rid)) }
+    ensures seen { OnOk result (IsTrue (P.state pages.old).is_told → IsMapApart P.Pages shape pages.old def.now rid.block → AreIndexesApart P.Pages shape pages.old def.now rid.block
+        → SeesSomeRow (SeesSlot shape (pages_of P.Pages pages.old) def.now rid)) }
     ensures seen_kept { OnOk result (IsTrue (P.state pages.old).is_told → AreOfOneCell def.now was.now.values is.now.values → SeesSomeRow (SeesSlot shape (pages_of P.Pages pages.old) def.now rid)) }
     ensures seen_standing { OnOk result (IsMapApart P.Pages shape pages.old def.now rid.block → (owners : List Kind) (forests : TableForests) → StandsTable P.Pages shape pages.old def.now owners forests
         → SeesSomeRow (SeesSlot shape (pages_of P.Pages pages.old) def.now rid)) }
@@ -72,7 +75,7 @@ pub fn change_row<P: Pages>(
         → (db : Database) → PagesStandFor shape (with_table_page def.now (pages_of P.Pages pages.old)) db
         → PagesStandFor shape (with_table_page def.now (pages_of P.Pages pages.new)) (changed_at db def.now.number (with_row is.now))) }
     ensures full { IfErr result (λ fault. IfFull fault (λ cap. (cap ≡ shape.extents) × ((owners : List Kind) (forests : TableForests) → IsReadyTable P.Pages shape notes.old (room_of rooms.old) pages.old def.now owners forests
-        → HasThisRow P.Pages shape pages.old def.now rid was.now owners forests → UpdateRunsFull shape (pages_of P.Pages pages.old) def.now ((row_in_place rid was.now, is.now) ∷ [])))) }
+        → HasThisRow P.Pages shape pages.old def.now rid was.now owners forests → UpdateRunsFull shape (pages_of P.Pages pages.old) def.now ((placed_at rid was.now, is.now) ∷ [])))) }
     ensures runs { RunsOverPages P.Pages (IsExpectedSpace P.Pages shape pages.old def.now (HasThisRow P.Pages shape pages.old def.now rid was.now)) (IsExpectedSpace P.Pages shape pages.old def.now (HasThisRow P.Pages shape pages.old def.now rid was.now))
         (BreaksExpected P.Pages shape pages.old def.now (WithSoundIndexes P.Pages shape pages.old def.now (HasThisRow P.Pages shape pages.old def.now rid was.now))) pages.old pages.new (store_fault_in store_part_of result) }
 {

@@ -1,6 +1,7 @@
 // A row less.
 ghost use Rattle.std.specs.Prelude.{◌≡◌, [], List, Option, false, length, IsTrue, OnOk};
 ghost use Rattle.store_api.specs.Causes.{fault_of};
+ghost use Rattle.store_api.specs.Frame.{Touches};
 ghost use Rattle.store_api.specs.RunsOverPages.{RunsOverPages};
 ghost use Rattle.extent_map.specs.declared.kind.Kind.{Kind};
 ghost use Rattle.mdc_ast.specs.declared.row.Row.{Row};
@@ -8,6 +9,8 @@ ghost use Rattle.mdc_ast.specs.Database.{Database, changed_at};
 ghost use Rattle.row_page.specs.RowPage.{count_rows};
 ghost use Rattle.mdc_ast.specs.TableLimits.{IsTableDef};
 ghost use Rattle.table_trees.specs.SpaceChanges.{MakesChanges, removed_entries};
+ghost use Rattle.table_trees.specs.TableTrees.{record_places};
+ghost use Rattle.table_trees.specs.TreesBeside.{IsTreesOrMapPage};
 ghost use Rattle.mdc_sound.specs.Placing.{IsRowAt};
 ghost use Rattle.mdc_sound.specs.RunningFull.{row_listings, taking_changes};
 ghost use Rattle.mdc_sound.specs.SoundDatabase.{IsSoundBetweenChanges, with_table_page};
@@ -15,10 +18,11 @@ ghost use Rattle.mdc_sound.specs.StandingTable.{BreaksExpected, IsReadyTable, Is
 ghost use Rattle.mdc_sound.specs.StandsForDatabase.{PagesStandFor, without_row};
 ghost use Rattle.block_rows.specs.HeldRows.{HasReadValues};
 ghost use Rattle.block_rows.specs.SeenRows.{SeesSomeRow};
-ghost use Rattle.row_entries.specs.RowEntries.{HasRow, IsTreeOrMapPageOfTable, LeavesRow};
+ghost use Rattle.row_entries.specs.RowEntries.{HasRowEntries, IsTreeOrMapPageOfTable, LeavesRow};
 ghost use Rattle.table_blocks.specs.BlockSteps.{HasThisRow};
 ghost use Rattle.table_blocks.specs.SeenSlots.{IsMapApart, SeesUsedSlot};
 ghost use Rattle.free_space.specs.RoomNotes.{room_of};
+ghost use Rattle.cell_change.specs.ApartIndexes.{AreIndexesApart};
 ghost use Rattle.cell_change.specs.ExpectedTables.{WithSoundIndexes};
 ghost use Rattle.cell_change.specs.RowChanges.{DeletesAnywhere, DeletesRow};
 
@@ -51,7 +55,8 @@ pub fn delete_row<P: Pages>(
     ensures makes { OnOk result ((owners : List Kind) (forests : TableForests) → IsReadyTable P.Pages shape notes.old (room_of rooms.old) pages.old def.now owners forests
         → (slots : List (Option Row)) → IsRowAt (spots_of P.Pages shape pages.old def.now owners forests) rid row.now slots
         → MakesChanges shape (pages_of P.Pages pages.old) (taking_changes def.now row.now rid (count_rows slots)) (pages_of P.Pages pages.new)) }
-    ensures seen { OnOk result (IsTrue (P.state pages.old).is_told → def.now.indexes ≡ [] → IsMapApart P.Pages shape pages.old def.now rid.block → SeesSomeRow (SeesUsedSlot P.Pages shape pages.old def.now rid)) }
+    ensures seen { OnOk result (IsTrue (P.state pages.old).is_told → IsMapApart P.Pages shape pages.old def.now rid.block → AreIndexesApart P.Pages shape pages.old def.now rid.block
+        → SeesSomeRow (SeesUsedSlot P.Pages shape pages.old def.now rid)) }
     ensures seen_standing { OnOk result (IsMapApart P.Pages shape pages.old def.now rid.block → (owners : List Kind) (forests : TableForests) → StandsTable P.Pages shape pages.old def.now owners forests
         → SeesSomeRow (SeesUsedSlot P.Pages shape pages.old def.now rid)) }
     ensures leaves { OnOk result ((owners : List Kind) (forests : TableForests) → StandsTable P.Pages shape pages.old def.now owners forests
@@ -90,9 +95,10 @@ fn leave_entries<P: Pages>(
     ensures makes { OnOk result ((owners : List Kind) (forests : TableForests) → StandsTable P.Pages shape pages.old def.now owners forests
         → MakesChanges shape (pages_of P.Pages pages.old) (removed_entries (row_listings def.now row.now rid)) (pages_of P.Pages pages.new)) }
     ensures none { def.now.indexes ≡ [] → pages.new ≡ pages.old }
+    ensures touches { Touches P.Pages (IsTreesOrMapPage P.Pages shape pages.old (record_places def.now)) pages.old pages.new }
     ensures count { length (P.state pages.new).work ≡ length (P.state pages.old).work }
     ensures runs { RunsOverPages P.Pages (IsTreeOrMapPageOfTable P.Pages shape pages.old def.now) (IsTreeOrMapPageOfTable P.Pages shape pages.old def.now)
-        (BreaksExpected P.Pages shape pages.old def.now (HasRow def.now row.now rid)) pages.old pages.new (fault_of result) }
+        (BreaksExpected P.Pages shape pages.old def.now (HasRowEntries def.now row.now rid)) pages.old pages.new (fault_of result) }
 {
     if def.indexes.len() == 0 {
         return Ok(());

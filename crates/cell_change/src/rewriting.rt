@@ -11,11 +11,12 @@ ghost use Rattle.mdc_ast.specs.FittingRows.{RowFits};
 ghost use Rattle.table_trees.specs.RowCells.{AreOfOneCell};
 ghost use Rattle.mdc_sound.specs.RunningFull.{UpdateRunsFull};
 ghost use Rattle.mdc_sound.specs.StandingTable.{BreaksExpected, IsReadyTable, KeepsBlocksBut, TableForests, pages_of};
+ghost use Rattle.row_entries.specs.SoundEntries.{placed_at};
 ghost use Rattle.free_space.specs.RoomNotes.{room_of};
 ghost use Rattle.mdc_table.specs.KnownBlocks.{IsExpectedSpace};
 ghost use Rattle.table_blocks.specs.BlockSteps.{HasThisRow};
 ghost use Rattle.cell_change.specs.ExpectedTables.{WithSoundIndexes};
-ghost use Rattle.cell_change.specs.RowChanges.{ChangesOneRow, row_in_place};
+ghost use Rattle.cell_change.specs.RowChanges.{ChangesOneRow};
 
 use extent_map::{SpaceFault, SpaceNotes};
 use mdc_ast::{Row, TableDef};
@@ -51,7 +52,7 @@ pub(crate) fn rewrite_row<P: Pages>(
     ensures stay { OnOk result ((owners : List Kind) (forests : TableForests) → IsReadyTable P.Pages shape notes.old (room_of rooms.now) pages.old def.now owners forests
         → HasThisRow P.Pages shape pages.old def.now rid was.now owners forests → KeepsBlocksBut P.Pages shape pages.old pages.new def.now owners (λ block. block ≡ rid.block)) }
     ensures full { IfErr result (λ fault. IfFull fault (λ cap. (cap ≡ shape.extents) × ((owners : List Kind) (forests : TableForests) → IsReadyTable P.Pages shape notes.old (room_of rooms.now) pages.old def.now owners forests
-        → HasThisRow P.Pages shape pages.old def.now rid was.now owners forests → UpdateRunsFull shape (pages_of P.Pages pages.old) def.now ((row_in_place rid was.now, is.now) ∷ [])))) }
+        → HasThisRow P.Pages shape pages.old def.now rid was.now owners forests → UpdateRunsFull shape (pages_of P.Pages pages.old) def.now ((placed_at rid was.now, is.now) ∷ [])))) }
     ensures runs { RunsOverPages P.Pages (IsExpectedSpace P.Pages shape pages.old def.now (HasThisRow P.Pages shape pages.old def.now rid was.now)) (IsExpectedSpace P.Pages shape pages.old def.now (HasThisRow P.Pages shape pages.old def.now rid was.now))
         (BreaksExpected P.Pages shape pages.old def.now (WithSoundIndexes P.Pages shape pages.old def.now (HasThisRow P.Pages shape pages.old def.now rid was.now))) pages.old pages.new (store_fault_in store_part_of result) }
 {

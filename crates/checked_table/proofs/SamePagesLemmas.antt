@@ -26,7 +26,7 @@ use Rattle.mdc_sound.specs.TableRows.{rows_in_table}
 use Rattle.mdc_sound.proofs.StandingTableLemmas.{stands_same}
 use Rattle.mdc_table.specs.AnyPlace.{TakesOutAnywhere}
 use Rattle.mdc_table.proofs.PlacingRowsLemmas.{changes_along}
-use Rattle.cell_change.specs.RowChanges.{ChangesOneRow, DeletesRow, InsertsRow, TurnsRowBy, row_in_place}
+use Rattle.cell_change.specs.RowChanges.{ChangesOneRow, DeletesRow, InsertsRow, TurnsRowBy, placed_at}
 use Rattle.checked_table.specs.WholeChanges.{HasSamePages}
 
 module _ {S : Type 0} {g : Ghosts S} {old new : S} where
@@ -163,7 +163,7 @@ module _ {S : Type 0} {g : Ghosts S} {old marked mid new : S} (first : HasSamePa
       mid = made.mid;
       puts = said_between (λ was is. PutsRow def (block_slot_count shape def) (table_spots shape was def owners forests.map) row made.mid rid) made.puts;
       claims = said_between (λ was is. SpotsAfterClaims made.mid (table_spots shape is def made.owners_now made.forests_now.map)) made.claims;
-      rows = said_between (λ was is. IsPermutation (row_in_place rid row ∷ rows_in_table shape was def forests.map) (rows_in_table shape is def made.forests_now.map)) made.rows;
+      rows = said_between (λ was is. IsPermutation (placed_at rid row ∷ rows_in_table shape was def forests.map) (rows_in_table shape is def made.forests_now.map)) made.rows;
     }
 
     pub deletes_between : DeletesRow g shape before noted rooms marked mid def row rid owners forests → DeletesRow g shape before noted rooms old new def row rid owners forests
@@ -176,7 +176,7 @@ module _ {S : Type 0} {g : Ghosts S} {old marked mid new : S} (first : HasSamePa
       mid = made.mid;
       takes = said_between (λ was is. TakesRow (table_spots shape was def owners forests.map) rid row made.mid) made.takes;
       returns = said_between (λ was is. SpotsAfterReturns made.mid (table_spots shape is def made.owners_now made.forests_now.map)) made.returns;
-      rows = said_between (λ was is. IsPermutation (row_in_place rid row ∷ rows_in_table shape is def made.forests_now.map) (rows_in_table shape was def forests.map)) made.rows;
+      rows = said_between (λ was is. IsPermutation (placed_at rid row ∷ rows_in_table shape is def made.forests_now.map) (rows_in_table shape was def forests.map)) made.rows;
     }
 
     pub turns_between : {other : Row} {to : Rid} → ChangesOneRow g shape before noted rooms marked mid def row other rid to owners forests → ChangesOneRow g shape before noted rooms old new def row other rid to owners forests
@@ -190,8 +190,8 @@ module _ {S : Type 0} {g : Ghosts S} {old marked mid new : S} (first : HasSamePa
       turns = said_between (λ was is. ChangesRow def (block_slot_count shape def) (table_spots shape was def owners forests.map) rid row other made.mid to) made.turns;
       claims = said_between (λ was is. SpotsAfterClaims made.mid (table_spots shape is def made.owners_now made.forests_now.map)) made.claims;
       stay = made.stay;
-      were = said_between (λ was is. IsPermutation (row_in_place rid row ∷ made.stay) (rows_in_table shape was def forests.map)) made.were;
-      are = said_between (λ was is. IsPermutation (row_in_place to other ∷ made.stay) (rows_in_table shape is def made.forests_now.map)) made.are;
+      were = said_between (λ was is. IsPermutation (placed_at rid row ∷ made.stay) (rows_in_table shape was def forests.map)) made.were;
+      are = said_between (λ was is. IsPermutation (placed_at to other ∷ made.stay) (rows_in_table shape is def made.forests_now.map)) made.are;
       space = record {
         changes = made.space.changes;
         makes = said_between (λ was is. MakesChanges shape was made.space.changes is) made.space.makes;

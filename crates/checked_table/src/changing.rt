@@ -14,7 +14,7 @@ ghost use Rattle.mdc_sound.specs.StandsForDatabase.{PagesStandFor, with_row};
 ghost use Rattle.free_space.specs.RoomNotes.{room_of};
 ghost use Rattle.mdc_table.specs.KnownBlocks.{IsExpectedSpace};
 ghost use Rattle.table_blocks.specs.BlockSteps.{HasThisRow};
-ghost use Rattle.cell_change.specs.RowChanges.{ChangesOneRow, row_in_place};
+ghost use Rattle.cell_change.specs.RowChanges.{ChangesOneRow, placed_at};
 ghost use Rattle.checked_table.specs.ExactDamage.{AnswersExactly, HasRowIfStanding};
 ghost use Rattle.checked_table.specs.WholeChanges.{IsWholeChange};
 
@@ -62,7 +62,7 @@ pub fn change_row<P: Pages>(
         → (db : Database) → PagesStandFor shape (with_table_page def.now (pages_of P.Pages pages.old)) db
         → PagesStandFor shape (with_table_page def.now (pages_of P.Pages pages.new)) (changed_at db def.now.number (with_row is.now))) }
     ensures full { IfErr result (λ fault. IfFull fault (λ cap. (cap ≡ shape.extents) × ((owners : List Kind) (forests : TableForests) → IsReadyTable P.Pages shape notes.old (room_of rooms.old) pages.old def.now owners forests
-        → HasThisRow P.Pages shape pages.old def.now rid was.now owners forests → UpdateRunsFull shape (pages_of P.Pages pages.old) def.now ((row_in_place rid was.now, is.now) ∷ [])))) }
+        → HasThisRow P.Pages shape pages.old def.now rid was.now owners forests → UpdateRunsFull shape (pages_of P.Pages pages.old) def.now ((placed_at rid was.now, is.now) ∷ [])))) }
     ensures exact { HasRowIfStanding P.Pages shape pages.old def.now rid was.now → AnswersExactly P.Pages shape def.now pages.old (store_fault_in store_part_of result) }
     ensures whole { IsWholeChange P.Pages (IsExpectedSpace P.Pages shape pages.old def.now (HasThisRow P.Pages shape pages.old def.now rid was.now)) notes.new rooms.new pages.old pages.new result (store_fault_in store_part_of result) }
 {

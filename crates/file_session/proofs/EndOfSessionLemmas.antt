@@ -1,5 +1,6 @@
 -- The end of a session as that of the run: no two stops become one.
 use Rattle.std.proofs.Common.{◌≡◌, ℕ, Option, Some, None, Result, Ok, Err, refl, sym, ◌∙◌, ap, subst}
+use Rattle.std.specs.Prelude.{IsErrOf}
 use Rattle.mdc_words.specs.Faults.{CountsFault}
 use Rattle.mdc_words.proofs.FaultsLemmas.{counts_fault_as}
 use Rattle.script_session.specs.declared.stop.Served.{Served}
@@ -8,6 +9,11 @@ use Rattle.script_session.specs.declared.stop.SessionStop.TheVariants as session
 use Rattle.file_session.specs.Ending.{end_of_session, stop_of_session}
 use Rattle.file_session.specs.declared.stop.FileStop.{FileStop}
 use Rattle.file_session.specs.declared.stop.FileStop.TheVariants as file
+
+-- a run that ends by an error ends by this one
+pub ends_by : {T E : Type 0} (result : Result T E) (stop : E) → IsErrOf result stop → result ≡ Err stop
+ends_by (Ok done) stop is = absurd (cc)
+ends_by (Err other) stop is = cc
 
 -- the stop of a session that a stop is, if of one
 abbrev session_of : FileStop → Option SessionStop

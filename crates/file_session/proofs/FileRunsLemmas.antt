@@ -16,7 +16,7 @@ use Rattle.page_store.specs.Bound.{OpensOf}
 use Rattle.page_store.specs.Opened.{CouldBeLeft, LeavesBaseSince, StandsSince}
 use Rattle.page_store.specs.Standing.{IsFormed, pages_in}
 use Rattle.script_engine.specs.Held.{HeldPages}
-use Rattle.script_session.specs.Going.{GoesOnPages, Stage}
+use Rattle.script_session.specs.Going.{Goes, Stage}
 use Rattle.script_session.specs.Leaving.{AreServedPages, LeftByServing}
 use Rattle.script_session.specs.declared.stop.Served.{Served}
 use Rattle.script_session.specs.declared.stop.SessionStop.{SessionStop}
@@ -74,7 +74,7 @@ module _ {D : Type 0} (d : disk.Ghosts D) where
         kind = λ is same. record {
           formed = formed;
           states_extents = states;
-          left = left_first shape held run_stages outcomes in_hand said (g.state store).base (Some (pages_in image)) heard served held_base (is ∙ ap Some (sym base)) same;
+          left = left_first held run_stages outcomes in_hand said (g.state store).base (Some (pages_in image)) heard served held_base (is ∙ ap Some (sym base)) same;
         };
       }))
       (λ formed states within. inl (record { formed = formed; states_extents = states; left = within }))
@@ -112,7 +112,7 @@ module _ {D : Type 0} (d : disk.Ghosts D) where
       record {
         formed = stands.formed;
         states_extents = states_standing before.bytes image (pages_in before.bytes) shape stands states;
-        left = left_first shape held run_stages outcomes in_hand said (pages_in before.bytes) (Some (pages_in image)) heard served base (ap Some stands.pages) same;
+        left = left_first held run_stages outcomes in_hand said (pages_in before.bytes) (Some (pages_in image)) heard served base (ap Some stands.pages) same;
       }) (λ first. first) is told leaves)
 
   -- a run that stopped before any item, on a well file
@@ -124,7 +124,7 @@ module _ {D : Type 0} (d : disk.Ghosts D) where
       let tape : (d.beside new).tape ≡ Some (said ++ []) = ap (λ b. b.tape) (kept_beside d old new First leaves) ∙ (told ∙ ap Some (sym (append-nil said))) in
       let run : RunsItems well.shape (pages_in before.bytes) said script script (d.beside new).tape (Err stop) =
       items_on_lists laws well.shape (pages_in before.bytes) said script script (d.beside new).tape (Err stop) held well.served (record { base = refl; work = refl; defs = well.served.stored; closed = refl; settings = refl; pass = refl })
-      [] [] [] [] GoesOnPages.nothing [] tape (Err end_) (λ damage ends. no_damage end_ (Err end_) is_one refl damage ends) (ap Err stop_is)
+      [] [] [] [] Goes.nothing [] tape (Err end_) (λ damage ends. no_damage end_ (Err end_) is_one refl damage ends) (ap Err stop_is)
       (ends_first script end_ (λ e. elim is_one [ inl f ↦ cc | inr f ↦ cc ]) (λ e. elim is_one [ inl f ↦ cc | inr f ↦ cc ])) in
       record {
         shape = well.shape;

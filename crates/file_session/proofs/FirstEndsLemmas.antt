@@ -1,17 +1,14 @@
 -- The end of a run that stopped before its first read, and what it took.
-use Rattle.std.proofs.Common.{◌≡◌, ◌⊎◌, ℕ, List, [], Option, Some, None, Err, IfSome, refl, ap, subst, sym, inl, inr, arith}
+use Rattle.std.proofs.Common.{◌≡◌, ◌⊎◌, ℕ, List, [], Option, Some, None, Err, IfSome, refl, ap, inl, inr, arith}
 use Rattle.script_session.specs.Ending.{EndsSo, StopsWithin}
-use Rattle.mdc_outside.specs.Outside.{Takes}
-use Rattle.script_session.specs.Replying.{RepliesTo}
 use Rattle.script_session.specs.Serving.{EndsScript, IsTakenBy, TakesScript}
 use Rattle.script_session.specs.declared.stop.SessionStop.{SessionStop}
 use Rattle.script_session.specs.declared.stop.SessionStop.TheVariants.{Damaged, Device, Memory, TooLong, Unread, Unsaid}
 use Rattle.script_session.proofs.ScriptItemsLemmas.{closes_nothing, in_time_first}
-use Rattle.script_session.proofs.ToldLemmas.{takes_nothing}
 use Rattle.page_store.specs.declared.fault.OpenFault.{OpenFault}
 use Rattle.page_store.specs.declared.fault.OpenFault.TheVariants as opening
 use Rattle.file_session.specs.Ending.{IsRefused, StopsOpening}
-use Rattle.file_session.specs.Serving.{RepliesBySession, TakesBySession}
+use Rattle.file_session.specs.Serving.{TakesBySession}
 use Rattle.file_session.specs.declared.stop.FileStop.{FileStop}
 
 stops_first : (rest : List ℕ) → StopsWithin [] rest [] [] [] []
@@ -66,27 +63,3 @@ takes_unopened script (opening.Version version) stop is = inl (rw is tt)
 takes_unopened script opening.Device stop is = inr (Err Device, ap Err is, takes_first script Device (λ e. cc))
 takes_unopened script (opening.Damaged damage) stop is = inr (Err (Damaged damage), ap Err is, takes_first script (Damaged damage) (λ e. cc))
 takes_unopened script opening.Memory stop is = inr (Err Memory, ap Err is, takes_first script Memory (λ e. cc))
-
--- ---- what was told
-
--- of a script of which nothing was read nothing was told
-pub replies_first : (script old new : Option (List ℕ)) (stop : SessionStop) → (stop ≡ Unread → ⊥) → (stop ≡ TooLong → ⊥) → new ≡ old → RepliesTo script script old new (Err stop)
-replies_first script old new stop read long same = record {
-  items = [];
-  outcomes = [];
-  own = tt;
-  in_hand = [];
-  said = [];
-  told = subst (λ (tape : Option (List ℕ)). Takes old [] tape) (sym same) (takes_nothing old);
-  ends = ends_first script stop read long;
-}
-
--- nor by one whose opening stopped, unless it refused the file
-pub replies_unopened : (script old new : Option (List ℕ)) (fault : OpenFault) (stop : FileStop) → StopsOpening fault stop → new ≡ old → IsRefused (Err stop) ⊎ RepliesBySession script script old new (Err stop)
-replies_unopened script old new opening.Exists stop is same = absurd is
-replies_unopened script old new opening.Unmade stop is same = inl (rw is tt)
-replies_unopened script old new opening.NotMdc stop is same = inl (rw is tt)
-replies_unopened script old new (opening.Version version) stop is same = inl (rw is tt)
-replies_unopened script old new opening.Device stop is same = inr (Err Device, ap Err is, replies_first script old new Device (λ e. cc) (λ e. cc) same)
-replies_unopened script old new (opening.Damaged damage) stop is same = inr (Err (Damaged damage), ap Err is, replies_first script old new (Damaged damage) (λ e. cc) (λ e. cc) same)
-replies_unopened script old new opening.Memory stop is same = inr (Err Memory, ap Err is, replies_first script old new Memory (λ e. cc) (λ e. cc) same)

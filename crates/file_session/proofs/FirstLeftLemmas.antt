@@ -1,15 +1,15 @@
 -- What a crash leaves that comes before the first statement of a run changes a page.
 use Rattle.std.proofs.Common.{◌≡◌, ℕ, List, [], ◌∷◌, Option, Some, IfSome, refl, sym, ◌∙◌, arith, append-nil, subst}
 use Rattle.mdc_ast.specs.declared.reply.Outcome.{Outcome}
+use Rattle.mdc_ast.specs.declared.statement.Stmt.{Stmt}
 use Rattle.mdc_ast.specs.Reading.{Item}
 use Rattle.store_api.specs.Moments.{OnlyBase}
 use Rattle.store_api.specs.StoreState.{StoreState}
-use Rattle.store_api.specs.declared.shape.Shape.{Shape}
 use Rattle.table_trees.specs.ToldPages.{PageList}
 use Rattle.script_engine.specs.Held.{HeldPages}
 use Rattle.script_session.specs.Ending.{IsPartOfNext}
 use Rattle.script_session.specs.Going.{IsHeldIn, Stage, stage_after, still}
-use Rattle.script_session.specs.Leaving.{AreKept, AreServedPages, LeftByServing}
+use Rattle.script_session.specs.Leaving.{AreKept, LeftBy}
 
 -- nothing is a first part of each text
 part_nothing : (outcomes : List Outcome) → IsPartOfNext outcomes []
@@ -21,26 +21,27 @@ held_first : (held : HeldPages) (stages : List Stage) → IsHeldIn (stage_after 
 held_first held [] = refl
 held_first held (next ∷ stages) = refl
 
--- the pages that were held at the start, with nothing said, are left by each run
-pub left_first : (shape : Shape) (held : HeldPages) (stages : List Stage) (outcomes : List Outcome) (in_hand : List Item) (before : List ℕ) (pages : PageList) (left : Option PageList) (heard : List ℕ)
-    → AreServedPages shape pages → held.base ≡ pages → left ≡ Some pages → heard ≡ before → LeftByServing shape held stages outcomes in_hand before left heard
-left_first shape held stages outcomes in_hand before pages left heard served base is said = record {
-  pages = pages;
-  reopens = is;
-  served = served;
-  items = 0;
-  kept = AreKept.done (omega arith) held (held_first held stages) (sym base);
-  more = [];
-  told_is = said ∙ sym (append-nil before);
-  begun = 0;
-  has_begun = record { answered = 0; says = record { done = []; left = outcomes; part = []; all = refl; next = part_nothing outcomes; bytes = refl; count = refl }; count = refl };
-  all_begun = omega arith;
-  one_more = omega arith;
-}
+module _ {Left : PageList → Type 0} {Stopped : HeldPages → Stmt → PageList → Type 0} where
+  -- the pages that were held at the start, with nothing said, are left by each run
+  pub left_first : (held : HeldPages) (stages : List Stage) (outcomes : List Outcome) (in_hand : List Item) (before : List ℕ) (pages : PageList) (left : Option PageList) (heard : List ℕ)
+      → Left pages → held.base ≡ pages → left ≡ Some pages → heard ≡ before → LeftBy Left Stopped held stages outcomes in_hand before left heard
+  left_first held stages outcomes in_hand before pages left heard served base is said = record {
+    pages = pages;
+    reopens = is;
+    served = served;
+    items = 0;
+    kept = AreKept.done (omega arith) held (held_first held stages) (sym base);
+    more = [];
+    told_is = said ∙ sym (append-nil before);
+    begun = 0;
+    has_begun = record { answered = 0; says = record { done = []; left = outcomes; part = []; all = refl; next = part_nothing outcomes; bytes = refl; count = refl }; count = refl };
+    all_begun = omega arith;
+    one_more = omega arith;
+  }
 
--- and so is what a store leaves whose base is these
-pub left_only_base : (shape : Shape) (held : HeldPages) (stages : List Stage) (outcomes : List Outcome) (in_hand : List Item) (before : List ℕ) (s : StoreState) (left : Option PageList) (heard : List ℕ)
-    → AreServedPages shape s.base → held.base ≡ s.base → s.told ≡ Some before → OnlyBase s left heard → LeftByServing shape held stages outcomes in_hand before left heard
-left_only_base shape held stages outcomes in_hand before s left heard served base told only =
-    left_first shape held stages outcomes in_hand before s.base left heard served base only.0
-    (subst (λ (o : Option (List ℕ)). IfSome o (λ bytes. heard ≡ bytes)) told only.1)
+  -- and so is what a store leaves whose base is these
+  pub left_only_base : (held : HeldPages) (stages : List Stage) (outcomes : List Outcome) (in_hand : List Item) (before : List ℕ) (s : StoreState) (left : Option PageList) (heard : List ℕ)
+      → Left s.base → held.base ≡ s.base → s.told ≡ Some before → OnlyBase s left heard → LeftBy Left Stopped held stages outcomes in_hand before left heard
+  left_only_base held stages outcomes in_hand before s left heard served base told only =
+      left_first held stages outcomes in_hand before s.base left heard served base only.0
+      (subst (λ (o : Option (List ℕ)). IfSome o (λ bytes. heard ≡ bytes)) told only.1)

@@ -1,4 +1,6 @@
-pub mod BreaksLemmas
+pub mod AnyFileRunsLemmas
+pub mod AnyHostRunsLemmas
+pub mod AnyStoreRunsLemmas
 pub mod CausesLemmas
 pub mod EndOfSessionLemmas
 pub mod FileRunsLemmas

@@ -17,9 +17,8 @@ use Rattle.script_engine.specs.Serving.{IsReadyEngine, held_by}
 use Rattle.script_engine.specs.declared.engine.Engine.{Engine}
 use Rattle.script_engine.specs.declared.stop.EngineStop.{EngineStop}
 use Rattle.script_engine.specs.declared.stop.EngineStop.TheVariants as engine
-use Rattle.script_session.specs.Going.{GoesOnPages}
+use Rattle.script_session.specs.Going.{Goes}
 use Rattle.script_session.specs.Leaving.{AreServedPages, ReopensAlways}
-use Rattle.script_session.specs.Replying.{RepliesTo}
 use Rattle.script_session.specs.Serving.{RunsScript, TakesScript}
 use Rattle.script_session.specs.Stops.{stop_of_engine}
 use Rattle.script_session.specs.declared.stop.Served.{Served}
@@ -27,17 +26,17 @@ use Rattle.script_session.specs.declared.stop.SessionStop.{SessionStop}
 use Rattle.script_session.specs.declared.stop.SessionStop.TheVariants as session
 use Rattle.script_session.proofs.ToldLemmas.{takes_nothing}
 use Rattle.file_session.specs.Running.{RunsOnStore}
-use Rattle.file_session.proofs.FirstEndsLemmas.{ends_first, replies_first, takes_first}
+use Rattle.file_session.proofs.FirstEndsLemmas.{ends_first, takes_first}
 use Rattle.file_session.proofs.FirstLeftLemmas.{left_only_base}
 
 -- a stop of an engine isn't one of a reader
-unread : (stop : EngineStop) → stop_of_engine stop ≡ session.Unread → ⊥
+pub unread : (stop : EngineStop) → stop_of_engine stop ≡ session.Unread → ⊥
 unread engine.Device is = cc
 unread engine.Output is = cc
 unread (engine.Damaged damage) is = cc
 unread engine.Memory is = cc
 
-not_long : (stop : EngineStop) → stop_of_engine stop ≡ session.TooLong → ⊥
+pub not_long : (stop : EngineStop) → stop_of_engine stop ≡ session.TooLong → ⊥
 not_long engine.Device is = cc
 not_long engine.Output is = cc
 not_long (engine.Damaged damage) is = cc
@@ -54,10 +53,6 @@ not_damaged engine.Memory undamaged damage result was is = cc
 -- a session whose engine wasn't opened took nothing
 pub takes_stopped : (script : Option (List ℕ)) (stop : EngineStop) (end_ : SessionStop) → end_ ≡ stop_of_engine stop → IfSome script (λ bytes. TakesScript bytes script (Err end_))
 takes_stopped script stop end_ is = takes_first script end_ (λ long. not_long stop (sym is ∙ long))
-
--- and told nothing
-pub replies_stopped : (script old new : Option (List ℕ)) (stop : EngineStop) (end_ : SessionStop) → end_ ≡ stop_of_engine stop → new ≡ old → RepliesTo script script old new (Err end_)
-replies_stopped script old new stop end_ is same = replies_first script old new end_ (λ read. unread stop (sym is ∙ read)) (λ long. not_long stop (sym is ∙ long)) same
 
 module _ {S : Type 0} (g : pages.Ghosts S) where
   -- pages that an engine is ready on may be served
@@ -103,7 +98,7 @@ module _ {S : Type 0} (g : pages.Ghosts S) where
         undamaged = undamaged;
         ends = runs.ends;
         time = λ before is. over_time_then
-            (over_time_wider keeps.time (λ left heard only. left_only_base opened.tables.shape (held_by g opened) runs.stages runs.outcomes runs.in_hand before (g.state old) left heard served keeps.base is only))
+            (over_time_wider keeps.time (λ left heard only. left_only_base (held_by g opened) runs.stages runs.outcomes runs.in_hand before (g.state old) left heard served keeps.base is only))
             (runs.time before (keeps.told ∙ is));
       } in
       subst (λ (s : Shape). RunsOnStore g s script left old new.store result) same_shape on_store
@@ -122,12 +117,12 @@ module _ {S : Type 0} (g : pages.Ghosts S) where
         outcomes = [];
         stages = [];
         in_hand = [];
-        goes = GoesOnPages.nothing;
+        goes = Goes.nothing;
         said = [];
         told = subst (λ (tape : Option (List ℕ)). Takes (g.state old).told [] tape) (sym keeps.told) (takes_nothing (g.state old).told);
         undamaged = λ damage is. not_damaged stop undamaged damage (Err (stop_of_engine stop)) refl is;
         ends = ends_first script (stop_of_engine stop) (unread stop) (not_long stop);
-        time = λ before is. over_time_wider keeps.time (λ left heard only. left_only_base shape held [] [] [] before (g.state old) left heard served refl is only);
+        time = λ before is. over_time_wider keeps.time (λ left heard only. left_only_base held [] [] [] before (g.state old) left heard served refl is only);
       }
 
 -- ---- whatever the pages are

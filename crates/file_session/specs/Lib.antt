@@ -1,4 +1,4 @@
-pub mod Breaking
+pub mod AnyServing
 pub mod Ending
 pub mod Leaving
 pub mod Running

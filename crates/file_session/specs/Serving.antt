@@ -16,7 +16,6 @@ use Rattle.page_store.specs.Standing.{pages_in}
 use Rattle.script_engine.specs.Held.{HeldPages}
 use Rattle.script_session.specs.Going.{GoesOnPages, Stage}
 use Rattle.script_session.specs.Lists.{GoesOnLists}
-use Rattle.script_session.specs.Replying.{RepliesTo}
 use Rattle.script_session.specs.Serving.{EndsScript, TakesScript}
 use Rattle.script_session.specs.declared.stop.Served.{Served}
 use Rattle.script_session.specs.declared.stop.SessionStop.{SessionStop}
@@ -62,11 +61,6 @@ pub record RunsItems (shape : Shape) (pages : PageList) (said : List ℕ) (scrip
 abbrev pub TakesBySession : Option (List ℕ) → Option (List ℕ) → Result Served FileStop → Type 0
 TakesBySession script left result =
     (end_ : Result Served SessionStop) × (result ≡ end_of_session end_) × IfSome script (λ script. TakesScript script left end_)
-
--- what was told of a script, and how it ended, by the session whose end is that of the run, whatever the file's pages are
-abbrev pub RepliesBySession : Option (List ℕ) → Option (List ℕ) → Option (List ℕ) → Option (List ℕ) → Result Served FileStop → Type 0
-RepliesBySession script left old new result =
-    (end_ : Result Served SessionStop) × (result ≡ end_of_session end_) × RepliesTo script left old new end_
 
 -- A run of a script on a file of these bytes, which is well: such a run on the pages that it stands for, and what a crash leaves at
 -- each moment of it.

@@ -5,7 +5,9 @@
 //! statement, up to a stop, and 70 only where a statement runs full. From the origin of the run on a crash leaves a well file, which
 //! stands for those lists after some of the items, with every one whose reply had begun and at most one more; so the next run keeps the
 //! promise too, and by a law here begins with those lists. A file that was just made is well, by another, and stands for no table. A
-//! file that isn't well is refused for a cause in its bytes, or served as far as it can be.
+//! file that isn't well is refused for a cause in its bytes, or there is one run of the script's items on its pages, each of which does
+//! what its statement may: a crash leaves the pages of the last commit behind some of them, and damage is that of the pages that
+//! were held, from those of the file on.
 //!
 //! It stands on `page_store` for the pages of a file and on `script_session` for the script.
 #![tactic(auto)]

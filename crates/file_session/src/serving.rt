@@ -4,6 +4,7 @@ ghost use Rattle.std.specs.Option.{ForSome};
 ghost use Rattle.mdc_words.specs.Faults.{CountsFault};
 ghost use Rattle.mdc_words.specs.Time.{OverTime};
 ghost use Rattle.mdc_outside.specs.Disk.{File};
+ghost use Rattle.store_api.specs.Works.{Rests};
 ghost use Rattle.store_api.specs.declared.fault.Damage.{Damage};
 ghost use Rattle.store_api.specs.declared.shape.Shape.{Shape};
 ghost use Rattle.page_file.specs.Bound.{LeavesOf};
@@ -12,16 +13,15 @@ ghost use Rattle.page_store.specs.Opening.{IsServed};
 ghost use Rattle.page_store.specs.Standing.{IsFormed};
 ghost use Rattle.script_engine.specs.Opening.{IsSoundStore};
 ghost use Rattle.script_session.specs.Leaving.{ReopensAlways};
-ghost use Rattle.script_session.specs.Replying.{RepliesTo};
 ghost use Rattle.script_session.specs.Serving.{TakesScript};
 ghost use Rattle.script_session.specs.Told.{StaysTold, TellsMore};
-ghost use Rattle.file_verdict.specs.Resting.{LeavesSince, StaysFormed};
+ghost use Rattle.file_verdict.specs.Resting.{ComesToRest, StaysFormed};
 ghost use Rattle.file_verdict.specs.SoundFile.{StatesExtents};
-ghost use Rattle.file_session.specs.Breaking.{BreaksAtEnd, BreaksOnStore, IsDamageOf};
+ghost use Rattle.file_session.specs.AnyServing.{RunsOnAnyFile, RunsOnServed};
 ghost use Rattle.file_session.specs.Ending.{IsCauseIn, IsRefused, IsUnopened, StopsOpening, end_of_session};
-ghost use Rattle.file_session.specs.Leaving.{AreFormed};
-ghost use Rattle.file_session.specs.Running.{LeavesFormed, RunsOnStore, ServesStore};
-ghost use Rattle.file_session.specs.Serving.{RepliesBySession, RunsOnFile, TakesBySession};
+ghost use Rattle.file_session.specs.Leaving.{AreFormed, StopsUnrested};
+ghost use Rattle.file_session.specs.Running.{LeavesFormed, RunsAnyOnStore, RunsOnStore, ServesAny, ServesStore};
+ghost use Rattle.file_session.specs.Serving.{RunsOnFile, TakesBySession};
 ghost use Rattle.file_session.specs.Well.{AreWell, IsWell};
 
 use crate::stop::FileStop;
@@ -30,6 +30,7 @@ use page_store::{CACHED_PAGES, FileStore, OpenFault, Unopened};
 use script_engine::{Engine, Stopped, sound_pages_stand};
 use script_session::{Served, SessionStop, goes_on_lists, serve};
 use std::alloc::Global;
+use std::marker::Brand;
 use store_api::{Pages, Shape, Store};
 
 /// How serving a script on a file ended, and the host.
@@ -51,20 +52,21 @@ pub fn serve_file<I: Source, H: Host>(alloc: Global, input: &mut I, host: H) -> 
     ensures stays_well { (before : File) (said : List ℕ) → H.file host ≡ Some before → (H.beside host).tape ≡ Some said → AreWell before
         → (after : File) × (H.file result.host ≡ Some after) × AreWell after }
     ensures cause { ForSome (H.file host) (λ file. IsCauseIn file.bytes result.end) }
-    // Damage is exact: it is that of the file that can't be opened, or of the pages that were held at the stop.
-    ensures breaks { (damage : Damage) → result.end ≡ Err (FileStop.Damaged damage) → (before : File) → H.file host ≡ Some before
-        → IsDamageOf before.bytes (I.left input.old) (I.left input.new) (H.beside host).tape (H.beside result.host).tape damage result.end (H.file result.host) }
+    // Whatever the pages of the file are: one run of the script's items on them, each of which does what its statement may, whose texts
+    // are told in order. Damage is that of the file that can't be opened, or of the pages that were held at the stop.
+    ensures any { IsRefused result.end ⊎ RunsOnServed (H.file host) (I.left input.old) (I.left input.new) (H.beside host).tape (H.beside result.host).tape result.end }
+    // And what a crash leaves at each moment of it, where the file is served.
+    ensures runs_any { (before : File) (said : List ℕ) → H.file host ≡ Some before → (H.beside host).tape ≡ Some said → IsServed before.bytes
+        → RunsOnAnyFile H.Disk before said (I.left input.old) (I.left input.new) host result.host result.end }
     ensures unopened { ForSome (H.file host) (λ file. (IsServed file.bytes → ⊥) → IsUnopened result.end × (input.new ≡ input.old) × ((H.beside result.host).tape ≡ (H.beside host).tape)) }
     // A file that isn't served is left alone, also where the disk fails: a crash leaves what it could leave before.
     ensures left_alone { ForSome (H.file host) (λ file. (IsServed file.bytes → ⊥) → LeavesOf H.Disk CouldBeLeft host result.host
         × ((result.end ≡ Err FileStop.Device → ⊥) → file_bytes (H.file result.host) ≡ file_bytes (H.file host))) }
     // Whatever its pages are, of a script on a file that is served so much is taken as its end says.
     ensures takes { IsRefused result.end ⊎ TakesBySession (I.left input.old) (I.left input.new) result.end }
-    // And the texts of outcomes are told, one for each item that was answered, by which the run ends.
-    ensures replies { IsRefused result.end ⊎ RepliesBySession (I.left input.old) (I.left input.new) (H.beside host).tape (H.beside result.host).tape result.end }
-    // And from the run's origin on a crash leaves a formed image of the extents that the file states.
+    // From the run's origin on a crash leaves a formed image of the extents that a formed file states. A run that came to none took nothing.
     ensures reopens { (before : File) (said : List ℕ) → H.file host ≡ Some before → (H.beside host).tape ≡ Some said → IsFormed before.bytes
-        → LeavesSince H.Disk before said (λ image tape. StaysFormed before.bytes image) host result.host }
+        → ComesToRest H.Disk before said (λ image tape. StaysFormed before.bytes image) host result.host ⊎ StopsUnrested H.Disk before said (I.left input.old) (I.left input.new) host result.host }
     ensures stays_formed { (before : File) (said : List ℕ) → H.file host ≡ Some before → (H.beside host).tape ≡ Some said → AreFormed before
         → (after : File) × (H.file result.host ≡ Some after) × AreFormed after }
     ensures refused { IsRefused result.end → (input.new ≡ input.old) × ((H.beside result.host).tape ≡ (H.beside host).tape) }
@@ -78,7 +80,7 @@ pub fn serve_file<I: Source, H: Host>(alloc: Global, input: &mut I, host: H) -> 
     // A run over sound pages is one over lists of rows, also one of no item.
     goes_on_lists();
     sound_pages_stand();
-    match FileStore::open(alloc, host, CACHED_PAGES) {
+    match FileStore::<H, Brand>::open(alloc, host, CACHED_PAGES) {
         Ok(store) => serve_store(alloc, input, store),
         Err(Unopened { fault, host }) => Ended {
             end: Err(stop_of_opening(fault)),
@@ -103,11 +105,9 @@ fn serve_store<I: Source, H: Host>(alloc: Global, input: &mut I, store: FileStor
         → ServesStore ⟦<FileStore<H> as Pages>⟧ H.Disk shape said (I.left input.old) (I.left input.new) store result.host result.end }
     ensures damaged { (damage : Damage) → result.end ≡ Err (FileStop.Damaged damage) → (file : File) → H.file store.host ≡ Some file
         → (shape : Shape) → StatesExtents file.bytes shape → IsSoundStore ⟦<FileStore<H> as Pages>⟧ shape store → ⊥ }
-    ensures breaks { (damage : Damage) → result.end ≡ Err (FileStop.Damaged damage) → (⟦<FileStore<H> as Pages>⟧.state store).base ≡ (⟦<FileStore<H> as Pages>⟧.state store).work
-        → (file : File) → H.file store.host ≡ Some file → (shape : Shape) → StatesExtents file.bytes shape
-        → BreaksAtEnd shape (I.left input.old) (I.left input.new) (H.beside store.host).tape (H.beside result.host).tape damage result.end (H.file result.host) }
+    ensures any { (⟦<FileStore<H> as Pages>⟧.state store).base ≡ (⟦<FileStore<H> as Pages>⟧.state store).work → Rests ⟦<FileStore<H> as Pages>⟧ store
+        → ServesAny ⟦<FileStore<H> as Pages>⟧ H.Disk (H.file store.host) (I.left input.old) (I.left input.new) store result.host result.end }
     ensures takes { TakesBySession (I.left input.old) (I.left input.new) result.end }
-    ensures replies { RepliesBySession (I.left input.old) (I.left input.new) (H.beside store.host).tape (H.beside result.host).tape result.end }
     ensures reopens { (file : File) (said : List ℕ) → H.file store.host ≡ Some file → (H.beside store.host).tape ≡ Some said
         → LeavesFormed ⟦<FileStore<H> as Pages>⟧ H.Disk file.bytes store result.host }
     ensures reads { CountsFault (result.end ≡ Err FileStop.Unread) (I.read_faults input.old) (I.read_faults input.new) }
@@ -142,16 +142,16 @@ fn serve_pages<I: Source, S: Store>(
     requires unmarked { (S.state store).marked ≡ None }
     ensures runs { IsSoundStore S.Pages shape store → RunsOnStore S.Pages shape (I.left input.old) (I.left input.new) store result.store result.end }
     ensures damaged { (damage : Damage) → result.end ≡ Err (SessionStop.Damaged damage) → IsSoundStore S.Pages shape store → ⊥ }
-    // Damage is that of the pages that are held behind the items that were answered.
-    ensures breaks { (damage : Damage) → result.end ≡ Err (SessionStop.Damaged damage) → (replies : RepliesTo (I.left input.old) (I.left input.new) (S.state store).told (S.state result.store).told result.end)
-        × BreaksOnStore S.Pages shape replies.items store result.store damage }
+    // Whatever the pages are, where all of them are committed: one run of the script's items on them.
+    ensures any { (S.state store).base ≡ (S.state store).work → RunsAnyOnStore S.Pages shape (I.left input.old) (I.left input.new) store result.store result.end }
+    ensures going { (S.state store).base ≡ (S.state store).work → (result.end ≡ Err SessionStop.Device → ⊥) → (S.state result.store).ended ≡ false }
+    ensures rests { Rests S.Pages store → Rests S.Pages result.store }
     ensures reads { CountsFault (result.end ≡ Err SessionStop.Unread) (I.read_faults input.old) (I.read_faults input.new) }
     ensures unsaid { CountsFault (result.end ≡ Err SessionStop.Unsaid) (S.say_faults store) (S.say_faults result.store) }
     ensures device { CountsFault (result.end ≡ Err SessionStop.Device) (S.disk_faults store) (S.disk_faults result.store) }
     ensures beside { (S.state result.store).beside ≡ (S.state store).beside }
     ensures is_told { (S.state result.store).is_told ≡ (S.state store).is_told }
     ensures takes { IfSome (I.left input.old) (λ script. TakesScript script (I.left input.new) result.end) }
-    ensures replies { RepliesTo (I.left input.old) (I.left input.new) (S.state store).told (S.state result.store).told result.end }
     ensures tells { TellsMore (S.state store).told (S.state result.store).told }
     ensures reopens { OverTime S.clock S.left ReopensAlways store result.store }
     ensures later { S.clock store ≤ S.clock result.store }

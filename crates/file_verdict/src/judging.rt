@@ -21,6 +21,7 @@ use file_check::{Verdict, check, sound_pages_break_no_rule};
 use mdc_outside::Host;
 use page_store::{CACHED_PAGES, FileStore, OpenFault, Unopened};
 use std::alloc::Global;
+use std::marker::Brand;
 use store_api::{PageFault, Pages, Shape};
 
 /// The verdict on a file, or why it has none, and the host.
@@ -58,7 +59,7 @@ pub fn judge_file<H: Host>(alloc: Global, host: H) -> Judged<H>
     ensures later { H.clock host ≤ H.clock result.host }
 {
     sound_pages_break_no_rule();
-    match FileStore::open(alloc, host, CACHED_PAGES) {
+    match FileStore::<H, Brand>::open(alloc, host, CACHED_PAGES) {
         Ok(store) => judge_store(alloc, store),
         Err(Unopened { fault, host }) => Judged {
             verdict: verdict_of_opening(fault),

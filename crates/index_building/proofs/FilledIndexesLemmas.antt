@@ -15,7 +15,7 @@ use Rattle.mdc_sound.specs.BlockRules.{IsSoundIndex, block_in_entry, entry_of_ro
 use Rattle.mdc_sound.specs.TableRows.{PlacedRow}
 use Rattle.mdc_sound.proofs.BlockRulesLemmas.{each_as}
 use Rattle.record_index.specs.FoundRids.{IsRid}
-use Rattle.index_building.specs.IndexSteps.{LieApart}
+use Rattle.record_index.specs.SoundRows.{LieApart}
 
 -- ---- lists
 

@@ -39,13 +39,13 @@ use Rattle.mdc_sound.specs.StandingTable.{NamesTablePart, roots_in}
 use Rattle.mdc_sound.specs.TableRows.{PlacedRow}
 use Rattle.record_index.specs.OneIndex.{AmongTrees, BreaksAddingRow, ChangesOneTree, GainsOneEntry}
 use Rattle.record_index.specs.RecordIndexes.{HasRecordIndexes, HaveKeysIn, entry_in_record_index, place_of_record_index}
+use Rattle.record_index.specs.SoundRows.{LieApart}
 use Rattle.record_index.proofs.IndexesLemmas.{entry_of_which, key_parts, place_of_which}
 use Rattle.record_index.proofs.KeysLemmas.{keys_of_each}
 use Rattle.record_index.proofs.SoundRowsLemmas.{lacks_row}
 use Rattle.stored_catalog.proofs.FreeingRunsLemmas.{root_there}
 use Rattle.stored_catalog.proofs.MakingTreesLemmas.{goes_then}
 use Rattle.index_building.specs.FilledIndexes.{BreaksFilling, FillsIndex, entering_changes}
-use Rattle.index_building.specs.IndexSteps.{LieApart}
 use Rattle.index_building.proofs.AroundIndexLemmas.{set_twice}
 use Rattle.index_building.proofs.FilledIndexesLemmas.{apart_before, gains_row, none_entered, set_itself}
 use Rattle.index_building.proofs.RemovedLemmas.{at-behind, there-at}

@@ -23,10 +23,11 @@ use Rattle.mdc_sound.specs.TableRows.{PlacedRow, rows_in_table}
 use Rattle.mdc_sound.proofs.BlockRulesLemmas.{each_as, each_of}
 use Rattle.mdc_sound.proofs.StandingTableLemmas.{forests_of, map_of_rules, stands_of_rules, stands_told}
 use Rattle.record_index.specs.FoundRids.{IsRid}
+use Rattle.record_index.specs.SoundRows.{LieApart}
 use Rattle.stored_catalog.specs.StoredDefinitions.{AreStored}
 use Rattle.stored_catalog.proofs.LeftDefinitionsLemmas.{stored_at}
 use Rattle.stored_catalog.proofs.OpenedTableLemmas.{defined_there}
-use Rattle.index_building.specs.IndexSteps.{AreRowsOf, BreaksDroppingIndex, BreaksIndexing, LieApart}
+use Rattle.index_building.specs.IndexSteps.{AreRowsOf, BreaksDroppingIndex, BreaksIndexing}
 use Rattle.index_building.proofs.PairsInOrderLemmas.{pairs_in_order}
 use Rattle.index_building.proofs.RemovedLemmas.{at-behind, sum-remove, there-at}
 

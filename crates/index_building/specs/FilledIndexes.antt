@@ -16,7 +16,7 @@ use Rattle.mdc_sound.specs.BlockRules.{IsSoundIndex}
 use Rattle.mdc_sound.specs.StandingTable.{NamesTablePart}
 use Rattle.mdc_sound.specs.TableRows.{PlacedRow}
 use Rattle.record_index.specs.RecordIndexes.{entry_in_record_index, place_of_record_index}
-use Rattle.index_building.specs.IndexSteps.{LieApart}
+use Rattle.record_index.specs.SoundRows.{LieApart}
 
 -- the changes of space of rows that come into a record index, in order: an entry each
 abbrev pub entering_changes : TableDef → ℕ → List PlacedRow → List SpaceChange

@@ -1,6 +1,5 @@
 -- What a record index more, or one less, makes of the pages of a sound database; which pages that touches, and which damage it may name.
-use Rattle.std.specs.Prelude.{◌≡◌, ◌≢◌, ◌<◌, ℕ, List, [], ◌∷◌, AllPairs, IsPermutation, Some, slice_get}
-use Rattle.std.specs.List.{AllByRecursion}
+use Rattle.std.specs.Prelude.{◌≡◌, ◌<◌, ℕ, List, [], ◌∷◌, AllPairs, IsPermutation, Some, slice_get}
 use Rattle.mdc_ast.specs.declared.definition.IndexDef.{IndexDef}
 use Rattle.mdc_ast.specs.declared.definition.TableDef.{TableDef}
 use Rattle.mdc_ast.specs.Definitions.{Definitions, def_at, with_index}
@@ -26,7 +25,7 @@ use Rattle.mdc_sound.specs.SpaceRules.{DatabaseView}
 use Rattle.mdc_sound.specs.StandingTable.{NamesTablePart}
 use Rattle.mdc_sound.specs.TableRows.{PlacedRow, rows_in_table}
 use Rattle.mdc_sound.specs.TableViews.{TableView}
-use Rattle.record_index.specs.FoundRids.{IsRid}
+pub use Rattle.record_index.specs.SoundRows.{LieApart}
 use Rattle.stored_catalog.specs.AroundTable.{view_with}
 use Rattle.index_building.specs.IndexViews.{index_tree, rooted_index, view_with_index, view_without_index}
 
@@ -86,11 +85,6 @@ pub record AddsIndex (shape : Shape) (before noted : SpaceNotes) (old new : Page
 -- rows by rising row number
 abbrev pub ByRowNumber : List PlacedRow → Type 0
 ByRowNumber rows = AllPairs (λ a b. a.row.number < b.row.number) rows
-
--- rows lie in places that entries can name, no two in one
-pub record LieApart (rows : List PlacedRow) : Type 0 where
-  pub places : AllByRecursion (λ placed. IsRid placed.rid) rows
-  pub apart : AllPairs (λ a b. a.rid ≢ b.rid) rows
 
 -- The damage of a run that makes the tree of a record index of table t of these definitions, and fills it: a part of the table with
 -- the index, whose root was an idle page where the map was told; never where besides the rows lie apart.

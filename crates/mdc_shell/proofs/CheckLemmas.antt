@@ -25,8 +25,7 @@ use Rattle.file_verdict.proofs.RestingLemmas.{TellsNow}
 use Rattle.file_verdict.proofs.SoundFilesLemmas.{states_as_before}
 use Rattle.file_session.specs.Well.{IsWell}
 use Rattle.mdc_shell.specs.Check.{ChecksFormed, ChecksPath, ChecksUnserved, IsCheckStatus, IsStatusOnSound, IsUnsettled, SaysVerdict, line_of_verdict, status_of_verdict}
-use Rattle.mdc_shell.proofs.OriginLemmas.{rests-opened, rests_then_said}
-use Rattle.mdc_shell.proofs.RunsLemmas.{could_be_left-moment}
+use Rattle.mdc_shell.proofs.OriginLemmas.{could_be_left-moment, rests-opened, rests_then_said}
 
 -- ---- the status
 

@@ -1,3 +1,4 @@
+pub mod AnyRunsLemmas
 pub mod Asking
 pub mod CheckLemmas
 pub mod ClapWords

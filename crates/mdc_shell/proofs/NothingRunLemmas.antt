@@ -9,7 +9,7 @@ use Rattle.store_api.specs.declared.shape.Shape.{Shape}
 use Rattle.table_trees.specs.ToldPages.{PageList}
 use Rattle.mdc_sound.specs.StandsForDatabase.{PagesStandFor}
 use Rattle.script_engine.specs.Held.{HeldPages}
-use Rattle.script_session.specs.Going.{GoesOnPages}
+use Rattle.script_session.specs.Going.{Goes}
 use Rattle.script_session.specs.Leaving.{AreServedPages}
 use Rattle.script_session.specs.Lists.{GoesOnLists}
 use Rattle.script_session.specs.Serving.{EndsScript}
@@ -40,7 +40,7 @@ run_to shape pages db said script end_ served stands undamaged ends =
         outcomes = [];
         stages = [];
         in_hand = [];
-        goes = GoesOnPages.nothing;
+        goes = Goes.nothing;
         sessions = [];
         lists = GoesOnLists.nothing (opened_session shape pages held db opened stands);
         more = [];

@@ -1,8 +1,8 @@
 -- The origin of a run on a file: what an attach before the run and a line behind it change of what a crash leaves.
-use Rattle.std.proofs.Common.{◌≡◌, ◌⊎◌, ◌≤◌, ◌↔◌, ℕ, List, [], Option, Some, refl, sym, inl, inr, arith}
+use Rattle.std.proofs.Common.{◌≡◌, ◌⊎◌, ◌≤◌, ◌↔◌, ℕ, List, [], Option, Some, refl, sym, ap, ◌∙◌, inl, inr, arith}
 use Rattle.std.proofs.lemmas.List.{append-nil}
 use Rattle.mdc_words.specs.Time.{OverTime, ReachesBack}
-use Rattle.mdc_words.proofs.TimeLemmas.{over_time_then}
+use Rattle.mdc_words.proofs.TimeLemmas.{over_time_then, over_time_wider}
 use Rattle.mdc_outside.specs.Disk.{File, IsImage, opened}
 use Rattle.mdc_outside.specs.Moments.{IsMoment, IsWithinCall}
 use Rattle.mdc_outside.specs.declared.disk.Disk.{Ghosts}
@@ -82,3 +82,22 @@ left_unrested g before after said heard old mid now_old now_mid back is told is_
           (moment.left, nothing_said moment.said.0 moment.said.1 said heard moment.said.2 moment.said.3)
       | inr could ↦ could
     ]
+
+-- an image that could be left before, with nothing said, is one while a line is said
+pub could_be_left-moment : (before : File) (said line image tape : List ℕ) → LeavesImage (CouldBeLeft before) said image tape → IsMoment before.since said line image tape
+could_be_left-moment before said line image tape left = record { left = left.0; said = ([], line, refl, left.1 ∙ sym (append-nil said)) }
+
+-- so nothing was said by a run that stopped before any origin, and a crash while its line is said leaves what could be left before
+pub unrested_said : {D : Type 0} (g : Ghosts D) (before after : File) (said heard line : List ℕ) (old mid new : D) (tape : Option (List ℕ)) → TellsNow g old → TellsNow g mid → ReachesBack g.clock g.moment mid
+    → g.file old ≡ Some before → (g.beside old).tape ≡ Some said → g.file mid ≡ Some after → IsImage after.since after.bytes → (g.beside mid).tape ≡ Some heard → tape ≡ Some heard
+    → OverTime g.clock g.moment (LeavesImage (CouldBeLeft before) said) old mid → OverTime g.clock g.moment (IsWithinCall (g.file mid) tape line) mid new
+    → (tape ≡ Some said) × OverTime g.clock g.moment (IsMoment before.since said line) old new
+unrested_said g before after said heard line old mid new tape now_old now_mid back is told is_mid sound told_mid tape_is meanwhile saying =
+    let could = left_unrested g before after said heard old mid now_old now_mid back is told is_mid told_mid meanwhile in
+    let tape_was : tape ≡ Some said = tape_is ∙ ap Some (could after.bytes sound).1 in (
+      tape_was,
+      over_time_then (over_time_wider meanwhile (could_be_left-moment before said line))
+          (over_time_wider saying (λ image taken within.
+          let moment = within_call-told after said image taken is_mid tape_was within in
+          record { left = (could image moment.left).0; said = moment.said })),
+    )

@@ -23,22 +23,21 @@ use Rattle.script_session.specs.declared.stop.SessionStop.{SessionStop}
 use Rattle.script_session.specs.declared.stop.SessionStop.TheVariants as session
 use Rattle.std.specs.Option.{option_map}
 use Rattle.script_session.specs.Told.{TellsMore}
-use Rattle.file_session.specs.Breaking.{IsDamageOf}
 use Rattle.file_session.specs.Ending.{IsCauseIn, IsUnopened, end_of_session, IsRefused}
-use Rattle.file_session.specs.Serving.{RepliesBySession, RunsItems, RunsOnFile, TakesBySession}
+use Rattle.file_session.specs.Serving.{RunsItems, RunsOnFile, TakesBySession}
 use Rattle.file_session.specs.Well.{IsWell}
 use Rattle.file_session.specs.declared.stop.FileStop.{FileStop}
 use Rattle.file_session.specs.declared.stop.FileStop.TheVariants.{Damaged, Device, Memory, NotMdc, TooLong, Unmade, Unread, Unsaid, Version}
-use Rattle.file_verdict.specs.Resting.{LeavesSince, StaysFormed}
+use Rattle.file_session.specs.Leaving.{StopsUnrested}
+use Rattle.file_verdict.specs.Resting.{ComesToRest, StaysFormed}
 use Rattle.file_verdict.proofs.RestingLemmas.{TellsNow}
-use Rattle.file_session.proofs.FirstEndsLemmas.{replies_first}
-use Rattle.std.proofs.lemmas.List.{append-nil}
 use Rattle.script_session.specs.Ending.{script_limit}
 use Rattle.page_file.specs.Bound.{LeavesOf}
 use Rattle.mdc_shell.specs.Run.{IsComplete, IsStopBefore, IsWithinLimit, RefusesFile, ReopensFile, RunsPath, RunsScratch, ServesPath, TakesByStatus}
 use Rattle.mdc_shell.specs.Status.{SaysEnd, line_of_end, status_of, status_of_stop}
 use Rattle.script_session.proofs.ToldLemmas.{same-tells_more, takes_nothing}
-use Rattle.mdc_shell.proofs.OriginLemmas.{left_unrested, rests-opened, rests_then_said}
+use Rattle.mdc_shell.proofs.OriginLemmas.{could_be_left-moment, rests-opened, rests_then_said, unrested_said}
+use Rattle.mdc_shell.proofs.AnyRunsLemmas.{served_before, served_behind}
 
 -- ---- how a run ends
 
@@ -106,7 +105,7 @@ runs_path-opened g before said script left old mid new status attached run = rec
 -- ---- where nothing was run
 
 -- the end of a stop that says nothing
-says_end-quiet : (tape new : Option (List ℕ)) (stop : FileStop) → IsStopBefore stop → new ≡ tape → SaysEnd tape new (status_of_stop stop) (Err stop)
+pub says_end-quiet : (tape new : Option (List ℕ)) (stop : FileStop) → IsStopBefore stop → new ≡ tape → SaysEnd tape new (status_of_stop stop) (Err stop)
 says_end-quiet tape new Device before same = inl (refl, subst (λ (t : Option (List ℕ)). Takes tape [] t) (sym same) (takes_nothing tape))
 says_end-quiet tape new Memory before same = inl (refl, subst (λ (t : Option (List ℕ)). Takes tape [] t) (sym same) (takes_nothing tape))
 says_end-quiet tape new Unmade before same = absurd before
@@ -141,51 +140,30 @@ unopened-before TooLong before = absurd before
 unopened-before Unsaid before = absurd before
 unopened-before (Damaged damage) before = tt
 
--- nor do these name damage
-undamaged-before : (stop : FileStop) (damage : Damage) → IsStopBefore stop → stop ≡ Damaged damage → ⊥
-undamaged-before stop damage before is = subst IsStopBefore is before
-
--- and nothing was told before them
-replies-before : (script tape : Option (List ℕ)) (stop : FileStop) → IsStopBefore stop → IsRefused (Err stop) ⊎ RepliesBySession script script tape tape (Err stop)
-replies-before script tape Device before = inr (Err session.Device, refl, replies_first script tape tape session.Device (λ e. cc) (λ e. cc) refl)
-replies-before script tape Memory before = inr (Err session.Memory, refl, replies_first script tape tape session.Memory (λ e. cc) (λ e. cc) refl)
-replies-before script tape Unmade before = absurd before
-replies-before script tape NotMdc before = absurd before
-replies-before script tape (Version version) before = absurd before
-replies-before script tape Unread before = absurd before
-replies-before script tape TooLong before = absurd before
-replies-before script tape Unsaid before = absurd before
-replies-before script tape (Damaged damage) before = absurd before
-
-pub serves_path-before : (file new_file : Option File) (script tape new : Option (List ℕ)) (stop : FileStop) → IsStopBefore stop → new ≡ tape
-    → ServesPath file new_file script script tape new (status_of_stop stop)
-serves_path-before file new_file script tape new stop before same = record {
-  breaks = λ f is damage ends. let named : stop ≡ Damaged damage = cc in absurd (undamaged-before stop damage before named);
+pub serves_path-before : (file : Option File) (script tape new : Option (List ℕ)) (stop : FileStop) → IsStopBefore stop → new ≡ tape → ServesPath file script script tape new (status_of_stop stop)
+serves_path-before file script tape new stop before same = record {
   end_ = Err stop;
   cause = λ f is. cause-before f.bytes stop before;
   before_line = tape;
   kept = same-tells_more tape tape refl;
-  replies = replies-before script tape stop before;
+  any = inr (served_before file script tape tape stop before refl);
   ends = says_end-quiet tape new stop before same;
 }
 
 -- a run on a file that an attach opened is one on the file as it was
-pub serves_path-opened : (file mid new_file : Option File) (script left tape mid_tape new : Option (List ℕ)) (status : ℕ) → mid ≡ option_map opened file → mid_tape ≡ tape
-    → ServesPath mid new_file script left mid_tape new status → ServesPath file new_file script left tape new status
-serves_path-opened file mid new_file script left tape mid_tape new status is same serves = record {
+pub serves_path-opened : (file mid : Option File) (script left tape mid_tape new : Option (List ℕ)) (status : ℕ) → mid ≡ option_map opened file → mid_tape ≡ tape
+    → ServesPath mid script left mid_tape new status → ServesPath file script left tape new status
+serves_path-opened file mid script left tape mid_tape new status is same serves = record {
   end_ = serves.end_;
   cause = λ f told. serves.cause (opened f) (is ∙ ap (option_map opened) told);
   before_line = serves.before_line;
   kept = subst (λ (t : Option (List ℕ)). TellsMore t serves.before_line) same serves.kept;
-  replies = subst (λ (t : Option (List ℕ)). IsRefused serves.end_ ⊎ RepliesBySession script left t serves.before_line serves.end_) same serves.replies;
-  breaks = λ f told damage ends.
-      subst (λ (t : Option (List ℕ)). IsDamageOf f.bytes script left t serves.before_line damage serves.end_ new_file) same (serves.breaks (opened f) (is ∙ ap (option_map opened) told) damage ends);
+  any = elim serves.any [
+    | inl refused ↦ inl refused
+    | inr run ↦ inr (served_behind file mid script left tape mid_tape serves.before_line serves.end_ is same run)
+  ];
   ends = serves.ends;
 }
-
--- an image that could be left before, with nothing said, is one while a line is said
-pub could_be_left-moment : (before : File) (said line image tape : List ℕ) → LeavesImage (CouldBeLeft before) said image tape → IsMoment before.since said line image tape
-could_be_left-moment before said line image tape left = record { left = left.0; said = ([], line, refl, left.1 ∙ sym (append-nil said)) }
 
 pub refuses_file-before : {D : Type 0} (g : Ghosts D) (before : File) (said : List ℕ) (new_tape : Option (List ℕ)) (old new : D) (stop : FileStop) → IsStopBefore stop → new_tape ≡ Some said
     → OverTime g.clock g.moment (LeavesImage (CouldBeLeft before) said) old new → RefusesFile g before said new_tape old new (status_of_stop stop)
@@ -266,43 +244,42 @@ refuses_file-opened g before said new_tape old mid new status attached refuses =
 -- ---- a formed file
 
 -- a run, and then the line of its end
-pub reopens_file-said : {D : Type 0} (g : Ghosts D) (before after : File) (said heard : List ℕ) (old mid new : D) (tape new_tape : Option (List ℕ)) (end_ : Result Served FileStop) (status : ℕ)
+pub reopens_file-said : {D : Type 0} (g : Ghosts D) (before after : File) (said heard : List ℕ) (script left : Option (List ℕ)) (old mid new : D) (tape new_tape : Option (List ℕ)) (end_ : Result Served FileStop) (status : ℕ)
     → TellsNow g old → TellsNow g mid → ReachesBack g.clock g.moment mid → g.file old ≡ Some before → (g.beside old).tape ≡ Some said → g.file mid ≡ Some after → IsImage after.since after.bytes
     → (g.beside mid).tape ≡ Some heard → tape ≡ Some heard → IsCauseIn before.bytes end_ → SaysEnd tape new_tape status end_
-    → OverTime g.clock g.moment (IsWithinCall (g.file mid) tape (line_of_end end_)) mid new → LeavesSince g before said (λ image tape. StaysFormed before.bytes image) old mid
-    → ReopensFile g before said new_tape old new status
-reopens_file-said g before after said heard old mid new tape new_tape end_ status now_old now_mid back is told is_mid sound told_mid tape_is cause ends saying (inl rest) =
+    → OverTime g.clock g.moment (IsWithinCall (g.file mid) tape (line_of_end end_)) mid new
+    → ComesToRest g before said (λ image tape. StaysFormed before.bytes image) old mid ⊎ StopsUnrested g before said script left old mid → ReopensFile g before said script left new_tape old new status
+reopens_file-said g before after said heard script left old mid new tape new_tape end_ status now_old now_mid back is told is_mid sound told_mid tape_is cause ends saying (inl rest) =
     inl (rests_then_said g before after said heard (line_of_end end_) (λ image taken. StaysFormed before.bytes image) (λ image taken. StaysFormed before.bytes image) old mid new tape now_mid back is_mid told_mid tape_is saying
     (λ image taken is. is) (λ image taken is part. is) rest)
-reopens_file-said g before after said heard old mid new tape new_tape end_ status now_old now_mid back is told is_mid sound told_mid tape_is cause ends saying (inr meanwhile) =
-    let could = left_unrested g before after said heard old mid now_old now_mid back is told is_mid told_mid meanwhile in
-    let tape_was : tape ≡ Some said = tape_is ∙ ap Some (could after.bytes sound).1 in
+reopens_file-said g before after said heard script left old mid new tape new_tape end_ status now_old now_mid back is told is_mid sound told_mid tape_is cause ends saying (inr (meanwhile, untaken)) =
+    let unrested = unrested_said g before after said heard (line_of_end end_) old mid new tape now_old now_mid back is told is_mid sound told_mid tape_is meanwhile saying in
     inr (record {
       end_ = end_;
+      untaken = untaken;
       cause = cause;
-      ends = subst (λ (t : Option (List ℕ)). SaysEnd t new_tape status end_) tape_was ends;
-      time = over_time_then (over_time_wider meanwhile (could_be_left-moment before said (line_of_end end_)))
-          (over_time_wider saying (λ image taken within.
-          let moment = within_call-told after said image taken is_mid tape_was within in
-          record { left = (could image moment.left).0; said = moment.said }));
+      ends = subst (λ (t : Option (List ℕ)). SaysEnd t new_tape status end_) unrested.0 ends;
+      time = unrested.1;
     })
 
 -- one behind an attach is one of the file as it was
-pub reopens_file-opened : {D : Type 0} (g : Ghosts D) (before : File) (said : List ℕ) (new_tape : Option (List ℕ)) (old mid new : D) (status : ℕ)
-    → OverTime g.clock g.moment (LeavesImage (CouldBeLeft before) said) old mid → ReopensFile g (opened before) said new_tape mid new status → ReopensFile g before said new_tape old new status
-reopens_file-opened g before said new_tape old mid new status attached (inl rest) = inl (rests-opened g before said old mid new attached rest)
-reopens_file-opened g before said new_tape old mid new status attached (inr stops) = inr (record {
+pub reopens_file-opened : {D : Type 0} (g : Ghosts D) (before : File) (said : List ℕ) (script left new_tape : Option (List ℕ)) (old mid new : D) (status : ℕ)
+    → OverTime g.clock g.moment (LeavesImage (CouldBeLeft before) said) old mid → ReopensFile g (opened before) said script left new_tape mid new status → ReopensFile g before said script left new_tape old new status
+reopens_file-opened g before said script left new_tape old mid new status attached (inl rest) = inl (rests-opened g before said old mid new attached rest)
+reopens_file-opened g before said script left new_tape old mid new status attached (inr stops) = inr (record {
   end_ = stops.end_;
+  untaken = stops.untaken;
   cause = stops.cause;
   ends = stops.ends;
   time = over_time_then (over_time_wider attached (could_be_left-moment before said (line_of_end stops.end_))) stops.time;
 })
 
 -- a stop before anything is taken comes before any origin
-pub reopens_file-before : {D : Type 0} (g : Ghosts D) (before : File) (said : List ℕ) (new_tape : Option (List ℕ)) (old new : D) (stop : FileStop) → IsStopBefore stop → new_tape ≡ Some said
-    → OverTime g.clock g.moment (LeavesImage (CouldBeLeft before) said) old new → ReopensFile g before said new_tape old new (status_of_stop stop)
-reopens_file-before g before said new_tape old new stop is_before same meanwhile = inr (record {
+pub reopens_file-before : {D : Type 0} (g : Ghosts D) (before : File) (said : List ℕ) (script new_tape : Option (List ℕ)) (old new : D) (stop : FileStop) → IsStopBefore stop → new_tape ≡ Some said
+    → OverTime g.clock g.moment (LeavesImage (CouldBeLeft before) said) old new → ReopensFile g before said script script new_tape old new (status_of_stop stop)
+reopens_file-before g before said script new_tape old new stop is_before same meanwhile = inr (record {
   end_ = Err stop;
+  untaken = refl;
   cause = cause-before before.bytes stop is_before;
   ends = says_end-quiet (Some said) new_tape stop is_before same;
   time = over_time_wider meanwhile (could_be_left-moment before said (line_of_end (Err stop)));

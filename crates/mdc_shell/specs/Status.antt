@@ -47,10 +47,10 @@ line_of_end (Ok served) = []
 line_of_end (Err stop) = line_of_stop stop
 
 -- The status is that of the end, whose line is said; or a first part of its line is, and the status is 5; or memory was wanted for
--- the line.
+-- the line, where the end has one.
 abbrev pub SaysEnd : Option (List ℕ) → Option (List ℕ) → ℕ → Result Served FileStop → Type 0
 SaysEnd tape new status end_ =
-    ((status ≡ status_of end_) × Takes tape (line_of_end end_) new) ⊎ ((status ≡ 5) × TakesPart tape (line_of_end end_) new) ⊎ ((status ≡ 8) × (new ≡ tape))
+    ((status ≡ status_of end_) × Takes tape (line_of_end end_) new) ⊎ ((status ≡ 5) × TakesPart tape (line_of_end end_) new) ⊎ ((status ≡ 8) × (line_of_end end_ ≡ [] → ⊥) × (new ≡ tape))
 
 -- one of the statuses that the run of a script may end with
 abbrev pub IsScriptStatus : ℕ → Type 0

@@ -15,7 +15,7 @@ ghost use Rattle.file_verdict.specs.SoundFile.{AreSoundFiles, IsSoundFile};
 ghost use Rattle.mdc_shell.specs.Check.{ChecksFormed, ChecksPath, ChecksUnserved, IsCheckComplete, IsCheckStatus, IsStatusOnSound, IsUnsettled, StaysStanding, StaysUnserved, WritesChecked};
 ghost use Rattle.mdc_shell.specs.Create.{Completes, Creates, MayAttach};
 ghost use Rattle.mdc_shell.specs.Leaving.{LeftByCreate};
-ghost use Rattle.mdc_shell.specs.Run.{IsComplete, IsWithinLimit, RefusesFile, RefusesScratch, ReopensFile, RunsPath, RunsScratch, ServesPath, StandsForNothing, TakesByStatus};
+ghost use Rattle.mdc_shell.specs.Run.{IsComplete, IsWithinLimit, RefusesFile, RefusesScratch, ReopensFile, RunsAnyPath, RunsPath, RunsScratch, ServesPath, StandsForNothing, TakesByStatus};
 ghost use Rattle.mdc_shell.specs.Status.{IsScriptStatus, IsStatus};
 ghost use Rattle.mdc_shell.specs.Untouched.{IsUntouched};
 ghost use Rattle.mdc_shell.specs.Words.{CheckFile, CreateFile, IsNoLine, RunFile, RunScratch, SaysUsage, SpellsLine, usage};
@@ -53,11 +53,17 @@ pub fn run<I: Source, H: Host>(
 ) -> Ended<H>
     ensures statuses { IsStatus result.status.0 }
 
-    // `run FILE`, on any file: the replies are the texts of the outcomes of the items that were taken, the end has its cause in the
-    // file, and its line is said behind all else.
+    // `run FILE`, on any file: the end has its cause in the file, and its line is said behind all else. Unless the file is refused, there
+    // is one run of the script's items on its pages, whatever they are: each does what its statement may, the replies are the texts of
+    // its outcomes, and damage is that of the file as it was opened, or of the pages that were held behind the items.
     ensures served { (path : List ℕ) → SpellsLine (map string_bytes words.now.items) (RunFile path)
-        → ServesPath (H.file host) (H.file result.host) (I.left input.old) (I.left input.new) (H.tape host) (H.tape result.host) result.status.0
+        → ServesPath (H.file host) (I.left input.old) (I.left input.new) (H.tape host) (H.tape result.host) result.status.0
         × MayAttach (H.attaches host) path false (H.attaches result.host) × IsScriptStatus result.status.0 }
+
+    // On a file that is served: what a crash leaves at each moment of such a run, and at its end.
+    ensures runs_any { (path : List ℕ) → SpellsLine (map string_bytes words.now.items) (RunFile path)
+        → (before : File) (said : List ℕ) → H.file host ≡ Some before → H.tape host ≡ Some said → IsServed before.bytes
+        → RunsAnyPath H.Disk before said (I.left input.old) (I.left input.new) (H.tape result.host) host result.host result.status.0 }
 
     // On a file that is well: one run of the script's items, whose replies are those of plain lists of rows, and what a crash
     // leaves at each moment of it.
@@ -74,7 +80,7 @@ pub fn run<I: Source, H: Host>(
     // image that could be left was formed, each is so after the run.
     ensures reopens { (path : List ℕ) → SpellsLine (map string_bytes words.now.items) (RunFile path)
         → (before : File) (said : List ℕ) → H.file host ≡ Some before → H.tape host ≡ Some said → IsFormed before.bytes
-        → ReopensFile H.Disk before said (H.tape result.host) host result.host result.status.0 }
+        → ReopensFile H.Disk before said (I.left input.old) (I.left input.new) (H.tape result.host) host result.host result.status.0 }
     ensures stays_formed { (path : List ℕ) → SpellsLine (map string_bytes words.now.items) (RunFile path)
         → (before : File) (said : List ℕ) → H.file host ≡ Some before → H.tape host ≡ Some said → AreFormed before
         → (after : File) × (H.file result.host ≡ Some after) × AreFormed after }

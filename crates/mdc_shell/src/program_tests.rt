@@ -8,6 +8,7 @@ use crate::program::{Ended, run};
 use mdc_outside::{Call, Host, MemHost, MemSource, Source};
 use page_store::{FileStore, OpenFault};
 use std::alloc::Global;
+use std::marker::Brand;
 use std::mem::replace;
 use std::process::Abort;
 use std::test::Fail;
@@ -400,7 +401,7 @@ fn a_file_is_made_once(rt: HostRuntime) -> Result<(), Fail> {
 /// Why the file of a host isn't opened, if it isn't.
 fn refusal_of<H: Host + Drop>(alloc: Global, mut host: H) -> Result<Option<OpenFault>, Fail> {
     host.attach("f", true)?;
-    match FileStore::open(alloc, host, 8) {
+    match FileStore::<H, Brand>::open(alloc, host, 8) {
         Ok(_) => Ok(None),
         Err(unopened) => Ok(Some(unopened.fault)),
     }

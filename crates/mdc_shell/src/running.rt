@@ -9,7 +9,7 @@ ghost use Rattle.file_session.specs.Leaving.{AreFormed};
 ghost use Rattle.file_session.specs.Well.{AreWell, IsWell};
 ghost use Rattle.mdc_shell.specs.Create.{MayAttach};
 ghost use Rattle.mdc_shell.specs.Check.{StaysUnserved};
-ghost use Rattle.mdc_shell.specs.Run.{RefusesFile, RefusesScratch, ReopensFile, RunsPath, RunsScratch, ServesPath, TakesByStatus};
+ghost use Rattle.mdc_shell.specs.Run.{RefusesFile, RefusesScratch, ReopensFile, RunsAnyPath, RunsPath, RunsScratch, ServesPath, TakesByStatus};
 ghost use Rattle.mdc_shell.specs.Status.{IsScriptStatus};
 ghost use Rattle.mdc_shell.specs.Untouched.{IsUntouched};
 
@@ -34,14 +34,16 @@ const SCRATCH_PAGES: u32 = 4;
 
 /// Runs the script of the input on the database in the file at the path. A file that isn't served is named by a line.
 pub fn run_path<I: Source, H: Host>(alloc: Global, path: &str, input: &mut I, host: H) -> Ended<H>
-    ensures served { ServesPath (H.file host) (H.file result.host) (I.left input.old) (I.left input.new) (H.tape host) (H.tape result.host) result.status.0 }
+    ensures served { ServesPath (H.file host) (I.left input.old) (I.left input.new) (H.tape host) (H.tape result.host) result.status.0 }
+    ensures runs_any { (before : File) (said : List ℕ) → H.file host ≡ Some before → H.tape host ≡ Some said → IsServed before.bytes
+        → RunsAnyPath H.Disk before said (I.left input.old) (I.left input.new) (H.tape result.host) host result.host result.status.0 }
     ensures statuses { IsScriptStatus result.status.0 }
     ensures runs { (before : File) (said : List ℕ) → H.file host ≡ Some before → H.tape host ≡ Some said → IsWell before.bytes
         → RunsPath H.Disk before said (I.left input.old) (I.left input.new) host result.host result.status.0 }
     ensures stays_well { (before : File) (said : List ℕ) → H.file host ≡ Some before → H.tape host ≡ Some said → AreWell before
         → (after : File) × (H.file result.host ≡ Some after) × AreWell after }
     ensures reopens { (before : File) (said : List ℕ) → H.file host ≡ Some before → H.tape host ≡ Some said → IsFormed before.bytes
-        → ReopensFile H.Disk before said (H.tape result.host) host result.host result.status.0 }
+        → ReopensFile H.Disk before said (I.left input.old) (I.left input.new) (H.tape result.host) host result.host result.status.0 }
     ensures stays_formed { (before : File) (said : List ℕ) → H.file host ≡ Some before → H.tape host ≡ Some said → AreFormed before
         → (after : File) × (H.file result.host ≡ Some after) × AreFormed after }
     ensures refuses { (before : File) (said : List ℕ) → H.file host ≡ Some before → H.tape host ≡ Some said → (IsServed before.bytes → ⊥)
@@ -117,14 +119,16 @@ fn refuse_scratch<H: Host>(host: H) -> Ended<H>
 // Runs the script of the input on the database in the attached file.
 fn run_attached<I: Source, H: Host>(alloc: Global, input: &mut I, host: H) -> Ended<H>
     requires attached { IsTrue (H.is_attached host) }
-    ensures served { ServesPath (H.file host) (H.file result.host) (I.left input.old) (I.left input.new) (H.tape host) (H.tape result.host) result.status.0 }
+    ensures served { ServesPath (H.file host) (I.left input.old) (I.left input.new) (H.tape host) (H.tape result.host) result.status.0 }
+    ensures runs_any { (before : File) (said : List ℕ) → H.file host ≡ Some before → H.tape host ≡ Some said → IsServed before.bytes
+        → RunsAnyPath H.Disk before said (I.left input.old) (I.left input.new) (H.tape result.host) host result.host result.status.0 }
     ensures statuses { IsScriptStatus result.status.0 }
     ensures runs { (before : File) (said : List ℕ) → H.file host ≡ Some before → H.tape host ≡ Some said → IsWell before.bytes
         → RunsPath H.Disk before said (I.left input.old) (I.left input.new) host result.host result.status.0 }
     ensures stays_well { (before : File) (said : List ℕ) → H.file host ≡ Some before → H.tape host ≡ Some said → AreWell before
         → (after : File) × (H.file result.host ≡ Some after) × AreWell after }
     ensures reopens { (before : File) (said : List ℕ) → H.file host ≡ Some before → H.tape host ≡ Some said → IsFormed before.bytes
-        → ReopensFile H.Disk before said (H.tape result.host) host result.host result.status.0 }
+        → ReopensFile H.Disk before said (I.left input.old) (I.left input.new) (H.tape result.host) host result.host result.status.0 }
     ensures stays_formed { (before : File) (said : List ℕ) → H.file host ≡ Some before → H.tape host ≡ Some said → AreFormed before
         → (after : File) × (H.file result.host ≡ Some after) × AreFormed after }
     ensures refuses { (before : File) (said : List ℕ) → H.file host ≡ Some before → H.tape host ≡ Some said → (IsServed before.bytes → ⊥)

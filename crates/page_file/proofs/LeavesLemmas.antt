@@ -1,5 +1,6 @@
 -- Runs of calls by the kind of image that a crash within them leaves.
-use Rattle.std.proofs.Common.{◌≡◌, ℕ, Bool, List, [], ◌∷◌, ◌++◌, Option, Some, None, IfSome, subst, arith, refl, sym, ap, ◌∙◌, append-nil}
+use Rattle.std.proofs.Common.{◌≡◌, ℕ, Bool, List, [], ◌∷◌, ◌++◌, Option, Some, None, IfSome, inl, inr, subst, arith, refl, sym, ap, ◌∙◌, append-nil}
+use Rattle.mdc_words.specs.Time.{OverTime}
 use Rattle.mdc_words.proofs.TimeLemmas.{over_time_none, over_time_then, over_time_wider}
 use Rattle.mdc_outside.specs.Disk.{File, Since, IsImage, IsSound}
 use Rattle.mdc_outside.specs.Moments.{Beside}
@@ -19,6 +20,22 @@ one_file {told} {first} {second} a b = let both : Some first ≡ Some second = s
 pub sound_image : (told : Option File) (file : File) → IfSome told IsSound → told ≡ Some file → IsImage file.since file.bytes
 sound_image None file sound is = absurd (cc)
 sound_image (Some told) file sound is = let same : told ≡ file = cc in subst (λ (f : File). IsImage f.since f.bytes) same sound.image
+
+-- what a run leaves by two clauses on time, each of which says what image it is
+over_time_both : {S A B : Type 0} {clock : S → ℕ} {left : S → ℕ → A → B → Type 0} {One Other : A → Type 0} {Said : B → Type 0} {old new : S}
+    → OverTime clock left (λ image heard. One image × Said heard) old new → OverTime clock left (λ image heard. Other image × Said heard) old new
+    → OverTime clock left (λ image heard. (One image × Other image) × Said heard) old new
+over_time_both one other = record {
+  later = one.later;
+  keeps = one.keeps;
+  only = λ t image heard early now. elim (one.only t image heard early now) [
+    | inl past ↦ inl past
+    | inr first ↦ elim (other.only t image heard early now) [
+      | inl past ↦ inl past
+      | inr second ↦ inr ((first.0, second.0), first.1)
+    ]
+  ];
+}
 
 module _ {D : Type 0} {file : D → Option File} {aside : D → Beside} {attaches : D → Option (List (List ℕ × Bool))} {is_attached : D → Bool} {clock : D → ℕ} {moment : D → ℕ → List ℕ → List ℕ → Type 0} where
   -- a run whose images are all of a kind
@@ -76,6 +93,29 @@ module _ {D : Type 0} {file : D → Option File} {aside : D → Beside} {attache
     attached = leaves.attached;
     listed = leaves.listed;
     beside = leaves.beside;
+  }
+
+  -- two kinds of one run
+  pub leaves_both : {One Other : File → List ℕ → Type 0} {old new : D}
+      → Leaves file aside attaches is_attached clock moment One old new
+      → Leaves file aside attaches is_attached clock moment Other old new
+      → Leaves file aside attaches is_attached clock moment (λ before image. One before image × Other before image) old new
+  leaves_both {One} {Other} {old} {new} one other = record {
+    untold = one.untold;
+    told = λ before is.
+        let after = one.told before is in
+        let again = other.told before is in
+        let same : again.0 ≡ after.0 = one_file again.1 after.1 in (
+          after.0,
+          after.1,
+          (after.2, subst (λ (f : File). Other before f.bytes) same again.2),
+          λ image left. (after.3 image left, again.3 image (subst (λ (f : File). IsImage f.since image) (sym same) left)),
+        );
+    crash = λ before said is tape. over_time_both (one.crash before said is tape) (other.crash before said is tape);
+    later = one.later;
+    attached = one.attached;
+    listed = one.listed;
+    beside = one.beside;
   }
 
   -- Where nothing is called, a crash leaves an image of the file.

@@ -1,4 +1,5 @@
 pub mod Bound
+pub mod Growing
 pub mod Layout
 pub mod Leaving
 pub mod Runs

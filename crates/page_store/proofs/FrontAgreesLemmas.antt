@@ -1,11 +1,12 @@
 -- What two files have in common before their first home page.
-use Rattle.std.proofs.Common.{◌≡◌, ℕ, Bool, List, Option, Some, None, arith, refl, sym, subst, ◌∙◌}
+use Rattle.std.proofs.Common.{◌≡◌, ℕ, Bool, List, Option, Some, None, ap, arith, refl, sym, subst, ◌∙◌}
 use Rattle.mdc_outside.specs.Disk.{File, IsImage}
 use Rattle.mdc_outside.specs.Moments.{Beside}
 use Rattle.page_file.specs.Layout.{FrontStays}
 use Rattle.page_file.specs.Leaving.{Leaves}
 use Rattle.page_file.proofs.LeavesLemmas.{one_file, told_before}
 use Rattle.store_api.specs.declared.shape.Shape.{Shape}
+use Rattle.page_store.specs.Opened.{file_bytes}
 use Rattle.page_store.specs.Standing.{IsFormed, IsFormedAs, FrontAgrees, IsStoreImage, Reopens}
 
 -- each agrees with itself
@@ -42,6 +43,13 @@ pub agrees_same : {told new : Option File} → new ≡ told → (before after : 
 agrees_same {told} {new} same before after is now =
     let one : before ≡ after = one_file is (sym same ∙ now) in
     subst (λ (f : File). FrontAgrees before.bytes f.bytes) one (front_agrees_itself before.bytes)
+
+-- the same bytes
+pub agrees_bytes : {told new : Option File} → file_bytes new ≡ file_bytes told → (before after : File) → told ≡ Some before → new ≡ Some after → FrontAgrees before.bytes after.bytes
+agrees_bytes {told} {new} same before after is now =
+    let shown : Some after.bytes ≡ Some before.bytes = sym (ap file_bytes now) ∙ (same ∙ ap file_bytes is) in
+    let bytes : before.bytes ≡ after.bytes = cc in
+    subst (λ (xs : List ℕ). FrontAgrees before.bytes xs) bytes (front_agrees_itself before.bytes)
 
 module _ {D : Type 0} {file : D → Option File} {aside : D → Beside} {attaches : D → Option (List (List ℕ × Bool))} {is_attached : D → Bool} {clock : D → ℕ} {moment : D → ℕ → List ℕ → List ℕ → Type 0} where
   -- a file after a run, by what the run leaves

@@ -10,6 +10,7 @@ pub mod DeskCommits
 pub mod Desks
 pub mod FreshBytes
 pub mod FrontAgreesLemmas
+pub mod Grown
 pub mod FreshDatabase
 pub mod Journals
 pub mod Judged

@@ -8,14 +8,14 @@ use Rattle.page_file.specs.Layout.{file_page}
 use Rattle.page_file.specs.Runs.{Runs, IsCovered}
 use Rattle.page_file.proofs.RunsLemmas.{runs_within}
 use Rattle.page_file.specs.Leaving.{Leaves}
-use Rattle.page_store.specs.Commit.{IsClosed, StandsStill}
+use Rattle.page_store.specs.Commit.{IsClosed, NoLonger, StandsStill}
 use Rattle.page_store.specs.Opening.{IsAtRest, StandsAs}
 use Rattle.page_store.specs.Shape.{extents_in, extent_pages_in}
 use Rattle.page_file.proofs.FrontLemmas.{front_stays_itself, front_stays_then}
 use Rattle.page_store.specs.Standing.{count_of, page_of, pages_in}
 use Rattle.page_file.proofs.LeavesLemmas.{one_file}
 use Rattle.page_store.proofs.Crashes.{only_itself}
-use Rattle.page_file.proofs.LeavesLemmas.{runs_leave, leaves_then, leaves_as}
+use Rattle.page_file.proofs.LeavesLemmas.{runs_leave, leaves_then, leaves_as, leaves_both}
 
 -- what is all on the disk may be left as it is
 left_whole : (bytes : List ℕ) → IsImage (all_synced bytes) bytes
@@ -30,7 +30,7 @@ pub itself_stands : (file : File) (image : List ℕ) → file.since ≡ all_sync
 itself_stands file image synced left =
     let same : image ≡ file.bytes = only_itself file.bytes image (subst (λ (s : Since). IsImage s image) synced left) in
     subst (λ (i : List ℕ). StandsAs file.bytes i) (sym same)
-    (front_stays_itself file.bytes, λ formed. record { formed = formed; pages = refl; birth = refl; front = front_stays_itself file.bytes })
+    (front_stays_itself file.bytes, λ formed. record { formed = formed; pages = refl; birth = refl; front = front_stays_itself file.bytes }, omega arith)
 
 -- a file whose gate was closed, and which stands still, rests with what it stated
 pub rests_still : (before after : File) → IsClosed after → StandsStill before after.bytes
@@ -66,12 +66,13 @@ module _ {D : Type 0} {file : D → Option File} {aside : D → Beside} {attache
             let one = kept_first.1 formed in
             let two = kept_second.1 one.formed in
             record { formed = two.formed; pages = two.pages ∙ one.pages; birth = two.birth ∙ one.birth; front = front },
+        omega (arith, kept_first.2, kept_second.2),
       ))
 
   -- a journal that is brought home keeps what the file stands for
-  pub home_keeps : {old new : D} → Leaves file aside attaches is_attached clock moment StandsStill old new
+  pub home_keeps : {old new : D} → Leaves file aside attaches is_attached clock moment StandsStill old new → Leaves file aside attaches is_attached clock moment NoLonger old new
       → Leaves file aside attaches is_attached clock moment (λ before image. StandsAs before.bytes image) old new
-  home_keeps leaves = leaves_as leaves (λ before image is still. (still.front, λ formed. still))
+  home_keeps leaves reach = leaves_as (leaves_both leaves reach) (λ before image is still. (still.0.front, λ formed. still.0, still.1))
 
   -- then it rests
   pub home_rests : {old new : D} → Leaves file aside attaches is_attached clock moment StandsStill old new → ForSome (file new) IsClosed

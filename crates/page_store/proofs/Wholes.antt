@@ -7,7 +7,8 @@ use Rattle.mdc_outside.specs.Disk.{File}
 use Rattle.page_store.specs.declared.desk.Desk.{Desk}
 use Rattle.page_store.specs.Changes.{Overlay}
 use Rattle.page_store.specs.Desk.{IsKept, work_of, base_of, base_in}
-use Rattle.page_store.specs.FileStore.{HeldStore, FitsFile}
+use Rattle.page_store.specs.declared.write_through.Halt.{Halt}
+use Rattle.page_store.specs.FileStore.{HeldStore, FitsFile, HasGrown}
 use Rattle.page_store.specs.Standing.{IsFormed, pages_in}
 use Rattle.page_store.proofs.Commits.{pages_at_rest}
 use Rattle.page_store.proofs.Desks.{length-base_in}
@@ -37,9 +38,19 @@ pub held_pages : {H : Type 0} (file : H → Option File) (host : H) (desk : Desk
     → length (work_of (file held.host) held.desk held.desk.changes.now) ≡ length desk.changes.now
 held_pages file host desk held is = length-work_of (file held.host) held.desk held.desk.changes.now ∙ sym (ap (λ h. length h.desk.changes.now) is)
 
--- the store is whole again
-pub whole_again : (is_attached : Bool) (told : Option File) (desk : Desk) → IsTrue is_attached → IsKept desk told → FitsFile is_attached told desk
-whole_again is_attached told desk attached kept = record { attached = attached; kept = λ going. kept }
+-- the same file has grown so far still
+pub still_grown : (first : Option (List ℕ)) (told : Option File) (old new : Option Halt) → old ≡ None → HasGrown first told old → HasGrown first told new
+still_grown None told old new going grew = grew
+still_grown (Some bytes) told old new going grew = λ file is. let so = grew file is in (so.0, so.1, λ still. so.2 going, so.3)
+
+-- the store is whole again, where its file is as it was
+pub whole_again : (first : Option (List ℕ)) (is_attached : Bool) (before told : Option File) (desk new : Desk) → IsTrue is_attached → IsKept new told → told ≡ before → desk.halt ≡ None → HasGrown first before desk.halt
+    → FitsFile first is_attached told new
+whole_again first is_attached before told desk new attached kept same going grew = record {
+  attached = attached;
+  kept = λ still. kept;
+  grew = still_grown first told desk.halt new.halt going (subst (λ (t : Option File). HasGrown first t desk.halt) (sym same) grew);
+}
 
 -- where pages are told, page 0 states how many there are
 pub counted_there : {H : Type 0} (file : H → Option File) (host : H) (desk : Desk) (held : HeldStore H) → record { host = host; desk = desk } ≡ held

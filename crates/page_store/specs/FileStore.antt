@@ -1,22 +1,37 @@
 -- What a store in a file is seen as.
-use Rattle.std.specs.Prelude.{◌≡◌, ◌⊎◌, ◌≤◌, ℕ, Bool, IsTrue, List, Option, Some, None}
+use Rattle.std.specs.Prelude.{◌≡◌, ◌⊎◌, ◌≤◌, ℕ, Bool, IsTrue, IfSome, List, Option, Some, None}
+use Rattle.std.specs.Option.{ForSome}
 use Rattle.store_api.specs.Moments.{Outcomes}
 use Rattle.store_api.specs.StoreState.{Beside}
 use Rattle.store_api.specs.declared.shape.Shape.{Shape}
 use Rattle.mdc_outside.specs.Disk.{File}
+use Rattle.page_file.specs.Growing.{GrewFrom}
 use Rattle.page_store.specs.declared.desk.Desk.{Desk}
-use Rattle.page_store.specs.Standing.{Reopens, IsStoreImage, pages_in}
+use Rattle.page_store.specs.declared.write_through.Halt.{Halt}
+use Rattle.page_store.specs.Standing.{Reopens, IsStoreImage, count_of, pages_in}
 use Rattle.page_store.specs.Desk.{IsKept}
+use Rattle.store_api.specs.declared.pages.TheConstants.{MAX_PAGES}
 
 -- a host, and what the store has in memory beside it
 pub record HeldStore (H : Type 0) : Type 0 where
   pub host : H
   pub desk : Desk
 
--- the store has a file attached and, while no commit has failed, what it has in memory fits the file
-pub record FitsFile (is_attached : Bool) (told : Option File) (desk : Desk) : Type 0 where
+-- What a file became that had these bytes first, by commits of at most so many pages; where no commit has failed, of as many
+-- as it has.
+abbrev pub GrewWhere : Type 0 → List ℕ → List ℕ → Type 0
+GrewWhere Going first file = (count : ℕ) × (count ≤ MAX_PAGES) × (Going → count ≡ count_of file) × GrewFrom first count file
+
+-- the same of a file that is told, where it is known what it was first
+abbrev pub HasGrown : Option (List ℕ) → Option File → Option Halt → Type 0
+HasGrown first told halt = IfSome first (λ bytes. ForSome told (λ file. GrewWhere (halt ≡ None) bytes file.bytes))
+
+-- The store has a file attached and, while no commit has failed, what it has in memory fits the file. The file is what commits
+-- made of it since it was opened.
+pub record FitsFile (first : Option (List ℕ)) (is_attached : Bool) (told : Option File) (desk : Desk) : Type 0 where
   pub attached : IsTrue is_attached
   pub kept : desk.halt ≡ None → IsKept desk told
+  pub grew : HasGrown first told desk.halt
 
 -- what lies beside the pages of a store in a file: the shape that its file states, and the attaches of its host
 abbrev pub beside_of : Shape → Option (List (List ℕ × Bool)) → Beside

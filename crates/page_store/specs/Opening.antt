@@ -61,10 +61,10 @@ IsOfVersion version file =
 abbrev pub IsServed : List ℕ → Type 0
 IsServed file = IsMade file × IsBirth (file_page file 1) × IsRead file × IsWhole file × (version_of file ≡ first_format.version)
 
--- An image that has all that isn't the store's as it is in that file. Where the file is formed, the image is too, stands
--- for the same pages and has the file's birth page.
+-- An image that has all that isn't the store's as it is in that file, and is no longer. Where the file is formed, the image is
+-- too, stands for the same pages and has the file's birth page.
 abbrev pub StandsAs : List ℕ → List ℕ → Type 0
-StandsAs file image = FrontStays file image × (IsFormed file → Stands file (pages_in file) image)
+StandsAs file image = FrontStays file image × (IsFormed file → Stands file (pages_in file) image) × (length image ≤ length file)
 
 -- All is on the disk, the gate is closed, and the file is formed and has so many pages, of a database of this size.
 pub record IsAtRest (extents extent_pages pages : ℕ) (file : File) : Type 0 where

@@ -301,6 +301,7 @@ impl Desk {
         ensures shape { self.new.shape ≡ self.old.shape }
         ensures going_on { OnOk result (self.new.halt ≡ None) }
         ensures halted { OnErr result (IsSome self.new.halt) }
+        ensures base { OnOk result (self.new.base ≡ length self.old.changes.now) }
         ensures still_kept { OnOk result (IsKept self.new (D.file disk.new)) }
         ensures written { OnOk result (written_in self.new ≡ 0) }
         ensures quiet { written_in self.old ≡ 0 → IsOk result × (disk.new ≡ disk.old) }

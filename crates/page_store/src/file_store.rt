@@ -6,8 +6,9 @@ ghost use Rattle.mdc_outside.specs.Moments.{IsWithinCall};
 ghost use Rattle.mdc_outside.specs.Outside.{Takes, TakesPart};
 
 use crate::desk::Desk;
+use crate::origin::Origin;
 use mdc_outside::Host;
-use std::marker::Model;
+use std::marker::{Brand, Model, PhantomData};
 use store_api::{DeviceFault, Mute, Page, PageFault, Pages, Store};
 
 /// A store whose base is what the file of its host stands for. It owns the host, and tells bytes through it. Where the
@@ -16,23 +17,27 @@ use store_api::{DeviceFault, Mute, Page, PageFault, Pages, Store};
 ///
 /// Beside its pages it tells the shape of its file and the host's attaches, so that whoever gets a store back from code over
 /// any store knows them.
+///
+/// Where `O` says what the file was as it was opened, the store knows what its commits have made of it: its front is as it
+/// was, and it is no longer than it was, or than its pages and one journal.
 #[derive(Drop)]
-pub struct FileStore<H: Host> {
+pub struct FileStore<H: Host, O: Origin = Brand> {
     pub(crate) host: H,
     pub(crate) desk: Desk,
+    pub(crate) origin: PhantomData<O>,
 }
 
-impl<H: Host> Model for FileStore<H> {
+impl<H: Host, O: Origin> Model for FileStore<H, O> {
     ghost use Rattle.page_store.specs.FileStore.{HeldStore, FitsFile};
 
     ghost Value = { HeldStore H };
 
     ghost view = { λ s. record { host = s.host; desk = s.desk } };
 
-    ghost invariant = { λ s. FitsFile (H.is_attached s.host) (H.file s.host) s.desk };
+    ghost invariant = { λ s. FitsFile O.first (H.is_attached s.host) (H.file s.host) s.desk };
 }
 
-impl<H: Host> Pages for FileStore<H> {
+impl<H: Host, O: Origin> Pages for FileStore<H, O> {
     ghost use Rattle.page_store.specs.Desk.{state_of, written_in};
     ghost use Rattle.page_store.specs.FileStore.{beside_of, left_of, left_of-earlier};
 
@@ -92,7 +97,7 @@ impl<H: Host> Pages for FileStore<H> {
     }
 }
 
-impl<H: Host> Store for FileStore<H> {
+impl<H: Host, O: Origin> Store for FileStore<H, O> {
     fn written(&self) -> u32 {
         self.desk.written()
     }

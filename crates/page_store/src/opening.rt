@@ -1,5 +1,5 @@
 // How a store opens the database in a file, and gives its host back.
-ghost use Rattle.std.specs.Prelude.{◌≡◌, ◌≢◌, ◌⊎◌, ◌≤◌, length, ℕ, List, Some, [], IsTrue, false, IfOk, IfErr, OnOk, IsErrOf, is_some};
+ghost use Rattle.std.specs.Prelude.{◌≡◌, ◌≢◌, ◌⊎◌, ◌≤◌, length, ℕ, List, Some, [], IsTrue, false, IfOk, IfErr, IfSome, OnOk, IsErrOf, is_some};
 ghost use Rattle.std.specs.Option.{ForSome, option_map};
 ghost use Rattle.mdc_words.specs.Faults.{CountsFault};
 ghost use Rattle.mdc_outside.specs.Disk.{File};
@@ -10,7 +10,7 @@ ghost use Rattle.page_file.specs.Bound.{LeavesOf};
 ghost use Rattle.page_store.specs.Bound.{OpensOf};
 ghost use Rattle.page_store.specs.Desk.{IsKept, base_of};
 ghost use Rattle.page_store.specs.Faults.{MayComeFirst};
-ghost use Rattle.page_store.specs.FileStore.{IsLeft, beside_of};
+ghost use Rattle.page_store.specs.FileStore.{GrewWhere, IsLeft, beside_of};
 ghost use Rattle.page_store.specs.Opened.{CouldBeLeft, LeavesBaseSince, IsEmptyDesk, IsJustOpened, file_bytes, opened_bytes};
 ghost use Rattle.page_store.specs.Opening.{IsAtRest, IsServed, Refuses};
 ghost use Rattle.store_api.specs.Extents.{is_shape};
@@ -19,6 +19,7 @@ ghost use Rattle.page_store.specs.Standing.{IsFormed, pages_in};
 ghost use Rattle.store_api.specs.declared.pages.TheConstants.{MAX_PAGES};
 
 use crate::desk::Desk;
+use crate::origin::Origin;
 use crate::page_cache::PageCache;
 use crate::recovery::{Opened, recover};
 use crate::{FileStore, OpenFault};
@@ -26,6 +27,7 @@ use dirty_pages::Changes;
 use mdc_outside::{Disk, Host};
 use page_file::settle;
 use std::alloc::Global;
+use std::marker::PhantomData;
 use store_api::Pages;
 
 /// A file that wasn't opened: why, and the host.
@@ -35,7 +37,7 @@ pub struct Unopened<H> {
     pub host: H,
 }
 
-impl<H: Host> FileStore<H> {
+impl<H: Host, O: Origin> FileStore<H, O> {
     /// Opens the database in the attached file, after a crash too. The base of the store is then what the file stands
     /// for. `cache` is how many clean pages it may keep in memory.
     ///
@@ -46,20 +48,21 @@ impl<H: Host> FileStore<H> {
     /// `Memory` where memory ran out. The bytes of the file are then as they were. It answers `Device` where the disk
     /// failed. The file then stands for what it stood for, unless the first sync failed: then it may be what a crash could
     /// leave. Nothing is written to a file that can't be served, whatever failed: it is at most what a crash could leave.
-    pub fn open(alloc: Global, mut host: H, cache: usize) -> Result<FileStore<H>, Unopened<H>>
+    pub fn open(alloc: Global, mut host: H, cache: usize) -> Result<FileStore<H, O>, Unopened<H>>
         requires attached { IsTrue (H.is_attached host) }
         requires cache { 8 ≤ cache }
+        requires origin { IfSome O.first (λ first. ForSome (H.file host) (λ file. file.bytes ≡ first)) }
         ensures served { IfOk result (λ store. ForSome (H.file host) (λ file. IsServed file.bytes
-            × ((⟦<FileStore<H> as Pages>⟧.state store).base ≡ pages_in file.bytes))) }
+            × ((⟦<FileStore<H, O> as Pages>⟧.state store).base ≡ pages_in file.bytes))) }
         // It tells the shape of its file, and the attaches that the host told.
         ensures just_opened { IfOk result (λ store. IsJustOpened (is_some (H.file host)) (H.tape host) store.desk.shape (H.attaches host)
-            (⟦<FileStore<H> as Pages>⟧.state store)) }
-        ensures unwritten { IfOk result (λ store. ⟦<FileStore<H> as Pages>⟧.written store ≡ 0) }
+            (⟦<FileStore<H, O> as Pages>⟧.state store)) }
+        ensures unwritten { IfOk result (λ store. ⟦<FileStore<H, O> as Pages>⟧.written store ≡ 0) }
         ensures refused { IfErr result (λ unopened. ForSome (H.file host) (λ file. Refuses unopened.fault file.bytes)) }
-        ensures limits { IfOk result (λ store. (18 ≤ length (⟦<FileStore<H> as Pages>⟧.state store).base) × (length (⟦<FileStore<H> as Pages>⟧.state store).base ≤ MAX_PAGES)) }
+        ensures limits { IfOk result (λ store. (18 ≤ length (⟦<FileStore<H, O> as Pages>⟧.state store).base) × (length (⟦<FileStore<H, O> as Pages>⟧.state store).base ≤ MAX_PAGES)) }
         ensures never { IfErr result (λ unopened. unopened.fault ≢ OpenFault.Exists) }
         // What is written is a journal that counts, which is brought home, and nothing else.
-        ensures writes { IfOk result (λ store. (⟦<FileStore<H> as Pages>⟧.state store).file ≡ option_map opened_bytes (file_bytes (H.file host))) }
+        ensures writes { IfOk result (λ store. (⟦<FileStore<H, O> as Pages>⟧.state store).file ≡ option_map opened_bytes (file_bytes (H.file host))) }
         // Nothing is written to a file that is refused: at each moment a crash leaves what it could leave before.
         ensures left_alone { IfErr result (λ unopened. unopened.fault ≢ OpenFault.Device → LeavesOf H.Disk CouldBeLeft host unopened.host) }
         // The same of a file that can't be served, also where the disk failed.
@@ -70,8 +73,8 @@ impl<H: Host> FileStore<H> {
         ensures opens { IfOk result (λ store. OpensOf H.Disk host store.host) }
         // Since the origin of the opening, and so now, the store leaves its base alone.
         ensures base_since { IfOk result (λ store. ForSome (H.file host) (λ file. (said : List ℕ)
-            → LeavesBaseSince (H.moment store.host) (⟦<FileStore<H> as Pages>⟧.left store) file.bytes said)) }
-        ensures rests { IfOk result (λ store. RestsAt ⟦<FileStore<H> as Pages>⟧.clock ⟦<FileStore<H> as Pages>⟧.left (AtRest (⟦<FileStore<H> as Pages>⟧.state store)) store) }
+            → LeavesBaseSince (H.moment store.host) (⟦<FileStore<H, O> as Pages>⟧.left store) file.bytes said)) }
+        ensures rests { IfOk result (λ store. RestsAt ⟦<FileStore<H, O> as Pages>⟧.clock ⟦<FileStore<H, O> as Pages>⟧.left (AtRest (⟦<FileStore<H, O> as Pages>⟧.state store)) store) }
         // Where there is no moment at which all was on the disk, a crash leaves what it could leave before. That is so
         // only where the disk failed or memory ran out: no file is judged before it is on the disk.
         ensures opens_or_leaves { IfErr result (λ unopened.
@@ -79,7 +82,11 @@ impl<H: Host> FileStore<H> {
             ⊎ (MayComeFirst unopened.fault × LeavesOf H.Disk CouldBeLeft host unopened.host)) }
     {
         match lay_out(alloc, &mut host, cache) {
-            Ok(desk) => Ok(FileStore { host, desk }),
+            Ok(desk) => Ok(FileStore {
+                host,
+                desk,
+                origin: PhantomData,
+            }),
             Err(fault) => Err(Unopened { fault, host }),
         }
     }
@@ -88,7 +95,7 @@ impl<H: Host> FileStore<H> {
     pub fn shape(&self) -> (u32, u32)
         ensures parts { result ≡ (self.now.desk.shape.extents, self.now.desk.shape.extent_pages) }
         ensures limits { IsTrue (is_shape result.0 result.1) }
-        ensures stated { (⟦<FileStore<H> as Pages>⟧.state self.now).ended ≡ false → ForSome (H.file self.now.host) (λ file.
+        ensures stated { (⟦<FileStore<H, O> as Pages>⟧.state self.now).ended ≡ false → ForSome (H.file self.now.host) (λ file.
             (extents_in (file_page file.bytes 1) ≡ result.0) × (extent_pages_in (file_page file.bytes 1) ≡ result.1)) }
     {
         (self.desk.shape.extents, self.desk.shape.extent_pages)
@@ -103,15 +110,17 @@ impl<H: Host> FileStore<H> {
     /// reopen, each image of the host is a database of this shape, with pages that the store leaves.
     pub fn close(self) -> H
         ensures same { result ≡ self.host }
-        ensures base { (⟦<FileStore<H> as Pages>⟧.state self).ended ≡ false → ForSome (H.file result) (λ file. IsFormed file.bytes
-            × (pages_in file.bytes ≡ (⟦<FileStore<H> as Pages>⟧.state self).base)) }
-        ensures disk_count { H.disk_faults result ≡ ⟦<FileStore<H> as Pages>⟧.disk_faults self }
-        ensures say_count { H.say_faults result ≡ ⟦<FileStore<H> as Pages>⟧.say_faults self }
-        ensures told { H.tape result ≡ (⟦<FileStore<H> as Pages>⟧.state self).told }
-        ensures beside { beside_of self.desk.shape (H.attaches result) ≡ (⟦<FileStore<H> as Pages>⟧.state self).beside }
+        ensures base { (⟦<FileStore<H, O> as Pages>⟧.state self).ended ≡ false → ForSome (H.file result) (λ file. IsFormed file.bytes
+            × (pages_in file.bytes ≡ (⟦<FileStore<H, O> as Pages>⟧.state self).base)) }
+        // What has become of the file since it was opened. No commit but one that failed asked for more pages than it has.
+        ensures grew { IfSome O.first (λ first. ForSome (H.file result) (λ file. GrewWhere ((⟦<FileStore<H, O> as Pages>⟧.state self).ended ≡ false) first file.bytes)) }
+        ensures disk_count { H.disk_faults result ≡ ⟦<FileStore<H, O> as Pages>⟧.disk_faults self }
+        ensures say_count { H.say_faults result ≡ ⟦<FileStore<H, O> as Pages>⟧.say_faults self }
+        ensures told { H.tape result ≡ (⟦<FileStore<H, O> as Pages>⟧.state self).told }
+        ensures beside { beside_of self.desk.shape (H.attaches result) ≡ (⟦<FileStore<H, O> as Pages>⟧.state self).beside }
         ensures left { (file : File) (said : List ℕ) → H.file self.host ≡ Some file → (H.beside self.host).tape ≡ Some said
             → (t : ℕ) (image heard : List ℕ) → H.moment result t image heard
-            → IsLeft self.desk.shape file.bytes (⟦<FileStore<H> as Pages>⟧.left self t) image heard }
+            → IsLeft self.desk.shape file.bytes (⟦<FileStore<H, O> as Pages>⟧.left self t) image heard }
     {
         self.host
     }

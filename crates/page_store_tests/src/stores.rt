@@ -7,6 +7,7 @@ use crate::work::{
 use mdc_outside::Host;
 use page_store::{FileStore, OpenFault};
 use std::alloc::Global;
+use std::marker::Brand;
 use std::test::Fail;
 use store_api::{Pages, Store};
 
@@ -17,7 +18,7 @@ fn opened<H: Host + Drop>(alloc: Global, mut host: H) -> Result<FileStore<H>, Op
     ensures unchanged { IfOk result (λ store. (⟦<FileStore<H> as Pages>⟧.state store).work ≡ (⟦<FileStore<H> as Pages>⟧.state store).base) }
 {
     host.attach("table", false)?;
-    match FileStore::open(alloc, host, 8) {
+    match FileStore::<H, Brand>::open(alloc, host, 8) {
         Ok(store) => Ok(store),
         Err(unopened) => Err(unopened.fault),
     }
@@ -29,7 +30,7 @@ pub fn sizes_of<H: Host>(alloc: Global, mut host: H) -> (Result<(u32, u32, u32),
     if host.attach("table", false).is_err() {
         return (Err(OpenFault::Device), host);
     }
-    match FileStore::open(alloc, host, 8) {
+    match FileStore::<H, Brand>::open(alloc, host, 8) {
         Ok(store) => {
             let (extents, extent_pages) = store.shape();
             let count = store.count();

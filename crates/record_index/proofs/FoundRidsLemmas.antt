@@ -14,11 +14,11 @@ use Rattle.key_codec.proofs.KeyLemmas.{first_there, width_of_parts-cons}
 use Rattle.table_trees.specs.TableTrees.{AreIndexParts}
 use Rattle.entry_tree.specs.Entries.{AreOfWidth}
 use Rattle.entry_tree.specs.EntryBounds.{IsEntryOf, Rises}
+use Rattle.block_index.specs.PartRanges.{walked}
+use Rattle.block_index.specs.declared.part_range.PartRange.{PartRange}
 use Rattle.block_index.proofs.PartRangesLemmas.{length-filter_count}
 use Rattle.record_index.specs.FoundRids.{AreRidsOf, FindsRids, IsRid, rid_in_entry}
-use Rattle.record_index.specs.Ranges.{walked_in}
 use Rattle.record_index.specs.RecordIndexes.{HaveKeysIn}
-use Rattle.record_index.specs.declared.in_span.Range.{Range}
 use Rattle.record_index.proofs.RangesLemmas.{walked_are}
 use Rattle.record_index.proofs.RisingRidsLemmas.{from_map, in_map}
 
@@ -56,18 +56,18 @@ rids_of_entries entries named rids are same places = record {
   places = places;
 }
 
-pub finds_rids : (columns : List ColumnDef) (parts : List KeyPart) (span : Span) (range : Range) (width : ℕ) (all : List Entry) (named rids : List Rid) (old new : ℕ)
-    → IsRangeOf (type_of_column columns (first_column parts)) (is_first_descending parts) span range.low range.high → length range.low ≤ width → AreOfWidth width all → Rises None None all
-    → named ≡ map rid_in_entry (walked_in width range all) → new ≡ old + length (walked_in width range all) → ((rid : Rid) → Contains rids rid ↔ Contains named rid) → ((rid : Rid) → Contains rids rid → IsRid rid) → FindsRids columns parts span all rids old new
-finds_rids columns parts span range width all named rids old new is within wide rises named_are count same places =
+pub finds_rids : (columns : List ColumnDef) (parts : List KeyPart) (span : Span) (range : PartRange) (width : ℕ) (all : List Entry) (named rids : List Rid) (old new : ℕ)
+    → IsRangeOf (type_of_column columns (first_column parts)) (is_first_descending parts) span range.low range.high → range.at ≡ 0 → length range.low ≤ width → AreOfWidth width all → Rises None None all
+    → named ≡ map rid_in_entry (walked width range all) → new ≡ old + length (walked width range all) → ((rid : Rid) → Contains rids rid ↔ Contains named rid) → ((rid : Rid) → Contains rids rid → IsRid rid) → FindsRids columns parts span all rids old new
+finds_rids columns parts span range width all named rids old new is first within wide rises named_are count same places =
     let lies = is_in_range range.low range.high in
-    let walked = walked_are width range all within wide rises in
+    let over = walked_are width range all first within wide rises in
     record {
       low = range.low;
       high = range.high;
       range = is;
-      places = rids_of_entries (filter lies all) named rids (named_are ∙ ap (map rid_in_entry) walked) same places;
-      counted = omega (arith, count, ap length walked, length-filter_count lies all);
+      places = rids_of_entries (filter lies all) named rids (named_are ∙ ap (map rid_in_entry) over) same places;
+      counted = omega (arith, count, ap length over, length-filter_count lies all);
     }
 
 -- two facts on what a call answers are one

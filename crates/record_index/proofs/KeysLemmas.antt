@@ -1,11 +1,8 @@
 -- The key of a row in an index, and its entry.
-use Rattle.std.proofs.Common.{◌≡◌, ℕ, suc, ◌+◌, ◌<◌, ◌≤◌, List, [], ◌∷◌, ◌++◌, length, refl, sym, ap, subst, ◌∙◌, arith, add-one, append-nil, append_assoc, take, drop, drop-cons, length-append}
+use Rattle.std.proofs.Common.{◌≡◌, ℕ, suc, ◌+◌, ◌<◌, ◌≤◌, List, [], ◌∷◌, ◌++◌, length, refl, sym, ap, subst, ◌∙◌, arith, add-one, append-nil, append_assoc, drop, drop-cons, length-append}
 use Rattle.std.specs.Prelude.{IsTrue, Some, nat_lt, slice_get, slice_index_or as get_or, unwrap_or}
-use Rattle.std.proofs.Math.Seq.{take-append_seam}
 use Rattle.std.proofs.lemmas.Bool.Decides.{nat_tests}
 use Rattle.std.proofs.lemmas.List.{drop_all}
-use Rattle.byteorder.specs.Endian.{big_bytes}
-use Rattle.mdc_values.specs.declared.rid.Rid.{Rid}
 use Rattle.mdc_values.specs.declared.value.Value.{Value}
 use Rattle.mdc_values.specs.declared.value.Value.TheVariants.{Null}
 use Rattle.mdc_ast.specs.Database.{fits_all}
@@ -17,7 +14,6 @@ use Rattle.mdc_ast.proofs.FitsLemmas.{length-fits_all}
 use Rattle.key_codec.specs.Keys.{ArePartsOf, bytes_at_part, has_key, key_bytes, part_bytes, part_width, type_of_column, type_or_none, width_of_parts}
 use Rattle.key_codec.proofs.KeyLemmas.{first_there, type_at_part, width_of_parts-cons}
 use Rattle.key_codec.proofs.PartLemmas.{has_key-is_of_type, length-part_bytes}
-use Rattle.table_trees.specs.TableTrees.{record_entry}
 use Rattle.table_trees.proofs.TableTreesLemmas.{narrow_enough}
 use Rattle.record_index.specs.RecordIndexes.{HaveKeysIn}
 
@@ -37,11 +33,6 @@ length-row_key columns (part ∷ parts) values there keys =
 
 pub row_key_short : (columns : List ColumnDef) (parts : List KeyPart) (values : List Value) → ArePartsOf columns parts → HaveKeysIn columns parts values → length (key_bytes columns parts values) ≤ 128
 row_key_short columns parts values are keys = omega (arith, length-row_key columns parts values are.there keys, narrow_enough columns parts are)
-
-pub length-record_entry : (columns : List ColumnDef) (parts : List KeyPart) (values : List Value) (rid : Rid) → ArePartsOf columns parts → HaveKeysIn columns parts values → length (record_entry columns parts values rid) ≡ width_of_parts columns parts + 6
-length-record_entry columns parts values rid are keys =
-    let key = key_bytes columns parts values in
-    omega (arith, length-row_key columns parts values are.there keys, length-append (key ++ big_bytes 4 rid.block) (big_bytes 2 rid.slot), length-append key (big_bytes 4 rid.block))
 
 -- a row that fits its columns has keys in them
 pub keys_of_fitting : (columns : List ColumnDef) (parts : List KeyPart) (values : List Value) → IsTrue (are_there columns (places_of parts)) → IsTrue (fits_all columns values) → HaveKeysIn columns parts values
@@ -116,19 +107,3 @@ module _ (columns : List ColumnDef) (values : List Value) (whole : List ℕ) (it
 -- with no part left the key is whole
 pub key_whole : (columns : List ColumnDef) (values : List Value) (whole : List ℕ) (items : List KeyPart) (i : ℕ) (key : List ℕ) → IsKeyedTo columns values whole (drop i items) key → length items ≤ i → key ≡ whole
 key_whole columns values whole items i key is past = sym (append-nil key) ∙ ap (λ parts. key ++ key_bytes columns parts values) (sym (drop_all i items past)) ∙ is.bytes
-
--- ---- entries
-
--- a key and six bytes
-pub length-under : (key : List ℕ) (n : ℕ) → length (key ++ big_bytes 6 n) ≡ length key + 6
-length-under key n = length-append key (big_bytes 6 n)
-
--- a key and a number that are written in front of other bytes
-pub entry_in_front : (key front buf more post : List ℕ) (n : ℕ) → front ≡ key → buf ≡ big_bytes 6 n ++ more → take (length key + 6) (front ++ (buf ++ post)) ≡ key ++ big_bytes 6 n
-entry_in_front key front buf more post n front_is buf_is =
-    let k = length key + 6 in
-    let entry = key ++ big_bytes 6 n in
-    let whole : key ++ ((big_bytes 6 n ++ more) ++ post) ≡ entry ++ (more ++ post) = simp append_assoc in
-    ap (λ f. take k (f ++ (buf ++ post))) front_is
-    ∙ (ap (λ b. take k (key ++ (b ++ post))) buf_is
-    ∙ (ap (take k) whole ∙ (ap (λ m. take m (entry ++ (more ++ post))) (sym (length-under key n)) ∙ take-append_seam entry (more ++ post))))

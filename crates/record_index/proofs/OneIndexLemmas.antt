@@ -33,7 +33,8 @@ use Rattle.table_trees.proofs.SpaceStepsLemmas.{addition_asks, addition_makes, r
 use Rattle.table_trees.proofs.ToldPagesLemmas.{map_of_told}
 use Rattle.table_trees.proofs.TreeListsLemmas.{times-one}
 use Rattle.table_trees.proofs.TreesBesideLemmas.{adds_beside, one_stands, removes_beside, space_of_removal, space_of_tree, trees_or_map_of_removal}
-use Rattle.record_index.specs.OneIndex.{AmongTrees, BreaksAddingRow, BreaksDroppingRow, BreaksGaining, BreaksLosing, BreaksSweepingIndex, ChangesOneTree, GainsOneEntry, LosesOneEntry}
+use Rattle.block_index.specs.IndexDamage.{BreaksEntering, BreaksLeaving}
+use Rattle.record_index.specs.OneIndex.{AmongTrees, BreaksAddingRow, BreaksDroppingRow, BreaksSweepingIndex, ChangesOneTree, GainsOneEntry, LosesOneEntry}
 use Rattle.record_index.specs.SweptLeaf.{SweepsOneLeaf, TakesNoSpace}
 
 -- what follows where a call succeeds
@@ -100,12 +101,12 @@ module _ {S : Type 0} {g : Ghosts S} (shape : Shape) (before noted : SpaceNotes)
       (subst (λ e. AsksTooMuch shape (g.state old).work (AddEntry (place_of_tree tree) e)) same
       (addition_asks shape before noted old new tree x owners one.0 one.2 told notes (full owners one.0 one.2)))
 
-  pub adding_runs : (fault : Option StoreFault) → RunsOverPages g (IsTreeSpace g shape old tree) (IsTreeSpace g shape old tree) (BreaksGaining g shape old tree x) old new fault
+  pub adding_runs : (fault : Option StoreFault) → RunsOverPages g (IsTreeSpace g shape old tree) (IsTreeSpace g shape old tree) (BreaksEntering g 11 shape old tree x) old new fault
       → RunsOverPages g (IsSpaceOfTrees g shape old (place ∷ [])) (IsSpaceOfTrees g shape old (place ∷ [])) (BreaksAddingRow g shape old place y) old new fault
   adding_runs fault run =
       subst (λ q. RunsOverPages g (IsSpaceOfTrees g shape old (q ∷ [])) (IsSpaceOfTrees g shape old (q ∷ [])) (BreaksAddingRow g shape old place y) old new fault) at
       (runs_wider run (λ p there mine. space_of_tree shape old tree p mine) (λ p mine. space_of_tree shape old tree p mine)
-      (λ damage b. record { tree = tree; at = at; is = subst (λ e. BreaksGaining g shape old tree e damage) same b }))
+      (λ damage b. record { tree = tree; at = at; is = subst (λ e. BreaksEntering g 11 shape old tree e damage) same b }))
 
   -- ---- an entry less
 
@@ -132,12 +133,12 @@ module _ {S : Type 0} {g : Ghosts S} (shape : Shape) (before noted : SpaceNotes)
       (subst (λ e. MakesChange shape (g.state old).work (RemoveEntry (place_of_tree tree) e) (g.state new).work) same
       (removal_makes shape before noted old new tree x owners one.0 one.2 told still count touched (removes owners one.0 one.2)))
 
-  pub dropping_runs : (fault : Option StoreFault) → RunsOverPages g (IsTreeOrMapPage g shape old tree) (IsTreeOrMapPage g shape old tree) (BreaksLosing g shape old tree x) old new fault
+  pub dropping_runs : (fault : Option StoreFault) → RunsOverPages g (IsTreeOrMapPage g shape old tree) (IsTreeOrMapPage g shape old tree) (BreaksLeaving g 11 shape old tree x) old new fault
       → RunsOverPages g (IsTreesOrMapPage g shape old (place ∷ [])) (IsTreesOrMapPage g shape old (place ∷ [])) (BreaksDroppingRow g shape old place y) old new fault
   dropping_runs fault run =
       subst (λ q. RunsOverPages g (IsTreesOrMapPage g shape old (q ∷ [])) (IsTreesOrMapPage g shape old (q ∷ [])) (BreaksDroppingRow g shape old place y) old new fault) at
       (runs_wider run (λ p there mine. trees_or_map_of_removal shape old tree p mine) (λ p mine. trees_or_map_of_removal shape old tree p mine)
-      (λ damage b. record { tree = tree; at = at; is = subst (λ e. BreaksLosing g shape old tree e damage) same b }))
+      (λ damage b. record { tree = tree; at = at; is = subst (λ e. BreaksLeaving g 11 shape old tree e damage) same b }))
 
 -- ---- entries swept
 

@@ -46,35 +46,6 @@ place_bytes rid low =
     let f : byte_at 0 rid.slot ≡ byte_at 0 n = omega (arith, low) in
     rw (a, b, c, d, e, f) refl
 
--- six bytes are those of their number
-pub printed_again : (xs : List ℕ) → AreBytes xs → length xs ≡ 6 → big_bytes 6 (big_number 6 xs) ≡ xs
-printed_again [] are long = absurd (omega (arith, long))
-printed_again (a ∷ []) are long = absurd (omega (arith, long))
-printed_again (a ∷ b ∷ []) are long = absurd (omega (arith, long))
-printed_again (a ∷ b ∷ c ∷ []) are long = absurd (omega (arith, long))
-printed_again (a ∷ b ∷ c ∷ d ∷ []) are long = absurd (omega (arith, long))
-printed_again (a ∷ b ∷ c ∷ d ∷ e ∷ []) are long = absurd (omega (arith, long))
-printed_again (a ∷ b ∷ c ∷ d ∷ e ∷ f ∷ g ∷ xs) are long = absurd (omega (arith, long))
-printed_again (a ∷ b ∷ c ∷ d ∷ e ∷ f ∷ []) are long =
-    let p : a < 256 = are 0 in
-    let q : b < 256 = are 1 in
-    let r : c < 256 = are 2 in
-    let s : d < 256 = are 3 in
-    let t : e < 256 = are 4 in
-    let u : f < 256 = are 5 in
-    let n = a * 1099511627776 + (b * 4294967296 + (c * 16777216 + (d * 65536 + (e * 256 + (f * 1 + 0))))) in
-    let first : n / 1099511627776 % 256 ≡ a = omega arith in
-    let second : n / 4294967296 % 256 ≡ b = omega arith in
-    let third : n / 16777216 % 256 ≡ c = omega arith in
-    let fourth : n / 65536 % 256 ≡ d = omega arith in
-    let fifth : n / 256 % 256 ≡ e = omega arith in
-    let sixth : n % 256 ≡ f = omega arith in
-    ap (λ x. x ∷ n / 4294967296 % 256 ∷ n / 16777216 % 256 ∷ n / 65536 % 256 ∷ n / 256 % 256 ∷ n % 256 ∷ []) first
-    ∙ ap (λ x. a ∷ x ∷ n / 16777216 % 256 ∷ n / 65536 % 256 ∷ n / 256 % 256 ∷ n % 256 ∷ []) second
-    ∙ ap (λ x. a ∷ b ∷ x ∷ n / 65536 % 256 ∷ n / 256 % 256 ∷ n % 256 ∷ []) third
-    ∙ ap (λ x. a ∷ b ∷ c ∷ x ∷ n / 256 % 256 ∷ n % 256 ∷ []) fourth
-    ∙ ap (λ x. a ∷ b ∷ c ∷ d ∷ x ∷ n % 256 ∷ []) fifth ∙ ap (λ x. a ∷ b ∷ c ∷ d ∷ e ∷ x ∷ []) sixth
-
 -- six bytes as a number are four of a block and two of a slot
 number_parts : (xs : List ℕ) → AreBytes xs → length xs ≡ 6 → rid_of_number (big_number 6 xs) ≡ record { block = big_number 4 xs; slot = big_number 2 (drop 4 xs) }
 number_parts [] are long = absurd (omega (arith, long))

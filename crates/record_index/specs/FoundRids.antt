@@ -74,14 +74,3 @@ pub record FindsRids (columns : List ColumnDef) (parts : List KeyPart) (span : S
 -- the place of a number
 abbrev pub rid_of_number : ℕ → Rid
 rid_of_number n = record { block = n / 65536; slot = n % 65536 }
-
--- the lowest number of a place, from a number on, that an index has under a key
-pub record IsLowestRidNumber (key : List ℕ) (entries : List Entry) (from rid_number : ℕ) : Type 0 where
-  pub there : IsEntryOf (key ++ big_bytes 6 rid_number) entries
-  pub reached : from ≤ rid_number
-  pub lowest : (other : ℕ) → other < 2 ^ 48 → IsEntryOf (key ++ big_bytes 6 other) entries → from ≤ other → rid_number ≤ other
-
--- the same, or that there is none
-abbrev pub FindsRidNumber : List ℕ → List Entry → ℕ → Option ℕ → Type 0
-FindsRidNumber key entries from None = (other : ℕ) → other < 2 ^ 48 → IsEntryOf (key ++ big_bytes 6 other) entries → from ≤ other → ⊥
-FindsRidNumber key entries from (Some rid_number) = IsLowestRidNumber key entries from rid_number

@@ -1,5 +1,5 @@
 -- What a call on one record index does to it, and what it leaves of all trees beside it.
-use Rattle.std.specs.Prelude.{◌≡◌, ◌⊎◌, ◌≤◌, ℕ, List, set, Some, slice_get}
+use Rattle.std.specs.Prelude.{◌≡◌, ◌≤◌, ℕ, List, set, Some, slice_get}
 use Rattle.mdc_words.specs.ByteOrder.{Entry}
 use Rattle.store_api.specs.Frame.{NoPage}
 use Rattle.store_api.specs.declared.fault.Damage.{Damage}
@@ -13,10 +13,11 @@ use Rattle.entry_tree.specs.EntryBounds.{IsEntryOf}
 use Rattle.entry_tree.specs.Forest.{Forest, leaf_entries, times}
 use Rattle.entry_tree.specs.Pruning.{BreaksTreeOrReturn}
 use Rattle.entry_tree.specs.HeldTrees.{nodes_in}
-use Rattle.entry_tree.specs.Standing.{AsksPages, BreaksTreeOrMap, MeetsFull, StandsTree, with_pages}
+use Rattle.entry_tree.specs.Standing.{AsksPages, MeetsFull, with_pages}
 use Rattle.entry_tree.specs.declared.tree.Tree.{Tree}
 use Rattle.table_trees.specs.TableTrees.{TreePlace, place_of_tree}
 use Rattle.table_trees.specs.TreesBeside.{ChangesTrees, StandTrees, table_of_block}
+use Rattle.block_index.specs.IndexDamage.{BreaksEntering, BreaksLeaving}
 use Rattle.block_index.specs.Listing.{GainsEntry, LosesEntry}
 
 -- ---- one tree among others
@@ -64,21 +65,6 @@ pub record FillsExtents {S : Type 0} (g : Ghosts S) (shape : Shape) (before note
 
 -- ---- damage
 
--- The damage of a record index names its root and rule 11: where map and tree stand, it has an entry that it shouldn't have, or
--- hasn't one that it should.
-pub record BreaksRecordIndex {S : Type 0} (g : Ghosts S) (shape : Shape) (s : S) (tree : Tree) (Wrong : List Entry → Type 0) (damage : Damage) : Type 0 where
-  pub page : damage.page ≡ tree.root
-  pub rule : damage.rule ≡ 11
-  pub wrong : (owners : List Kind) (t : Forest) → StandsTree g shape s tree owners t → Wrong (leaf_entries t)
-
--- what entering an entry in an index may name: what an addition may, or that the entry is there already
-abbrev pub BreaksGaining : {S : Type 0} → Ghosts S → Shape → S → Tree → Entry → Damage → Type 0
-BreaksGaining g shape s tree x damage = BreaksTreeOrMap g shape s tree damage ⊎ BreaksRecordIndex g shape s tree (IsEntryOf x) damage
-
--- what taking an entry out of one may name: what a removal may, or that the entry isn't there
-abbrev pub BreaksLosing : {S : Type 0} → Ghosts S → Shape → S → Tree → Entry → Damage → Type 0
-BreaksLosing g shape s tree x damage = BreaksTreeOrReturn g shape s tree damage ⊎ BreaksRecordIndex g shape s tree (λ entries. IsEntryOf x entries → ⊥) damage
-
 -- P holds of a handle of the tree in a place
 pub record OfTreeAt (place : TreePlace) (P : Tree → Type 0) : Type 0 where
   pub tree : Tree
@@ -87,11 +73,11 @@ pub record OfTreeAt (place : TreePlace) (P : Tree → Type 0) : Type 0 where
 
 -- what entering an entry in the index at a place may name
 abbrev pub BreaksAddingRow : {S : Type 0} → Ghosts S → Shape → S → TreePlace → Entry → Damage → Type 0
-BreaksAddingRow g shape s place x damage = OfTreeAt place (λ tree. BreaksGaining g shape s tree x damage)
+BreaksAddingRow g shape s place x damage = OfTreeAt place (λ tree. BreaksEntering g 11 shape s tree x damage)
 
 -- what taking an entry out of it may name
 abbrev pub BreaksDroppingRow : {S : Type 0} → Ghosts S → Shape → S → TreePlace → Entry → Damage → Type 0
-BreaksDroppingRow g shape s place x damage = OfTreeAt place (λ tree. BreaksLosing g shape s tree x damage)
+BreaksDroppingRow g shape s place x damage = OfTreeAt place (λ tree. BreaksLeaving g 11 shape s tree x damage)
 
 -- what a step of a sweep of it may name: what a removal may
 abbrev pub BreaksSweepingIndex : {S : Type 0} → Ghosts S → Shape → S → TreePlace → Damage → Type 0

@@ -1,28 +1,24 @@
 // A row comes into a record index.
-ghost use Rattle.std.specs.Prelude.{◌≡◌, ◌<◌, [], ◌∷◌, List, false, length, IfErr, IsTrue, OnOk};
+ghost use Rattle.std.specs.Prelude.{◌≡◌, ◌<◌, [], ◌∷◌, false, length, IfErr, IsTrue, OnOk};
 ghost use Rattle.store_api.specs.Causes.{store_fault_in};
 ghost use Rattle.store_api.specs.RunsOverPages.{RunsOverPages};
 ghost use Rattle.extent_map.specs.Damages.{IfFull, store_part_of};
 ghost use Rattle.extent_map.specs.Map.{KeepsRoot};
 ghost use Rattle.extent_map.specs.Owners.{AreRightNotes};
-ghost use Rattle.extent_map.specs.declared.kind.Kind.{Kind};
-ghost use Rattle.entry_tree.specs.Forest.{Forest};
-ghost use Rattle.entry_tree.specs.Standing.{AddsEntry, FindsFull, IsTreeSpace, StandsTree};
 ghost use Rattle.table_trees.specs.SpaceChanges.{AsksTooMuch, MakesChange};
 ghost use Rattle.table_trees.specs.SpaceChanges.SpaceChange.{AddEntry};
 ghost use Rattle.table_trees.specs.TreesBeside.{GrowsPages, IsSpaceOfTrees};
-ghost use Rattle.record_index.specs.OneIndex.{AmongTrees, BreaksAddingRow, BreaksGaining, ChangesOneTree, FillsExtents, GainsOneEntry};
+ghost use Rattle.record_index.specs.OneIndex.{AmongTrees, BreaksAddingRow, ChangesOneTree, FillsExtents, GainsOneEntry};
 ghost use Rattle.record_index.specs.RecordIndexes.{HasRecordIndexes, HaveKeysIn, entry_in_record_index, parts_of_record_index, place_of_record_index};
 
-use crate::entries::record_entry;
-use entry_tree::Tree;
+use crate::entries::tree_and_entry;
+use block_index::enter;
 use extent_map::{SpaceFault, SpaceNotes};
 use mdc_ast::{Row, TableDef};
 use mdc_values::Rid;
 use std::alloc::Global;
 use store_api::rules::RECORD_INDEXES_RULE;
-use store_api::{Damage, Pages, Shape, StoreFault};
-use table_trees::record_tree;
+use store_api::{Pages, Shape};
 
 /// Enters a row in a record index, by its key and its place. With right notes it claims no more pages than the entry asks for, and
 /// `Full` says that it asks for more than there are. All other trees stay, at `Full` that of the index too, and of page 0 only the
@@ -55,43 +51,13 @@ pub fn add_row<P: Pages>(
     ensures runs { RunsOverPages P.Pages (IsSpaceOfTrees P.Pages shape pages.old (place_of_record_index def.now index ∷ [])) (IsSpaceOfTrees P.Pages shape pages.old (place_of_record_index def.now index ∷ []))
         (BreaksAddingRow P.Pages shape pages.old (place_of_record_index def.now index) (entry_in_record_index def.now index row.now.values rid)) pages.old pages.new (store_fault_in store_part_of result) }
 {
-    let index = usize::from(index);
-    let tree = record_tree(alloc, def, index);
-    let parts = &def.indexes.at(index).parts;
-    let entry = record_entry(&def.columns, parts, &row.values, rid);
-    enter(&tree, shape, notes, pages, entry.bytes())
-}
-
-/// Enters an entry in an index.
-fn enter<P: Pages>(
-    tree: &Tree,
-    shape: Shape,
-    notes: &mut SpaceNotes,
-    pages: &mut P,
-    entry: &[u8],
-) -> Result<(), SpaceFault>
-    requires width { length entry.now ≡ tree.now.width }
-    requires going { (P.state pages.old).ended ≡ false }
-    ensures adds { OnOk result ((owners : List Kind) (t : Forest) → StandsTree P.Pages shape pages.old tree.now owners t → AddsEntry P.Pages shape notes.old notes.new pages.old pages.new tree.now entry.now owners t) }
-    ensures full { IfErr result (λ fault. IfFull fault (λ cap. (cap ≡ shape.extents)
-        × ((owners : List Kind) (t : Forest) → StandsTree P.Pages shape pages.old tree.now owners t → FindsFull P.Pages shape notes.old notes.new pages.old pages.new tree.now entry.now owners t))) }
-    ensures root { (owners : List Kind) (t : Forest) → StandsTree P.Pages shape pages.old tree.now owners t → KeepsRoot P.Pages pages.old pages.new }
-    ensures runs { RunsOverPages P.Pages (IsTreeSpace P.Pages shape pages.old tree.now) (IsTreeSpace P.Pages shape pages.old tree.now)
-        (BreaksGaining P.Pages shape pages.old tree.now entry.now) pages.old pages.new (store_fault_in store_part_of result) }
-{
-    let added = tree.add(shape, notes, pages, entry)?;
-    if !added {
-        return Err(SpaceFault::Store(misplaced(tree)));
-    }
-    Ok(())
-}
-
-/// The fault of a record index that has an entry which it shouldn't have, or hasn't one which it should: rule 11 at its root.
-pub(crate) fn misplaced(tree: &Tree) -> StoreFault
-    ensures { result ≡ StoreFault.Damaged (record { page = tree.now.root; rule = 11 }) }
-{
-    StoreFault::Damaged(Damage {
-        page: tree.root,
-        rule: RECORD_INDEXES_RULE,
-    })
+    let (tree, entry) = tree_and_entry(alloc, def, index, &row.values, rid);
+    enter(
+        &tree,
+        RECORD_INDEXES_RULE,
+        shape,
+        notes,
+        pages,
+        entry.bytes(),
+    )
 }

@@ -1,50 +1,52 @@
-// The entries of rows in an index.
-ghost use Rattle.std.specs.Prelude.{◌≡◌, ◌≤◌, ◌<◌, ◌+◌, ◌^◌, ◌++◌, length, take};
-ghost use Rattle.byteorder.specs.Endian.{big_bytes};
-ghost use Rattle.key_codec.specs.Keys.{ArePartsOf};
-ghost use Rattle.table_trees.specs.TableTrees.{record_entry};
-ghost use Rattle.record_index.specs.RecordIndexes.{HaveKeysIn};
+// A record index, and the key or the entry of a row in it.
+ghost use Rattle.std.specs.Prelude.{◌≡◌, ◌<◌, ◌+◌, length};
+ghost use Rattle.table_trees.specs.TableTrees.{place_of_tree};
+ghost use Rattle.record_index.specs.RecordIndexes.{HasRecordIndexes, HaveKeysIn, entry_in_record_index, key_in_record_index, parts_of_record_index, place_of_record_index};
 
 use crate::keys::row_key;
-use crate::places::rid_number;
-use byteorder::{BigEndian, ByteOrder};
-use entry_tree::{Entry, MAX_WIDTH};
-use mdc_ast::{ColumnDef, KeyPart};
+use crate::places::{RID_BYTES, rid_number};
+use block_index::numbered;
+use entry_tree::{Entry, Tree};
+use mdc_ast::TableDef;
 use mdc_values::{List, Rid, Value};
+use std::alloc::Global;
+use table_trees::record_tree;
 
-/// The entry of a row of these values in an index of these parts. It takes no memory.
-pub(crate) fn record_entry(
-    columns: &List<ColumnDef>,
-    parts: &List<KeyPart>,
+/// The tree of a record index, and the key of these values in it. It takes no memory.
+pub(crate) fn tree_and_key(
+    alloc: Global,
+    def: &TableDef,
+    index: u8,
+    values: &List<Value>,
+) -> (Tree, Entry)
+    requires indexes { HasRecordIndexes def.now }
+    requires there { index < length def.now.indexes }
+    requires values { HaveKeysIn def.now.columns (parts_of_record_index def.now index) values.now }
+    ensures tree { place_of_tree result.0 ≡ place_of_record_index def.now index }
+    ensures key { result.1 ≡ key_in_record_index def.now index values.now }
+    ensures width { length result.1 + 6 ≡ result.0.width }
+{
+    let index = usize::from(index);
+    let key = row_key(&def.columns, &def.indexes.at(index).parts, values);
+    (record_tree(alloc, def, index), key)
+}
+
+/// The tree of a record index, and the entry in it of a row of these values in a place. It takes no memory.
+pub(crate) fn tree_and_entry(
+    alloc: Global,
+    def: &TableDef,
+    index: u8,
     values: &List<Value>,
     rid: Rid,
-) -> Entry
-    requires parts { ArePartsOf columns.now parts.now }
-    requires values { HaveKeysIn columns.now parts.now values.now }
-    ensures { result ≡ record_entry columns.now parts.now values.now rid }
+) -> (Tree, Entry)
+    requires indexes { HasRecordIndexes def.now }
+    requires there { index < length def.now.indexes }
+    requires values { HaveKeysIn def.now.columns (parts_of_record_index def.now index) values.now }
+    ensures tree { place_of_tree result.0 ≡ place_of_record_index def.now index }
+    ensures entry { result.1 ≡ entry_in_record_index def.now index values.now rid }
+    ensures width { length result.1 ≡ result.0.width }
 {
-    let key = row_key(columns, parts, values);
-    entry_of_number(key.bytes(), rid_number(rid))
-}
-
-/// A key, and the number of a place behind it.
-pub(crate) fn entry_of_number(key: &[u8], rid_number: u64) -> Entry
-    requires short { length key.now ≤ 128 }
-    requires fits { rid_number < 2 ^ 48 }
-    ensures { result ≡ key.now ++ big_bytes 6 rid_number }
-{
-    let mut bytes = [0; MAX_WIDTH];
-    put_entry(&mut bytes, key, rid_number);
-    Entry::of(&bytes[..key.len() + 6])
-}
-
-/// Writes a key and the number of a place behind it to the front of `out`.
-fn put_entry(out: &mut [u8], key: &[u8], rid_number: u64)
-    requires room { length key.now + 6 ≤ length out.old }
-    requires fits { rid_number < 2 ^ 48 }
-    ensures { take (length key.now + 6) out.new ≡ key.now ++ big_bytes 6 rid_number }
-{
-    let end = key.len();
-    out[..end].copy_from_slice(key);
-    BigEndian::write_u48(&mut out[end..], rid_number);
+    let (tree, key) = tree_and_key(alloc, def, index, values);
+    let entry = numbered(key.bytes(), RID_BYTES, rid_number(rid));
+    (tree, entry)
 }

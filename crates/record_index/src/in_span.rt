@@ -1,5 +1,5 @@
 // The rows of a span of values in the first part of a record index.
-ghost use Rattle.std.specs.Prelude.{◌≡◌, ◌+◌, ◌≤◌, ◌<◌, ◌↔◌, ◌^◌, ◌++◌, ℕ, List, false, true, length, map, take, Contains, IfErr, IfOk, IsTrue, OnOk};
+ghost use Rattle.std.specs.Prelude.{◌≡◌, ◌+◌, ◌≤◌, ◌<◌, ◌↔◌, ◌^◌, ◌++◌, List, false, true, length, map, Contains, IfErr, IfOk, IsTrue, OnOk};
 ghost use Rattle.std.specs.List.{AllByRecursion};
 ghost use Rattle.mdc_words.specs.ByteOrder.{Entry};
 ghost use Rattle.mdc_values.specs.declared.rid.Rid.{Rid};
@@ -7,20 +7,20 @@ ghost use Rattle.store_api.specs.Causes.{fault_of};
 ghost use Rattle.store_api.specs.Frame.{NoPage};
 ghost use Rattle.store_api.specs.RunsOverPages.{RunsOverPages};
 ghost use Rattle.key_codec.specs.Keys.{part_width, type_of_column};
-ghost use Rattle.key_codec.specs.Spans.{IsRangeOf, first_column, is_first_descending, reaches, span_has_kind_of};
+ghost use Rattle.key_codec.specs.Spans.{IsRangeOf, first_column, is_first_descending, span_has_kind_of};
 ghost use Rattle.entry_tree.specs.Forest.{Forest, leaf_entries};
 ghost use Rattle.entry_tree.specs.HeldTrees.{BreaksTree, HoldsTree, IsTreePage};
 ghost use Rattle.table_trees.specs.TableTrees.{AreIndexParts};
 ghost use Rattle.table_trees.specs.TreesBeside.{BreaksTreeAt, HoldsTreeAt, IsTreePageAt};
+ghost use Rattle.block_index.specs.PartRanges.{entries_until, walked};
 ghost use Rattle.record_index.specs.FoundRids.{FindsRids, IsRid, rid_in_entry, rid_of_number};
-ghost use Rattle.record_index.specs.Ranges.{before_end, low_bound, rids_before_end, walked_in};
 ghost use Rattle.record_index.specs.RecordIndexes.{HasRecordIndexes, parts_of_record_index, place_of_record_index};
 
 use crate::under_key::push_rid;
-use block_index::{is_below, read_leaf};
+use block_index::{PartRange, read_leaf};
 use byteorder::{BigEndian, ByteOrder};
-use entry_tree::{Entries, Entry, Leaf, MAX_WIDTH, Tree};
-use key_codec::{Key, key_range};
+use entry_tree::{Entries, Leaf, Tree};
+use key_codec::key_range;
 use mdc_ast::{ColumnDef, KeyPart, Span, TableDef};
 use mdc_values::{List, Rids};
 use mdc_words::Steps;
@@ -51,7 +51,7 @@ pub fn rids_in<P: Pages, E: Ledger>(
     ensures runs { RunsOverPages P.Pages NoPage (IsTreePageAt P.Pages pages.old (place_of_record_index def.now index)) (BreaksTreeAt P.Pages pages.old (place_of_record_index def.now index)) pages.old pages.new (fault_of result) }
 {
     let index = usize::from(index);
-    let range = Range::of(alloc, &def.columns, &def.indexes.at(index).parts, span)?;
+    let range = first_part_range(alloc, &def.columns, &def.indexes.at(index).parts, span)?;
     let tree = record_tree(alloc, def, index);
     let numbers = walk_range(alloc, &tree, pages, &range, entries)?;
     rising(alloc, numbers)
@@ -62,115 +62,76 @@ fn walk_range<P: Pages, E: Ledger>(
     alloc: Global,
     tree: &Tree,
     pages: &mut P,
-    range: &Range,
+    range: &PartRange,
     entries: &mut Steps<E>,
 ) -> Result<Vec<u64>, StoreFault>
     requires within { length range.now.low + 6 ≤ tree.now.width }
     requires going { (P.state pages.old).ended ≡ false }
-    ensures numbers { IfOk result (λ numbers. (t : Forest) → HoldsTree P.Pages pages.old tree.now t → map rid_of_number numbers.items ≡ map rid_in_entry (walked_in tree.now.width range.now (leaf_entries t))) }
+    ensures numbers { IfOk result (λ numbers. (t : Forest) → HoldsTree P.Pages pages.old tree.now t → map rid_of_number numbers.items ≡ map rid_in_entry (walked tree.now.width range.now (leaf_entries t))) }
     ensures small { IfOk result (λ numbers. AllByRecursion (λ rid_number. rid_number < 2 ^ 48) numbers.items) }
-    ensures counted { OnOk result ((t : Forest) → HoldsTree P.Pages pages.old tree.now t → entries.new ≡ entries.old + length (walked_in tree.now.width range.now (leaf_entries t))) }
+    ensures counted { OnOk result ((t : Forest) → HoldsTree P.Pages pages.old tree.now t → entries.new ≡ entries.old + length (walked tree.now.width range.now (leaf_entries t))) }
     ensures same { (P.state pages.new).work ≡ (P.state pages.old).work }
     ensures runs { RunsOverPages P.Pages NoPage (IsTreePage P.Pages pages.old tree.now) (BreaksTree P.Pages pages.old tree.now) pages.old pages.new (fault_of result) }
 {
     let mut numbers = Vec::new(alloc);
     let mut leaf = Leaf::new(alloc);
-    let mut bound = Some(range.first(tree.width));
+    let mut bound = Some(range.start(tree.width));
     'leaves: loop {
         let Some(low) = bound else {
             return Ok(numbers);
         };
         bound = read_leaf(tree, pages, low.bytes(), &mut leaf)?;
-        if range.take_rids(&leaf.entries, &mut numbers, entries)? {
+        if take_rids(range, &leaf.entries, &mut numbers, entries)? {
             return Ok(numbers);
         }
     }
 }
 
-/// Bounds between which entries lie: at or above the first, and below the second, if there is one.
-#[derive(Drop)]
-pub(crate) struct Range {
-    pub(crate) low: Key,
-    pub(crate) high: Option<Key>,
+/// The range of the entries with a value of a span in the first part.
+fn first_part_range(
+    alloc: Global,
+    columns: &List<ColumnDef>,
+    parts: &List<KeyPart>,
+    span: &Span,
+) -> Result<PartRange, StoreFault>
+    requires parts { AreIndexParts columns.now parts.now }
+    requires kind { IsTrue (span_has_kind_of (type_of_column columns.now (first_column parts.now)) span.now) }
+    ensures values { IfOk result (λ range. IsRangeOf (type_of_column columns.now (first_column parts.now)) (is_first_descending parts.now) span.now range.low range.high) }
+    ensures first { IfOk result (λ range. range.at ≡ 0) }
+    ensures short { IfOk result (λ range. length range.low ≤ part_width (type_of_column columns.now (first_column parts.now))) }
+    ensures memory { IfErr result (λ fault. fault ≡ StoreFault.Memory) }
+{
+    match key_range(alloc, columns, parts, span) {
+        Ok((low, high)) => Ok(PartRange { at: 0, low, high }),
+        Err(_) => Err(StoreFault::Memory),
+    }
 }
 
-impl Range {
-    /// The range of the entries with a value of a span in the first part.
-    fn of(
-        alloc: Global,
-        columns: &List<ColumnDef>,
-        parts: &List<KeyPart>,
-        span: &Span,
-    ) -> Result<Range, StoreFault>
-        requires parts { AreIndexParts columns.now parts.now }
-        requires kind { IsTrue (span_has_kind_of (type_of_column columns.now (first_column parts.now)) span.now) }
-        ensures values { IfOk result (λ range. IsRangeOf (type_of_column columns.now (first_column parts.now)) (is_first_descending parts.now) span.now range.low range.high) }
-        ensures short { IfOk result (λ range. length range.low ≤ part_width (type_of_column columns.now (first_column parts.now))) }
-        ensures memory { IfErr result (λ fault. fault ≡ StoreFault.Memory) }
-    {
-        match key_range(alloc, columns, parts, span) {
-            Ok((low, high)) => Ok(Range { low, high }),
-            Err(_) => Err(StoreFault::Memory),
+/// Takes the numbers of the places of the entries of a leaf, up to where the range ends. Says whether it ended.
+fn take_rids<L: Ledger>(
+    range: &PartRange,
+    leaf: &Entries,
+    numbers: &mut Vec<u64>,
+    entries: &mut Steps<L>,
+) -> Result<bool, StoreFault>
+    requires long { AllByRecursion (λ entry. 6 ≤ length entry) leaf.now }
+    requires small { AllByRecursion (λ rid_number. rid_number < 2 ^ 48) numbers.old.items }
+    ensures numbers { OnOk result (map rid_of_number numbers.new.items ≡ map rid_of_number numbers.old.items ++ map rid_in_entry (entries_until range.now leaf.now)) }
+    ensures small { OnOk result (AllByRecursion (λ rid_number. rid_number < 2 ^ 48) numbers.new.items) }
+    ensures counted { OnOk result (entries.new ≡ entries.old + length (entries_until range.now leaf.now)) }
+    ensures ended { IfOk result (λ ended. ended ≡ true → (rest : List Entry) → entries_until range.now (leaf.now ++ rest) ≡ entries_until range.now leaf.now) }
+    ensures goes_on { IfOk result (λ ended. ended ≡ false → (rest : List Entry) → entries_until range.now (leaf.now ++ rest) ≡ entries_until range.now leaf.now ++ entries_until range.now rest) }
+    ensures memory { IfErr result (λ fault. fault ≡ StoreFault.Memory) }
+{
+    for i in 0..leaf.len() {
+        let entry = leaf.at(i);
+        if range.ends_at(entry) {
+            return Ok(true);
         }
+        entries.tick();
+        numbers.push(rid_number_in(entry))?;
     }
-
-    /// Where a walk begins that is to meet each entry of the range.
-    fn first(&self, width: u16) -> Entry
-        requires narrow { width ≤ MAX_WIDTH }
-        requires within { length self.now.low ≤ width }
-        ensures { result ≡ low_bound width self.now }
-    {
-        let mut bytes = [0; MAX_WIDTH];
-        self.put_first(&mut bytes);
-        Entry::of(&bytes[..usize::from(width)])
-    }
-
-    /// Writes the low bound to the front of `out`, and zeros behind it.
-    fn put_first(&self, out: &mut [u8])
-        requires room { length self.now.low ≤ length out.old }
-        ensures { (width : ℕ) → length self.now.low ≤ width → width ≤ length out.old → take width out.new ≡ low_bound width self.now }
-    {
-        out.fill(0);
-        let low = self.low.bytes();
-        out[..low.len()].copy_from_slice(low);
-    }
-
-    /// Takes the numbers of the places of the entries of a leaf, up to where the range ends. Says whether it ended.
-    fn take_rids<L: Ledger>(
-        &self,
-        leaf: &Entries,
-        numbers: &mut Vec<u64>,
-        entries: &mut Steps<L>,
-    ) -> Result<bool, StoreFault>
-        requires long { AllByRecursion (λ entry. 6 ≤ length entry) leaf.now }
-        requires small { AllByRecursion (λ rid_number. rid_number < 2 ^ 48) numbers.old.items }
-        ensures numbers { OnOk result (map rid_of_number numbers.new.items ≡ map rid_of_number numbers.old.items ++ rids_before_end self.now leaf.now) }
-        ensures small { OnOk result (AllByRecursion (λ rid_number. rid_number < 2 ^ 48) numbers.new.items) }
-        ensures counted { OnOk result (entries.new ≡ entries.old + length (before_end self.now leaf.now)) }
-        ensures ended { IfOk result (λ ended. ended ≡ true → (rest : List Entry) → before_end self.now (leaf.now ++ rest) ≡ before_end self.now leaf.now) }
-        ensures goes_on { IfOk result (λ ended. ended ≡ false → (rest : List Entry) → before_end self.now (leaf.now ++ rest) ≡ before_end self.now leaf.now ++ before_end self.now rest) }
-        ensures memory { IfErr result (λ fault. fault ≡ StoreFault.Memory) }
-    {
-        for i in 0..leaf.len() {
-            let entry = leaf.at(i);
-            if self.ends_at(entry) {
-                return Ok(true);
-            }
-            entries.tick();
-            numbers.push(rid_number_in(entry))?;
-        }
-        Ok(false)
-    }
-
-    /// Whether the range ends at an entry.
-    fn ends_at(&self, entry: &[u8]) -> bool
-        ensures { result ≡ reaches self.now.high entry.now }
-    {
-        match &self.high {
-            Some(high) => !is_below(entry, high.bytes()),
-            None => false,
-        }
-    }
+    Ok(false)
 }
 
 /// The number of the place that an entry names: its last six bytes.

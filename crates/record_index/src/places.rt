@@ -4,6 +4,9 @@ ghost use Rattle.record_index.specs.FoundRids.{IsRid, rid_number, rid_of_number}
 
 use mdc_values::Rid;
 
+/// How many bytes the number of a place has.
+pub(crate) const RID_BYTES: usize = 6;
+
 /// How many slots two bytes can tell apart.
 const SLOT_NUMBERS: u64 = 65_536;
 

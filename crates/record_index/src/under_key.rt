@@ -1,28 +1,23 @@
 // The rows under one key of a record index.
-ghost use Rattle.std.specs.Prelude.{◌≡◌, ◌≢◌, ◌≤◌, ◌<◌, ◌+◌, ◌^◌, ◌++◌, ◌∷◌, [], false, length, take, IfErr, IfNone, IfOk, IfSome, OnOk};
-ghost use Rattle.byteorder.specs.Endian.{big_bytes};
+ghost use Rattle.std.specs.Prelude.{◌≡◌, ◌≤◌, ◌<◌, ◌+◌, ◌^◌, ◌++◌, ◌∷◌, [], false, length, IfErr, IfOk, IfSome, OnOk};
 ghost use Rattle.mdc_values.specs.Rising.{IsEarlier, LastIsBefore};
 ghost use Rattle.store_api.specs.Causes.{fault_of};
 ghost use Rattle.store_api.specs.Frame.{NoPage};
 ghost use Rattle.store_api.specs.RunsOverPages.{RunsOverPages};
 ghost use Rattle.entry_tree.specs.Forest.{Forest, leaf_entries};
 ghost use Rattle.entry_tree.specs.HeldTrees.{BreaksTree, HoldsTree, IsTreePage};
-ghost use Rattle.table_trees.specs.TableTrees.{place_of_tree};
 ghost use Rattle.table_trees.specs.TreesBeside.{BreaksTreeAt, HoldsTreeAt, IsTreePageAt};
-ghost use Rattle.record_index.specs.FoundRids.{AreRidsUnder, FindsRidNumber, FindsRidUnder, rid_number, rid_of_number};
+ghost use Rattle.record_index.specs.FoundRids.{AreRidsUnder, FindsRidUnder, rid_number, rid_of_number};
 ghost use Rattle.record_index.specs.RecordIndexes.{HasRecordIndexes, HaveKeysIn, key_in_record_index, parts_of_record_index, place_of_record_index};
 
-use crate::entries::entry_of_number;
-use crate::keys::row_key;
-use crate::places::{rid_number, rid_of_number};
-use block_index::out_of_order;
-use byteorder::{BigEndian, ByteOrder};
-use entry_tree::{Entry, Tree};
+use crate::entries::tree_and_key;
+use crate::places::{RID_BYTES, rid_number, rid_of_number};
+use block_index::next_number;
+use entry_tree::Tree;
 use mdc_ast::TableDef;
 use mdc_values::{List, Rid, Rids, Value};
 use std::alloc::Global;
 use store_api::{Pages, StoreFault};
-use table_trees::record_tree;
 
 /// The highest number of a place: six bytes.
 const LAST_RID_NUMBER: u64 = 281_474_976_710_655;
@@ -75,20 +70,6 @@ pub fn rid_under<P: Pages>(
     first_rid_under(&tree, pages, key.bytes(), from)
 }
 
-/// The tree of a record index, and the key of these values in it.
-fn tree_and_key(alloc: Global, def: &TableDef, index: u8, values: &List<Value>) -> (Tree, Entry)
-    requires indexes { HasRecordIndexes def.now }
-    requires there { index < length def.now.indexes }
-    requires values { HaveKeysIn def.now.columns (parts_of_record_index def.now index) values.now }
-    ensures tree { place_of_tree result.0 ≡ place_of_record_index def.now index }
-    ensures key { result.1 ≡ key_in_record_index def.now index values.now }
-    ensures width { length result.1 + 6 ≡ result.0.width }
-{
-    let index = usize::from(index);
-    let key = row_key(&def.columns, &def.indexes.at(index).parts, values);
-    (record_tree(alloc, def, index), key)
-}
-
 /// The first place from one on that an index has under a key.
 fn first_rid_under<P: Pages>(
     tree: &Tree,
@@ -103,7 +84,7 @@ fn first_rid_under<P: Pages>(
     ensures same { (P.state pages.new).work ≡ (P.state pages.old).work }
     ensures runs { RunsOverPages P.Pages NoPage (IsTreePage P.Pages pages.old tree.now) (BreaksTree P.Pages pages.old tree.now) pages.old pages.new (fault_of result) }
 {
-    match next_rid(tree, pages, key, rid_number(from))? {
+    match next_number(tree, pages, key, RID_BYTES, rid_number(from))? {
         Some(found) => Ok(Some(rid_of_number(found))),
         None => Ok(None),
     }
@@ -125,7 +106,7 @@ fn rids_under_key<P: Pages>(
     let mut rids = Rids::new(alloc);
     let mut from = 0;
     'finding: loop {
-        let Some(rid_number) = next_rid(tree, pages, key, from)? else {
+        let Some(rid_number) = next_number(tree, pages, key, RID_BYTES, from)? else {
             return Ok(rids);
         };
         push_rid(&mut rids, rid_number)?;
@@ -133,50 +114,6 @@ fn rids_under_key<P: Pages>(
             return Ok(rids);
         }
         from = rid_number + 1;
-    }
-}
-
-/// The lowest number of a place, from a number on, that an index has under a key.
-fn next_rid<P: Pages>(
-    tree: &Tree,
-    pages: &mut P,
-    key: &[u8],
-    from: u64,
-) -> Result<Option<u64>, StoreFault>
-    requires width { length key.now + 6 ≡ tree.now.width }
-    requires small { from < 2 ^ 48 }
-    requires going { (P.state pages.old).ended ≡ false }
-    ensures found { IfOk result (λ rid_number. (t : Forest) → HoldsTree P.Pages pages.old tree.now t → FindsRidNumber key.now (leaf_entries t) from rid_number) }
-    ensures reached { IfOk result (λ rid_number. IfSome rid_number (λ rid_number. from ≤ rid_number)) }
-    ensures small { IfOk result (λ rid_number. IfSome rid_number (λ rid_number. rid_number < 2 ^ 48)) }
-    ensures same { (P.state pages.new).work ≡ (P.state pages.old).work }
-    ensures runs { RunsOverPages P.Pages NoPage (IsTreePage P.Pages pages.old tree.now) (BreaksTree P.Pages pages.old tree.now) pages.old pages.new (fault_of result) }
-{
-    let bound = entry_of_number(key, from);
-    let Some(first) = tree.first_from(pages, bound.bytes())? else {
-        return Ok(None);
-    };
-    let Some(rid_number) = rid_number_under(key, first.bytes()) else {
-        return Ok(None);
-    };
-    if rid_number < from {
-        return Err(out_of_order(tree));
-    }
-    Ok(Some(rid_number))
-}
-
-/// The number of the place that an entry has under a key. None where the entry doesn't begin with the key.
-fn rid_number_under(key: &[u8], entry: &[u8]) -> Option<u64>
-    requires { length key.now + 6 ≡ length entry.now }
-    ensures some { IfSome result (λ rid_number. entry.now ≡ key.now ++ big_bytes 6 rid_number) }
-    ensures small { IfSome result (λ rid_number. rid_number < 2 ^ 48) }
-    ensures none { IfNone result (take (length key.now) entry.now ≢ key.now) }
-{
-    let (front, back) = entry.split_at(key.len());
-    if front == key {
-        Some(BigEndian::read_u48(back))
-    } else {
-        None
     }
 }
 

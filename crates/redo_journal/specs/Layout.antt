@@ -1,5 +1,6 @@
 -- The journal in a file: its gate, its header, its index and its images.
-use Rattle.std.specs.Prelude.{◌≡◌, ◌≤◌, ◌==◌, ℕ, zero, suc, ◌+◌, ◌/◌, Bool, IsFalse, IsTrue, Option, Some, None, List, [], ◌∷◌, length, take, drop, slice_index}
+pub use Rattle.page_file.specs.Growing.{index_pages}
+use Rattle.std.specs.Prelude.{◌≡◌, ◌≤◌, ◌==◌, ℕ, zero, suc, ◌+◌, Bool, IsFalse, IsTrue, Option, Some, None, List, [], ◌∷◌, length, take, drop, slice_index}
 use Rattle.std.specs.List.{All}
 use Rattle.page_file.specs.declared.layout.TheConstants.{FIRST_PAGE, GATE, HEADER, HEADER_BYTES, PAGE_BYTES}
 use Rattle.byteorder.specs.Endian.{big_number}
@@ -19,10 +20,6 @@ start_of image = big_number 4 (drop HEADER image)
 -- how many images the journal has
 abbrev pub number_of : List ℕ → ℕ
 number_of image = big_number 4 (drop (HEADER + 4) image)
-
--- how many file pages hold so many page numbers, 1,024 each
-abbrev pub index_pages : ℕ → ℕ
-index_pages n = (n + 1023) / 1024
 
 -- the first n images, whose numbers stand in the index and whose bytes stand in the pages
 abbrev pub entries : ℕ → List ℕ → List ℕ → Numbered

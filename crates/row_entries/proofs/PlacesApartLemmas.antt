@@ -17,7 +17,7 @@ use Rattle.mdc_sound.proofs.BlockRulesLemmas.{each_of}
 use Rattle.mdc_sound.proofs.ElementsLemmas.{each_in, flat_contains}
 use Rattle.mdc_sound.proofs.TableSpotsLemmas.{first_differs, rest_differs}
 use Rattle.record_index.specs.FoundRids.{IsRid, rid_number}
-use Rattle.row_entries.specs.SoundEntries.{LieApart}
+use Rattle.record_index.specs.SoundRows.{LieApart}
 
 -- ---- pairs
 

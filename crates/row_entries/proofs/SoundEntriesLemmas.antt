@@ -23,9 +23,10 @@ use Rattle.mdc_sound.proofs.BlockRulesLemmas.{each_of}
 use Rattle.mdc_sound.proofs.ElementsLemmas.{contains_entry, each_in, entry_in, from_map, in_map}
 use Rattle.table_blocks.proofs.WithEntryLemmas.{more_with, there_with, with_cases}
 use Rattle.record_index.specs.FoundRids.{IsRid, rid_in_entry}
+use Rattle.record_index.specs.SoundRows.{LieApart}
 use Rattle.record_index.proofs.SoundRowsLemmas.{row_in_entry}
 use Rattle.row_entries.specs.ChosenIndexes.{MoveChosen, differ_in, entry_of}
-use Rattle.row_entries.specs.SoundEntries.{LieApart, StayPending, placed_at}
+use Rattle.row_entries.specs.SoundEntries.{StayPending, placed_at}
 use Rattle.row_entries.proofs.PlacesApartLemmas.{LieElsewhere, elsewhere}
 
 -- ---- one index

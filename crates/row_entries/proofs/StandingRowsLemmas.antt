@@ -37,12 +37,13 @@ use Rattle.mdc_sound.proofs.TableSpotRowsLemmas.{rows_of_spots, used_differ}
 use Rattle.mdc_sound.proofs.TableSpotsLemmas.{pending_of_spot, pending_spot, used_spot}
 use Rattle.record_index.specs.FoundRids.{IsRid, rid_in_entry}
 use Rattle.record_index.specs.RecordIndexes.{HaveKeysIn}
+use Rattle.record_index.specs.SoundRows.{LieApart}
 use Rattle.record_index.proofs.IndexesLemmas.{has_indexes}
 use Rattle.record_index.proofs.KeysLemmas.{length-row_key}
 use Rattle.record_index.proofs.SoundRowsLemmas.{block_named, has_row, lacks_row, row_in_entry}
 use Rattle.row_entries.specs.ChosenIndexes.{EachChosen, HasRecordKeys, differ_in, entry_of}
-use Rattle.row_entries.specs.RowEntries.{HasRow, HasRowOnly, LacksRow}
-use Rattle.row_entries.specs.SoundEntries.{LieApart, placed_at}
+use Rattle.row_entries.specs.RowEntries.{HasRowEntries, HasRowEntriesOnly, LacksRowEntries}
+use Rattle.row_entries.specs.SoundEntries.{placed_at}
 use Rattle.row_entries.proofs.PlacesApartLemmas.{blocks_apart, in_slot}
 
 -- ---- keys in entries
@@ -120,7 +121,7 @@ module _ {S : Type 0} (g : Ghosts S) (shape : Shape) (s : S) (def : TableDef) (o
   -- ---- what sound record indexes have
 
   module _ (sound : AreTableIndexesSound shape (pages_of g s) (view_of def forests)) where
-    pub has_entries : (row : Row) (rid : Rid) (slots : List (Option Row)) → IsRowAt (spots_of g shape s def owners forests) rid row slots → HasRow def row rid owners forests
+    pub has_entries : (row : Row) (rid : Rid) (slots : List (Option Row)) → IsRowAt (spots_of g shape s def owners forests) rid row slots → HasRowEntries def row rid owners forests
     has_entries row rid slots lies = go def.indexes forests.indexes sound
       where
         there : Contains (rows_in_table shape (pages_of g s) def forests.map) (placed_at rid row)
@@ -132,7 +133,7 @@ module _ {S : Type 0} (g : Ghosts S) (shape : Shape) (s : S) (def : TableDef) (o
         go (which ∷ indexes) (t ∷ trees) all = (λ is. has_row def rows (pending_blocks forests.map) which t (placed_at rid row) all.0 there, go indexes trees all.1)
 
     pub lacks_entries : IsTableDef def.number def → (row : Row) (rid : Rid) (others : List Kind) (more : TableForests) → HasRecordKeys def row.values → IsRid rid → row_at_spot (spots_of g shape s def owners forests) rid ≡ None
-        → slice_index_or (spots_of g shape s def owners forests) rid.block OtherBlock ≢ PendingBlock → more.indexes ≡ forests.indexes → LacksRow def row rid others more
+        → slice_index_or (spots_of g shape s def owners forests) rid.block OtherBlock ≢ PendingBlock → more.indexes ≡ forests.indexes → LacksRowEntries def row rid others more
     lacks_entries defined row rid others more keys is bare other same =
         subst (λ trees. EachChosen (λ which t. IsEntryOf (entry_of def row rid which) (leaf_entries t) → ⊥) (map (λ which. true) def.indexes) def.indexes trees) (sym same)
         (go def.indexes forests.indexes (has_indexes def.number def defined) keys sound)
@@ -150,7 +151,7 @@ module _ {S : Type 0} (g : Ghosts S) (shape : Shape) (s : S) (def : TableDef) (o
             (λ chosen. lacks_row def rows (pending_blocks forests.map) which t row.values rid all.0 parts.0.key has.0 is apart (not_pending rid.block other), go indexes trees parts.1 has.1 all.1)
 
     pub has_only : IsTableDef def.number def → (was is : Row) (rid : Rid) (slots : List (Option Row)) → HasRecordKeys def was.values → HasRecordKeys def is.values → IsRowAt (spots_of g shape s def owners forests) rid was slots
-        → HasRowOnly def was is rid owners forests
+        → HasRowEntriesOnly def was is rid owners forests
     has_only defined was is rid slots was_keys is_keys lies = record {
       has = go def.indexes forests.indexes sound;
       lacks = none def.indexes forests.indexes (has_indexes def.number def defined) was_keys is_keys sound;

@@ -45,7 +45,7 @@ use Rattle.mdc_table.proofs.KeptBlocksLemmas.{keeps_in_trees}
 use Rattle.record_index.specs.OneIndex.{GainsOneEntry, LosesOneEntry}
 use Rattle.row_entries.specs.ChosenIndexes.{HasEntry, LacksEntry, LacksOrHasEntry, MoveChosen, all_chosen, differing_chosen, entry_of}
 use Rattle.row_entries.specs.ChosenTrees.{BreaksIndexes, MovesTrees, StandIndexes}
-use Rattle.row_entries.specs.RowEntries.{ChangesIndexes, EntersChosen, HasRow, HasRowOnly, IsTreeOrMapPageOfTable, LacksRow, LeavesChosen, with_indexes}
+use Rattle.row_entries.specs.RowEntries.{ChangesIndexes, EntersChosen, HasRowEntries, HasRowEntriesOnly, IsTreeOrMapPageOfTable, LacksRowEntries, LeavesChosen, with_indexes}
 use Rattle.row_entries.proofs.ChosenLemmas.{each_at, moved_each, moves_as, sums_rise}
 use Rattle.row_entries.proofs.ChosenTreesLemmas.{RulesOut, part_of_table}
 use Rattle.row_entries.proofs.LeavingLemmas.{fewer_pages}
@@ -58,15 +58,15 @@ on_ok_both (Err e) f p q = tt
 -- ---- what is expected
 
 -- where each index has a row, none lacks its entry
-pub row_rules_out : (def : TableDef) (row : Row) (rid : Rid) → RulesOut def (HasRow def row rid) (all_chosen def) (LacksEntry def row rid)
+pub row_rules_out : (def : TableDef) (row : Row) (rid : Rid) → RulesOut def (HasRowEntries def row rid) (all_chosen def) (LacksEntry def row rid)
 row_rules_out def row rid owners forests has n which t at is there lacks = lacks (each_at (λ which t. HasEntry def row rid which t) n (all_chosen def) def.indexes forests.indexes which t has at is there)
 
 -- where none has it, none has its entry
-pub no_row_rules_out : (def : TableDef) (row : Row) (rid : Rid) → RulesOut def (LacksRow def row rid) (all_chosen def) (HasEntry def row rid)
+pub no_row_rules_out : (def : TableDef) (row : Row) (rid : Rid) → RulesOut def (LacksRowEntries def row rid) (all_chosen def) (HasEntry def row rid)
 no_row_rules_out def row rid owners forests lacks n which t at is there has = each_at (λ which t. LacksEntry def row rid which t) n (all_chosen def) def.indexes forests.indexes which t lacks at is there has
 
 -- where each has the entry of one row and not that of another, neither is wrong
-pub only_rules_out : (def : TableDef) (was is : Row) (rid : Rid) → RulesOut def (HasRowOnly def was is rid) (differing_chosen def was is) (LacksOrHasEntry def was is rid)
+pub only_rules_out : (def : TableDef) (was is : Row) (rid : Rid) → RulesOut def (HasRowEntriesOnly def was is rid) (differing_chosen def was is) (LacksOrHasEntry def was is rid)
 only_rules_out def was is rid owners forests only n which t at there tree wrong = elim wrong [
   | inl lacks ↦ lacks (each_at (λ which t. HasEntry def was rid which t) n (differing_chosen def was is) def.indexes forests.indexes which t only.has at there tree)
   | inr has ↦ each_at (λ which t. LacksEntry def is rid which t) n (differing_chosen def was is) def.indexes forests.indexes which t only.lacks at there tree has

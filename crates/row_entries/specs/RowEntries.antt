@@ -85,14 +85,14 @@ IsTreeOrMapPageOfTable g shape s def p =
 -- ---- what is expected
 
 -- no record index of the table has the entry of a row
-abbrev pub LacksRow : TableDef → Row → Rid → List Kind → TableForests → Type 0
-LacksRow def row rid owners forests = LackEntries def row rid (all_chosen def) forests.indexes
+abbrev pub LacksRowEntries : TableDef → Row → Rid → List Kind → TableForests → Type 0
+LacksRowEntries def row rid owners forests = LackEntries def row rid (all_chosen def) forests.indexes
 
 -- each has it
-abbrev pub HasRow : TableDef → Row → Rid → List Kind → TableForests → Type 0
-HasRow def row rid owners forests = HaveEntries def row rid (all_chosen def) forests.indexes
+abbrev pub HasRowEntries : TableDef → Row → Rid → List Kind → TableForests → Type 0
+HasRowEntries def row rid owners forests = HaveEntries def row rid (all_chosen def) forests.indexes
 
 -- each record index in which two rows have different keys has the entry of the first in a place, and not that of the second
-pub record HasRowOnly (def : TableDef) (was is : Row) (rid : Rid) (owners : List Kind) (forests : TableForests) : Type 0 where
+pub record HasRowEntriesOnly (def : TableDef) (was is : Row) (rid : Rid) (owners : List Kind) (forests : TableForests) : Type 0 where
   pub has : HaveEntries def was rid (differing_chosen def was is) forests.indexes
   pub lacks : LackEntries def is rid (differing_chosen def was is) forests.indexes

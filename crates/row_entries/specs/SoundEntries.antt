@@ -1,6 +1,6 @@
 -- Record indexes that are sound for some rows of a table and some Pending blocks, and what rows may become.
-use Rattle.std.specs.Prelude.{◌≡◌, ◌≢◌, ℕ, List, AllPairs, Contains, slice_index_or}
-use Rattle.std.specs.List.{AllByRecursion, AllZip}
+use Rattle.std.specs.Prelude.{◌≡◌, ℕ, List, Contains, slice_index_or}
+use Rattle.std.specs.List.{AllZip}
 use Rattle.mdc_values.specs.declared.rid.Rid.{Rid}
 use Rattle.mdc_ast.specs.declared.definition.TableDef.{TableDef}
 use Rattle.mdc_ast.specs.declared.row.Row.{Row}
@@ -9,16 +9,10 @@ use Rattle.mdc_sound.specs.BlockRules.{IsSoundIndex}
 use Rattle.mdc_sound.specs.Placing.{Spot}
 use Rattle.mdc_sound.specs.Placing.Spot.{OtherBlock, PendingBlock}
 use Rattle.mdc_sound.specs.TableRows.{PlacedRow}
-use Rattle.record_index.specs.FoundRids.{IsRid}
 
 -- each record index is sound for these rows and these Pending blocks; rule 11 says it of all rows and all Pending blocks
 abbrev pub AreIndexesSound : TableDef → List PlacedRow → List ℕ → List Forest → Type 0
 AreIndexesSound def rows pending trees = AllZip (IsSoundIndex def rows pending) def.indexes trees
-
--- rows lie in places that entries can name, no two in one
-pub record LieApart (rows : List PlacedRow) : Type 0 where
-  pub places : AllByRecursion (λ placed. IsRid placed.rid) rows
-  pub apart : AllPairs (λ a b. a.rid ≢ b.rid) rows
 
 -- a row in a place
 abbrev pub placed_at : Rid → Row → PlacedRow

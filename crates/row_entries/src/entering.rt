@@ -15,7 +15,7 @@ ghost use Rattle.mdc_sound.specs.StandingTable.{BreaksExpected, IsTreeSpaceOfTab
 ghost use Rattle.record_index.specs.OneIndex.{GainsOneEntry};
 ghost use Rattle.row_entries.specs.ChosenIndexes.{HasEntry, HasRecordKeys, all_chosen, chosen_indexes, entry_of};
 ghost use Rattle.row_entries.specs.ChosenTrees.{BreaksIndexes, IfDamaged, MovesTrees, StandIndexes};
-ghost use Rattle.row_entries.specs.RowEntries.{EntersRow, LacksRow};
+ghost use Rattle.row_entries.specs.RowEntries.{EntersRow, LacksRowEntries};
 
 use crate::choosing::ALL_INDEXES;
 use extent_map::{SpaceFault, SpaceNotes};
@@ -48,7 +48,7 @@ pub fn enter_row<P: Pages>(
     ensures full { IfErr result (λ fault. IfFull fault (λ cap. (cap ≡ shape.extents) × ((owners : List Kind) (forests : TableForests) → StandsTable P.Pages shape pages.old def.now owners forests → AreRightNotes shape notes.old owners
         → RunsFull shape (pages_of P.Pages pages.old) (added_entries (row_listings def.now row.now rid))))) }
     ensures runs { RunsOverPages P.Pages (IsTreeSpaceOfTable P.Pages shape pages.old def.now) (IsTreeSpaceOfTable P.Pages shape pages.old def.now)
-        (BreaksExpected P.Pages shape pages.old def.now (LacksRow def.now row.now rid)) pages.old pages.new (store_fault_in store_part_of result) }
+        (BreaksExpected P.Pages shape pages.old def.now (LacksRowEntries def.now row.now rid)) pages.old pages.new (store_fault_in store_part_of result) }
     ensures names { IfDamaged (store_fault_in store_part_of result) (BreaksIndexes P.Pages shape pages.old def.now (all_chosen def.now) (HasEntry def.now row.now rid)) }
 {
     let chosen = &ALL_INDEXES[..def.indexes.len()];

@@ -15,9 +15,10 @@ ghost use Rattle.mdc_sound.specs.Placing.Spot.{OtherBlock, PendingBlock};
 ghost use Rattle.mdc_sound.specs.StandingTable.{StandsTable, TableForests, pages_of, spots_of, view_of};
 ghost use Rattle.mdc_sound.specs.TableRows.{PlacedRow, rows_in_table};
 ghost use Rattle.record_index.specs.FoundRids.{IsRid};
+ghost use Rattle.record_index.specs.SoundRows.{LieApart};
 ghost use Rattle.row_entries.specs.ChosenIndexes.{HasRecordKeys, MoveChosen, all_chosen, differing_chosen, entry_of};
-ghost use Rattle.row_entries.specs.RowEntries.{HasRow, HasRowOnly, LacksRow};
-ghost use Rattle.row_entries.specs.SoundEntries.{AreIndexesSound, LieApart, StayPending, StayPendingSpots, placed_at};
+ghost use Rattle.row_entries.specs.RowEntries.{HasRowEntries, HasRowEntriesOnly, LacksRowEntries};
+ghost use Rattle.row_entries.specs.SoundEntries.{AreIndexesSound, StayPending, StayPendingSpots, placed_at};
 
 use store_api::Pages;
 
@@ -41,14 +42,14 @@ pub fn moved_rows_keep_indexes_sound()
 pub fn sound_indexes_are_as_expected<P: Pages>(pages: &P)
     ensures has { (shape : Shape) (def : TableDef) (owners : List Kind) (forests : TableForests) (row : Row) (rid : Rid) (slots : List (Option Row)) → StandsTable P.Pages shape pages.now def owners forests
         → AreTableIndexesSound shape (pages_of P.Pages pages.now) (view_of def forests)
-        → IsRowAt (spots_of P.Pages shape pages.now def owners forests) rid row slots → HasRow def row rid owners forests }
+        → IsRowAt (spots_of P.Pages shape pages.now def owners forests) rid row slots → HasRowEntries def row rid owners forests }
     ensures lacks { (shape : Shape) (def : TableDef) (owners others : List Kind) (forests more : TableForests) (row : Row) (rid : Rid) → StandsTable P.Pages shape pages.now def owners forests → IsTableDef def.number def
         → AreTableIndexesSound shape (pages_of P.Pages pages.now) (view_of def forests) → HasRecordKeys def row.values → IsRid rid
         → row_at_spot (spots_of P.Pages shape pages.now def owners forests) rid ≡ None
-        → slice_index_or (spots_of P.Pages shape pages.now def owners forests) rid.block OtherBlock ≢ PendingBlock → more.indexes ≡ forests.indexes → LacksRow def row rid others more }
+        → slice_index_or (spots_of P.Pages shape pages.now def owners forests) rid.block OtherBlock ≢ PendingBlock → more.indexes ≡ forests.indexes → LacksRowEntries def row rid others more }
     ensures has_only { (shape : Shape) (def : TableDef) (owners : List Kind) (forests : TableForests) (was is : Row) (rid : Rid) (slots : List (Option Row)) → StandsTable P.Pages shape pages.now def owners forests
         → IsTableDef def.number def → AreTableIndexesSound shape (pages_of P.Pages pages.now) (view_of def forests) → HasRecordKeys def was.values → HasRecordKeys def is.values
-        → IsRowAt (spots_of P.Pages shape pages.now def owners forests) rid was slots → HasRowOnly def was is rid owners forests }
+        → IsRowAt (spots_of P.Pages shape pages.now def owners forests) rid was slots → HasRowEntriesOnly def was is rid owners forests }
 {}
 
 /// The rows of a table that stands lie in places that entries can name, no two in one. Its Pending blocks are those whose spots

@@ -1,6 +1,7 @@
 // A row leaves the record indexes of its table.
 ghost use Rattle.std.specs.Prelude.{◌≡◌, List, false, length, IsTrue, OnOk};
 ghost use Rattle.store_api.specs.Causes.{fault_of};
+ghost use Rattle.store_api.specs.Frame.{Touches};
 ghost use Rattle.store_api.specs.RunsOverPages.{RunsOverPages};
 ghost use Rattle.extent_map.specs.declared.kind.Kind.{Kind};
 ghost use Rattle.mdc_ast.specs.TableLimits.{IsTableDef};
@@ -13,7 +14,7 @@ ghost use Rattle.mdc_sound.specs.StandingTable.{BreaksExpected, StandsTable, Tab
 ghost use Rattle.record_index.specs.OneIndex.{LosesOneEntry};
 ghost use Rattle.row_entries.specs.ChosenIndexes.{HasRecordKeys, LacksEntry, all_chosen, chosen_indexes, entry_of};
 ghost use Rattle.row_entries.specs.ChosenTrees.{BreaksIndexes, IfDamaged, MovesTrees, StandIndexes};
-ghost use Rattle.row_entries.specs.RowEntries.{HasRow, IsTreeOrMapPageOfTable, LeavesRow};
+ghost use Rattle.row_entries.specs.RowEntries.{HasRowEntries, IsTreeOrMapPageOfTable, LeavesRow};
 
 use crate::choosing::ALL_INDEXES;
 use extent_map::SpaceNotes;
@@ -45,7 +46,8 @@ pub fn leave_row<P: Pages>(
         → MakesChanges shape (pages_of P.Pages pages.old) (removed_entries (row_listings def.now row.now rid)) (pages_of P.Pages pages.new)) }
     ensures count { length (P.state pages.new).work ≡ length (P.state pages.old).work }
     ensures runs { RunsOverPages P.Pages (IsTreeOrMapPageOfTable P.Pages shape pages.old def.now) (IsTreeOrMapPageOfTable P.Pages shape pages.old def.now)
-        (BreaksExpected P.Pages shape pages.old def.now (HasRow def.now row.now rid)) pages.old pages.new (fault_of result) }
+        (BreaksExpected P.Pages shape pages.old def.now (HasRowEntries def.now row.now rid)) pages.old pages.new (fault_of result) }
+    ensures touches { Touches P.Pages (IsTreesOrMapPage P.Pages shape pages.old (record_places def.now)) pages.old pages.new }
     ensures names { IfDamaged (fault_of result) (BreaksIndexes P.Pages shape pages.old def.now (all_chosen def.now) (LacksEntry def.now row.now rid)) }
 {
     let chosen = &ALL_INDEXES[..def.indexes.len()];

@@ -11,7 +11,7 @@ ghost use Rattle.mdc_sound.specs.RunningFull.{differing_indexes, listings_in};
 ghost use Rattle.mdc_sound.specs.StandingTable.{BreaksExpected, IsTreeSpaceOfTable, StandsTable, TableForests, pages_of};
 ghost use Rattle.row_entries.specs.ChosenIndexes.{HasRecordKeys, LacksOrHasEntry, differing_chosen};
 ghost use Rattle.row_entries.specs.ChosenTrees.{BreaksIndexes, IfDamaged};
-ghost use Rattle.row_entries.specs.RowEntries.{HasRowOnly, RenewsRow};
+ghost use Rattle.row_entries.specs.RowEntries.{HasRowEntriesOnly, RenewsRow};
 
 use crate::choosing::differing_indexes;
 use crate::entering::enter_chosen;
@@ -51,7 +51,7 @@ pub fn renew_row<P: Pages>(
         → RunsFull shape (pages_of P.Pages pages.old) (removed_entries (listings_in def.now (differing_indexes def.now was.now is.now) was.now rid)
         ++ added_entries (listings_in def.now (differing_indexes def.now was.now is.now) is.now rid))))) }
     ensures runs { RunsOverPages P.Pages (IsTreeSpaceOfTable P.Pages shape pages.old def.now) (IsTreeSpaceOfTable P.Pages shape pages.old def.now)
-        (BreaksExpected P.Pages shape pages.old def.now (HasRowOnly def.now was.now is.now rid)) pages.old pages.new (store_fault_in store_part_of result) }
+        (BreaksExpected P.Pages shape pages.old def.now (HasRowEntriesOnly def.now was.now is.now rid)) pages.old pages.new (store_fault_in store_part_of result) }
     ensures names { IfDamaged (store_fault_in store_part_of result)
         (BreaksIndexes P.Pages shape pages.old def.now (differing_chosen def.now was.now is.now) (LacksOrHasEntry def.now was.now is.now rid)) }
 {

@@ -23,7 +23,8 @@ module _ {S : Type 0} (g : Ghosts S) where
   exact_passed shape (Ok x) stop s is exact damage r = absurd is
   exact_passed shape (Err e) stop s is exact damage r = exact damage (cc)
 
-  reads_then : {old mid new : S} → OnlyReads g old mid → OnlyReads g mid new → OnlyReads g old new
+  -- one run that only reads behind another
+  pub reads_then : {old mid new : S} → OnlyReads g old mid → OnlyReads g mid new → OnlyReads g old new
   reads_then first second = record {
     steady = steady_then first.steady second.steady;
     work = second.work ∙ first.work;

@@ -1,11 +1,12 @@
--- Page 0 that doesn't state how many pages there are.
-use Rattle.std.proofs.Common.{◌≡◌, ◌<◌, ◌^◌, ℕ, List, Some, Ok, Err, length, refl, sym, ap, subst, inl, inr, arith, ◌∙◌}
-use Rattle.std.specs.Prelude.{IsErrOf, IsTrue}
+-- Page 0 that states how many pages there are, or doesn't, and commits of all pages.
+use Rattle.std.proofs.Common.{◌≡◌, ◌<◌, ◌^◌, ℕ, List, Some, Result, Ok, Err, IsErrAnd, OnErr, OnOk, length, refl, sym, ap, subst, inl, inr, arith, ◌∙◌}
+use Rattle.std.specs.Prelude.{false, true, IfSome, IsErrOf, IsTrue}
 use Rattle.std.proofs.lemmas.Option.{same_Some}
 use Rattle.mdc_words.specs.Faults.{CountsFault}
 use Rattle.mdc_words.specs.Time.{OverTime}
 use Rattle.mdc_words.proofs.FaultsLemmas.{counts_fault_as, counts_fault_none, counts_fault_then}
-use Rattle.store_api.specs.Calls.{Commits, Fetches, Prepares}
+use Rattle.mdc_words.proofs.TimeLemmas.{over_time_then, over_time_wider}
+use Rattle.store_api.specs.Calls.{Fetches}
 use Rattle.store_api.specs.Fetching.{BringsOnly}
 use Rattle.store_api.specs.Frame.{OnlyPage}
 use Rattle.store_api.specs.Moments.{OnlyBase}
@@ -14,103 +15,166 @@ use Rattle.store_api.specs.declared.fault.Damage.{Damage}
 use Rattle.store_api.specs.declared.fault.PageFault.TheVariants as page
 use Rattle.store_api.specs.declared.pages.Pages.{Ghosts}
 use Rattle.store_api.specs.declared.shape.Shape.{Shape}
-use Rattle.store_api.proofs.FetchingLemmas.{once_fetch, only_once, only_same, only_then}
+use Rattle.store_api.proofs.FetchingLemmas.{once_fetch, only_none, only_once, only_then}
+use Rattle.store_api.proofs.MomentsLemmas.{base_or_now-steady}
 use Rattle.store_api.proofs.WorksLemmas.{steady_none, steady_then, works_fetch}
 use Rattle.table_trees.specs.ToldPages.{PageList}
 use Rattle.mdc_sound.specs.SpaceRules.{IsRootSound}
-use Rattle.script_engine.specs.Breaking.{JudgesDamage, NamesExactly}
-use Rattle.script_engine.specs.Committing.{CountsPages}
+use Rattle.script_engine.specs.Breaking.{JudgesDamage, NamesExactly, OnlyReads}
+use Rattle.script_engine.specs.Committing.{CommitsWork, CountsPages, HasSoundRoot}
 use Rattle.script_engine.specs.declared.stop.EngineStop.{EngineStop}
-use Rattle.script_engine.specs.declared.stop.EngineStop.TheVariants.{Damaged}
+use Rattle.script_engine.specs.declared.stop.EngineStop.TheVariants.{Damaged, Device, Output}
+use Rattle.script_engine.proofs.BreakingLemmas.{reads_then}
 use Rattle.script_engine.proofs.RootLemmas.{some_page, states_count}
 
-pub miscounted : {S : Type 0} (g : Ghosts S) (old new : S) (count stated : ℕ) (bytes : List ℕ) → Fetches 0 (g.state old) (g.state new)
-    → CountsFault (IsErrOf {T = Unit {0}} (Ok tt) page.Device) (g.disk_faults old) (g.disk_faults new) → g.say_faults new ≡ g.say_faults old → OverTime g.clock g.left (OnlyBase (g.state old)) old new
-    → count ≡ length (g.state old).work → count < 2 ^ 32 → (g.state new).hand ≡ Some bytes → stated ≡ stated_in bytes → (stated ≡ count → ⊥)
-    → CountsPages {X = Unit {0}} g (Err (Damaged (record { page = 0; rule = 1 }))) old new
-miscounted g old new count stated bytes fetches disk say time is_count few hand is_stated differ = record {
-  steady = (works_fetch (Ok tt) 0 fetches tt disk.later say time).steady;
-  work = ap (λ s. s.work) fetches.2;
-  marked = ap (λ s. s.marked) fetches.2;
-  brings = tt;
-  counted = tt;
-  device = counts_fault_as (λ is. absurd (cc)) (λ is. absurd (cc)) disk;
-  damaged = λ damage is root.
-      let told : fetches.0 ≡ page_at (g.state old).work 0 = fetches.1 root.told in
-      let found : bytes ≡ fetches.0 = same_Some bytes fetches.0 (sym hand ∙ ap (λ s. s.hand) fetches.2) in
-      let says = states_count root.shape (g.state old).work root.sound (omega (arith, is_count, few)) in
-      differ (is_stated ∙ (ap stated_in (found ∙ told) ∙ (says ∙ sym is_count)));
-  uncounted = λ damage is told. inr (λ same.
-      let read : fetches.0 ≡ page_at (g.state old).work 0 = fetches.1 told in
-      let found : bytes ≡ fetches.0 = same_Some bytes fetches.0 (sym hand ∙ ap (λ s. s.hand) fetches.2) in
-      differ (is_stated ∙ (ap stated_in (found ∙ read) ∙ (same ∙ sym is_count))));
-  output = λ is. absurd (cc);
-}
+-- ---- page 0
 
 -- looking at page 0 brings it alone
 pub brings_root : {S : Type 0} {g : Ghosts S} {old new : S} → Fetches 0 (g.state old) (g.state new) → BringsOnly g (OnlyPage 0) old new
 brings_root fetches = only_once (once_fetch (Ok tt) 0 fetches tt)
 
--- and getting ready to commit, and committing, brings none
-pub brings_committed : {S : Type 0} {g : Ghosts S} {old mid prepared new : S} → BringsOnly g (OnlyPage 0) old mid → Prepares (g.state mid) (g.state prepared) → Commits (g.state prepared) (g.state new)
-    → BringsOnly g (OnlyPage 0) old new
-brings_committed run prepares commits = only_then run (only_same (ap (λ s. s.fetched) commits ∙ ap (λ s. s.fetched) prepares))
-
--- page 0 states how many there are
-pub counted : {S : Type 0} (g : Ghosts S) (old new : S) (count stated : ℕ) (bytes : List ℕ) → Fetches 0 (g.state old) (g.state new)
-    → CountsFault (IsErrOf {T = Unit {0}} (Ok tt) page.Device) (g.disk_faults old) (g.disk_faults new) → g.say_faults new ≡ g.say_faults old → OverTime g.clock g.left (OnlyBase (g.state old)) old new
-    → count ≡ length (g.state old).work → (g.state new).hand ≡ Some bytes → stated ≡ stated_in bytes → stated ≡ count → CountsPages {X = Unit {0}} g (Ok tt) old new
-counted g old new count stated bytes fetches disk say time is_count hand is_stated is = record {
-  steady = (works_fetch (Ok tt) 0 fetches tt disk.later say time).steady;
-  work = ap (λ s. s.work) fetches.2;
-  marked = ap (λ s. s.marked) fetches.2;
-  brings = brings_root fetches;
-  counted = λ told.
-      let read : fetches.0 ≡ page_at (g.state old).work 0 = fetches.1 told in
-      let found : bytes ≡ fetches.0 = same_Some bytes fetches.0 (sym hand ∙ ap (λ s. s.hand) fetches.2) in
-      sym (ap stated_in (found ∙ read)) ∙ (sym is_stated ∙ (is ∙ is_count));
-  device = counts_fault_as (λ is. absurd (cc)) (λ is. absurd (cc)) disk;
-  damaged = λ damage is. absurd (cc);
-  uncounted = λ damage is. absurd (cc);
-  output = λ is. absurd (cc);
-}
-
 module _ {S : Type 0} (g : Ghosts S) where
   -- there is no page
-  pub no_pages : (met : Damage) (s : S) → length (g.state s).work ≡ 0 → CountsPages {X = Unit {0}} g (Err (Damaged met)) s s
-  no_pages met s none = record {
-    steady = steady_none;
-    work = refl;
-    marked = refl;
-    brings = tt;
-    counted = tt;
+  pub no_pages : (s : S) → length (g.state s).work ≡ 0 → CountsPages g (Ok false) s s
+  no_pages s none = record {
+    reads = record { steady = steady_none; work = refl; marked = refl };
+    brings = only_none;
+    counted = λ is. absurd (cc);
+    miscounted = λ is root. some_page root.shape (g.state s).work root.sound none;
     device = counts_fault_none (λ is. absurd (cc));
-    damaged = λ damage is root. some_page root.shape (g.state s).work root.sound none;
-    uncounted = λ damage is told. inl none;
+    whole = λ damage is. absurd (cc);
     output = λ is. absurd (cc);
   }
 
-  -- the pages were judged then
-  module _ (shape : Shape) (met : Damage) (stop : EngineStop) (old mid new : S) (first : CountsPages {X = Unit {0}} g (Err (Damaged met)) old mid) (judges : JudgesDamage g shape stop mid new) where
-    same_work : (g.state new).work ≡ (g.state old).work
-    same_work = judges.reads.work ∙ first.work
+  -- page 0 was read
+  module _ (old new : S) (count stated : ℕ) (bytes : List ℕ) (fetches : Fetches 0 (g.state old) (g.state new))
+      (disk : CountsFault (IsErrOf {T = Unit {0}} (Ok tt) page.Device) (g.disk_faults old) (g.disk_faults new)) (say : g.say_faults new ≡ g.say_faults old)
+      (time : OverTime g.clock g.left (OnlyBase (g.state old)) old new) (is_count : count ≡ length (g.state old).work) (hand : (g.state new).hand ≡ Some bytes) (is_stated : stated ≡ stated_in bytes) where
+    reads_root : OnlyReads g old new
+    reads_root = record { steady = (works_fetch (Ok tt) 0 fetches tt disk.later say time).steady; work = ap (λ s. s.work) fetches.2; marked = ap (λ s. s.marked) fetches.2 }
 
-    pub counts_judged : CountsPages {X = Unit {0}} g (Err stop) old new
-    counts_judged = record {
-      steady = steady_then first.steady judges.reads.steady;
-      work = same_work;
-      marked = judges.reads.marked ∙ first.marked;
-      brings = tt;
-      counted = tt;
-      device = counts_fault_as (λ is. cc) (λ is. ap Err is) (counts_fault_then (first.device.still (λ is. absurd (cc))) judges.device);
-      damaged = λ damage is. first.damaged met refl;
-      uncounted = λ damage is. first.uncounted met refl;
-      output = λ is. judges.output (cc);
+    -- its bytes are those of the page at hand
+    is_read : IsTrue (g.state old).is_told → bytes ≡ page_at (g.state old).work 0
+    is_read told =
+        let read : fetches.0 ≡ page_at (g.state old).work 0 = fetches.1 told in
+        let found : bytes ≡ fetches.0 = same_Some bytes fetches.0 (sym hand ∙ ap (λ s. s.hand) fetches.2) in
+        found ∙ read
+
+    -- it states another count
+    pub miscounted : count < 2 ^ 32 → (stated ≡ count → ⊥) → CountsPages g (Ok false) old new
+    miscounted few differ = record {
+      reads = reads_root;
+      brings = brings_root fetches;
+      counted = λ is. absurd (cc);
+      miscounted = λ is root.
+          let says = states_count root.shape (g.state old).work root.sound (omega (arith, is_count, few)) in
+          differ (is_stated ∙ (ap stated_in (is_read root.told) ∙ (says ∙ sym is_count)));
+      device = counts_fault_as (λ is. absurd (cc)) (λ is. absurd (cc)) disk;
+      whole = λ damage is. absurd (cc);
+      output = λ is. absurd (cc);
     }
 
+    -- it states how many pages there are
+    pub counted : stated ≡ count → CountsPages g (Ok true) old new
+    counted is = record {
+      reads = reads_root;
+      brings = brings_root fetches;
+      counted = λ of told. sym (ap stated_in (is_read told)) ∙ (sym is_stated ∙ (is ∙ is_count));
+      miscounted = λ of. absurd (cc);
+      device = counts_fault_as (λ is. absurd (cc)) (λ is. absurd (cc)) disk;
+      whole = λ damage is. absurd (cc);
+      output = λ is. absurd (cc);
+    }
+
+-- ---- a commit
+
+module _ {S : Type 0} (g : Ghosts S) where
+  -- a root page that is sound stays so where pages are read alone
+  root_along : (old new : S) → OnlyReads g old new → HasSoundRoot g old → HasSoundRoot g new
+  root_along old new reads root = record {
+    told = subst IsTrue (sym reads.steady.is_told) root.told;
+    shape = root.shape;
+    sound = subst (λ (pages : PageList). IsRootSound root.shape pages) (sym reads.work) root.sound;
+  }
+
+  -- pages were read alone, and a stop came
+  commits_none : (stop : EngineStop) (old new : S) → OnlyReads g old new → CountsFault (IsErrOf {T = Unit {0}} (Err stop) Device) (g.disk_faults old) (g.disk_faults new)
+      → ((damage : Damage) → stop ≡ Damaged damage → HasSoundRoot g old → ⊥) → (stop ≡ Output → ⊥) → CommitsWork {X = Unit {0}} g (Err stop) old new
+  commits_none stop old new reads device damaged output = record {
+    work = reads.work;
+    brings = tt;
+    base = tt;
+    either = inl reads.steady.base;
+    kept = λ other. reads.steady.base;
+    unmarked = tt;
+    going = λ other. reads.steady.ended;
+    is_told = reads.steady.is_told;
+    told = reads.steady.told;
+    beside = reads.steady.beside;
+    device = device;
+    say_faults = reads.steady.say_faults;
+    damaged = λ damage is. damaged damage (cc);
+    halts = λ damage is. reads;
+    output = λ is. output (cc);
+    time = base_or_now-steady reads.steady;
+  }
+
+  -- the count couldn't be read
+  pub commits_unread : (result : Result (Unit {0}) EngineStop) (stop : EngineStop) (old new : S) → IsErrAnd result (λ e. e ≡ stop) → CountsPages g (Err stop) old new → CommitsWork g result old new
+  commits_unread (Ok x) stop old new is counts = absurd is
+  commits_unread (Err e) stop old new is counts = subst (λ (x : EngineStop). CommitsWork {X = Unit {0}} g (Err x) old new) (sym is)
+      (commits_none stop old new counts.reads (counts_fault_as (λ r. cc) (λ r. cc) counts.device) (λ damage r. absurd (counts.whole damage (cc))) (λ r. counts.output (cc)))
+
+  -- it wasn't that of the pages, and they were judged then
+  module _ (shape : Shape) (stop : EngineStop) (old mid new : S) (counts : CountsPages g (Ok false) old mid) (judges : JudgesDamage g shape stop mid new) where
+    pub commits_judged : CommitsWork {X = Unit {0}} g (Err stop) old new
+    commits_judged = commits_none stop old new (reads_then g counts.reads judges.reads)
+        (counts_fault_as (λ is. cc) (λ is. cc) (counts_fault_then (counts.device.still (λ is. absurd (cc))) judges.device)) (λ damage is. counts.miscounted refl) (λ is. judges.output is)
+
     pub exact_judged : NamesExactly {X = Unit {0}} g shape (Err stop) new
-    exact_judged damage is = judges.exact damage (cc) (λ told sound. first.damaged met refl (record {
-      told = subst IsTrue (judges.reads.steady.is_told ∙ first.steady.is_told) told;
+    exact_judged damage is = judges.exact damage (cc) (λ told sound. counts.miscounted refl (record {
+      told = subst IsTrue ((reads_then g counts.reads judges.reads).steady.is_told) told;
       shape = shape;
-      sound = subst (λ (pages : PageList). IsRootSound shape pages) same_work sound.1.first.rule1;
+      sound = subst (λ (pages : PageList). IsRootSound shape pages) ((reads_then g counts.reads judges.reads).work) sound.1.first.rule1;
     }))
+
+  -- it was, and the pages were committed
+  pub commits_behind : (result : Result (Unit {0}) EngineStop) (old mid new : S) → CountsPages g (Ok true) old mid → CommitsWork g result mid new → CommitsWork g result old new
+  commits_behind result old mid new counts commits =
+      let reads = counts.reads in
+      let steady = reads.steady in
+      record {
+        work = commits.work ∙ reads.work;
+        brings = brings_both result counts.brings commits.brings;
+        base = base_both result commits.base;
+        either = elim commits.either [ inl same ↦ inl (same ∙ steady.base) | inr work ↦ inr (work ∙ reads.work) ];
+        kept = kept_both result commits.kept;
+        unmarked = commits.unmarked;
+        going = λ other. commits.going other ∙ steady.ended;
+        is_told = commits.is_told ∙ steady.is_told;
+        told = commits.told ∙ steady.told;
+        beside = commits.beside ∙ steady.beside;
+        device = counts_fault_then (counts.device.still (λ is. absurd (cc))) commits.device;
+        say_faults = commits.say_faults ∙ steady.say_faults;
+        damaged = λ damage is root. commits.damaged damage is (root_along old mid reads root);
+        halts = λ damage is. reads_then g reads (commits.halts damage is);
+        output = commits.output;
+        time = over_time_then (over_time_wider steady.time (λ left told only. (inl only.0, only.1)))
+            (over_time_wider commits.time (λ left told either. (
+              elim either.0 [ inl base ↦ inl (base ∙ ap Some steady.base) | inr work ↦ inr work ],
+              subst (λ o. IfSome o (λ bytes. told ≡ bytes)) steady.told either.1,
+            )));
+      }
+    where
+      brings_both : (result : Result (Unit {0}) EngineStop) → BringsOnly g (OnlyPage 0) old mid → OnOk result (BringsOnly g (OnlyPage 0) mid new) → OnOk result (BringsOnly g (OnlyPage 0) old new)
+      brings_both (Ok x) first second = only_then first second
+      brings_both (Err e) first second = tt
+
+      base_both : (result : Result (Unit {0}) EngineStop) → OnOk result ((g.state new).base ≡ (g.state mid).work) → OnOk result ((g.state new).base ≡ (g.state old).work)
+      base_both (Ok x) is = is ∙ counts.reads.work
+      base_both (Err e) is = tt
+
+      kept_both : (result : Result (Unit {0}) EngineStop) → OnErr result ((IsErrOf result Device → ⊥) → (g.state new).base ≡ (g.state mid).base)
+          → OnErr result ((IsErrOf result Device → ⊥) → (g.state new).base ≡ (g.state old).base)
+      kept_both (Ok x) kept = tt
+      kept_both (Err e) kept = λ other. kept other ∙ counts.reads.steady.base

@@ -265,7 +265,7 @@ module _ {S : Type 0} (g : Ghosts S) (old new : S) (before now : Tables) (place 
     pub served : AreServed now.catalog
     pub stored : IsTrue (g.state old).is_told → AreStored (g.state old).work before.catalog → AreStored (g.state new).work now.catalog
     pub drops : IsTrue (g.state old).is_told → AreStored (g.state old).work before.catalog → (view : DatabaseView) → KeepAllRules before.shape (g.state old).work view
-        → DropsTable before.shape before.notes now.notes (g.state new).work place view
+        → DropsTable before.shape before.notes now.notes (g.state old).work (g.state new).work place view
     pub stands_for : IsTrue (g.state old).is_told → AreStored (g.state old).work before.catalog → (view : DatabaseView) → KeepAllRules before.shape (g.state old).work view
         → (db : Database) → PagesStandFor before.shape (g.state old).work db → PagesStandFor before.shape (g.state new).work (with_place db place None)
     pub told : (g.state new).is_told ≡ (g.state old).is_told
@@ -278,7 +278,7 @@ module _ {S : Type 0} (g : Ghosts S) (old new : S) (before now : Tables) (place 
   removed is ready =
       let drops = is.drops ready.told ready.stored ready.view ready.sound in
       let low : place < 16 = there_below before.catalog place is.was_served is.there in
-      let others = others_removed g old new before now place drops.owners_now ready drops.sound drops.freed is.was_served low is.left is.touches in
+      let others = others_removed g old new before now place ready drops is.was_served low is.left is.touches in
       let gone : def_at now.catalog place ≡ None = ap (λ defs. def_at defs place) is.left ∙ def_at_set before.catalog place None (omega (arith, low, is.was_served.valid.places)) in
       record {
         ready = ready_beside g old new before now (view_with ready.view drops.owners_now place None) is.was_served is.shape ready (subst IsTrue (sym is.told) ready.told)

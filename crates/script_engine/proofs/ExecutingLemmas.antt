@@ -1,6 +1,6 @@
 -- From a bound statement to the step of its text, on ready pages.
 use Rattle.std.proofs.Common.{◌≡◌, ℕ, List, [], ◌∷◌, ◌∙◌, refl, sym, ap, subst, Option, Result, Ok, Err, Some, None}
-use Rattle.std.specs.Prelude.{true, false, IfOk, IfErr, option_and_then, option_map}
+use Rattle.std.specs.Prelude.{true, false, IfOk, IfErr, IsErrAnd, MatchResult, option_and_then, option_map}
 use Rattle.mdc_ast.specs.declared.bound.Bound.{Bound}
 use Rattle.mdc_ast.specs.declared.bound.Bound.TheVariants as bound
 use Rattle.mdc_ast.specs.declared.bound.BoundSelect.{BoundSelect}
@@ -173,3 +173,9 @@ does_nothing g s tables statement idle ready = record {
 pub runs_wanting : {S : Type 0} (g : Ghosts S) (s : S) (tables : Tables) (fault : SpaceFault) → fault ≡ Store store_fault.Memory
     → RunsOverPages g AnyPage AnyPage (BreaksDatabase g s tables) s s (store_part_of fault)
 runs_wanting g s tables fault is = subst (λ f. RunsOverPages g AnyPage AnyPage (BreaksDatabase g s tables) s s (store_part_of f)) (sym is) (runs_memory runs_none)
+
+-- of a form that isn't built nothing else is answered then
+pub unbuilt_wanting : (result : Result Outcome SpaceFault) (fault : SpaceFault) → IsErrAnd result (λ e. e ≡ fault) → fault ≡ Store store_fault.Memory
+    → MatchResult result (λ outcome. outcome ≡ said.Refused (refusal_of NotBuilt)) (λ fault. IfFull fault (λ cap. ⊥))
+unbuilt_wanting (Ok outcome) fault is memory = absurd is
+unbuilt_wanting (Err e) fault is memory = subst (λ f. IfFull f (λ cap. ⊥)) (sym (is ∙ memory)) tt

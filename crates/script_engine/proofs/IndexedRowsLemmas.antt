@@ -142,7 +142,7 @@ module _ {S : Type 0} (g : Ghosts S) (shape : Shape) (s : S) (told : IsTrue (g.s
     numbers = there_at (λ (other : TableView). AreRowNumbersSound other.def (rows_in_table shape (pages_of g s) other.def other.map)) view.places place table there keeps.rule12.numbers
 
     lie_there : LieApart rows_there
-    lie_there = let lie = lie_apart g shape s table.def view.owners (forests_of table) stands in record { places = lie.places; apart = lie.apart }
+    lie_there = lie_apart g shape s table.def view.owners (forests_of table) stands
 
     old_keys : flat_map (twin_causes (values_of (map (λ hit. hit.row) found))) table.def.indexes ≡ []
     old_keys =

@@ -3,6 +3,7 @@ pub mod BehindLooksLemmas
 pub mod BetweenChangesLemmas
 pub mod BreakingLemmas
 pub mod CatalogLemmas
+pub mod ChangingAnewLemmas
 pub mod ComingTablesLemmas
 pub mod CommittingLemmas
 pub mod DefinedTablesLemmas
@@ -23,6 +24,7 @@ pub mod LeavingLemmas
 pub mod LeavingOthersLemmas
 pub mod ListingLemmas
 pub mod NotedRoomsLemmas
+pub mod OnAnyLemmas
 pub mod OpeningLemmas
 pub mod OtherBlocksLemmas
 pub mod OtherRoomsLemmas

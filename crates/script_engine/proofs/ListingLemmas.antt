@@ -31,11 +31,12 @@ use Rattle.mdc_sound.specs.StandsForDatabase.{rootless}
 use Rattle.mdc_table.specs.TableReading.{CountsBlocks}
 use Rattle.mdc_table.specs.declared.account.Account.{Account}
 use Rattle.statement_rows.specs.RowsOfStatement.{AnyPage}
-use Rattle.script_engine.specs.Breaking.{HoldsAtDamage, NamesExactly}
+use Rattle.script_engine.specs.Breaking.{NamesExactly}
 use Rattle.script_engine.specs.Fetching.{FetchesForListing}
 use Rattle.script_engine.specs.Held.{HeldPages, KeepsBase, StandsForSession, StepsOnPages}
 use Rattle.script_engine.specs.Held.StepsOnPages.{turns}
 use Rattle.script_engine.specs.Leaving.{IsAllCommitted}
+use Rattle.script_engine.specs.OnAnyPages.{ExecutesOnAny, IsGoingEngine}
 use Rattle.script_engine.specs.Listing.{PagesTell, TellsBlocks, blocks_told}
 use Rattle.statement_meaning.specs.Built.{are_built}
 use Rattle.script_engine.specs.Ready.{AreServed, BreaksDatabase, IsReady}
@@ -49,9 +50,10 @@ use Rattle.script_engine.specs.declared.tables.Tables.{Tables}
 use Rattle.script_engine.proofs.StoredDefsLemmas.{def_named-without_roots, same_built, stored_defs, without_roots}
 use Rattle.script_engine.proofs.LeavingLemmas.{leaves_steady}
 use Rattle.script_engine.proofs.LeavingOthersLemmas.{leaves_others_still}
+use Rattle.script_engine.proofs.OnAnyLemmas.{any_answered, any_halts, as_it_was, steps_any, stopped_at}
 use Rattle.script_engine.proofs.ScannedTablesLemmas.{StandsReady, stands_ready}
 use Rattle.script_engine.proofs.TryingLemmas.{stop_counts, stop_names, stop_output}
-use Rattle.script_engine.proofs.TurnsLemmas.{executes_stop, outside_steady, ready_along, same_held}
+use Rattle.script_engine.proofs.TurnsLemmas.{executes_stop, stays_steady, outside_steady, ready_along, same_held}
 
 -- the definition of a name has a place
 named_at : (defs : Definitions) (name : Name) (def : TableDef) → def_named defs name ≡ Some def → (place : ℕ) × (def_at defs place ≡ Some def)
@@ -142,21 +144,24 @@ module _ {S : Type 0} (g : Ghosts S) (old : Engine S) (store : S) (name : Name) 
         steps = λ ready. (list_steps runs outcome (may.served served).built absent tells ready, ready_along g old store steady.is_told steady.base same ready);
         may = record { going = steady.ended ∙ may.going; unmarked = runs.works.marked ∙ may.unmarked; served = may.served };
         keeps = λ all. base_still runs all;
-        keeps_work = still runs;
         controls = tt;
         built = λ was. was;
         leaves = λ ready. leaves_steady g (ListBlocks name) old new steady;
         fetches = λ ready. tt;
         lists = λ ready. fetches;
-        refused = λ refusal is. still runs;
         unserved = λ unserved other outcome is. let wrong : true ≡ false = sym served ∙ unserved in absurd (cc);
         damaged = λ damage e ready. absurd (cc);
-        opens = refl;
         exact = λ damage e. absurd (cc);
         stays = λ damage e. absurd (cc);
         shape = refl;
         outside = outside_steady g (Ok outcome) old new steady (counts_fault_as (λ r. absurd (cc)) (λ r. absurd (cc)) runs.cause.device) (λ r. absurd (cc));
       }
+
+  pub listed_any : (outcome : Outcome) → RunsOverPages g NoPage AnyPage (BreaksDatabase g old.store old.tables) old.store store None → Executes g (ListBlocks name) (Ok outcome) old new → IsGoingEngine g old
+      → ExecutesOnAny g (ListBlocks name) (Ok outcome) old new
+  listed_any outcome runs does going =
+      any_answered g (ListBlocks name) old new outcome runs.works.steady (steps_any g (ListBlocks name) old new outcome does going (λ reply e. still runs)
+      (λ refusal e. as_it_was (g.state old.store).is_told (held_by g old) (held_by g new) (still runs)) (λ e. absurd (cc)))
 
   -- the pages couldn't be read
   pub list_stops : (result : Result Outcome EngineStop) (fault : StoreFault) → IsErrAnd result (λ e. e ≡ stop_of fault) → ((damage : Damage) → fault ≡ store_fault.Damaged damage → ⊥)
@@ -166,6 +171,11 @@ module _ {S : Type 0} (g : Ghosts S) (old : Engine S) (store : S) (name : Name) 
       (λ damage e. absurd (whole damage (stop_names fault damage (cc)))) (λ damage e. absurd (whole damage (stop_names fault damage e)))
       (λ ready. leaves_steady g (ListBlocks name) old new runs.works.steady) refl
       (outside_steady g (Err (stop_of fault)) old new runs.works.steady (stop_counts fault runs.cause.device) (λ r. stop_output fault (cc)))
+
+  pub list_stops_any : (result : Result Outcome EngineStop) (fault : StoreFault) → IsErrAnd result (λ e. e ≡ stop_of fault) → ((damage : Damage) → fault ≡ store_fault.Damaged damage → ⊥)
+      → RunsOverPages g NoPage AnyPage (BreaksDatabase g old.store old.tables) old.store store (Some fault) → old.served ≡ true → IsGoingEngine g old → ExecutesOnAny g (ListBlocks name) result old new
+  list_stops_any result fault is whole runs served going =
+      any_halts g (ListBlocks name) result (stop_of fault) old new is runs.works.steady going.may.going (λ e. sym going.by_forms ∙ served) (λ damage e. absurd (whole damage (stop_names fault damage e)))
 
 -- damage was met, and it was judged or tried once more
 module _ {S : Type 0} (g : Ghosts S) (old : Engine S) (mid store : S) (tables : Tables) (name : Name) (met : Damage) (fault : StoreFault) (is_met : fault ≡ store_fault.Damaged met)
@@ -201,16 +211,13 @@ module _ {S : Type 0} (g : Ghosts S) (old : Engine S) (mid store : S) (tables : 
           served = λ is. subst AreServed (sym tried.catalog) (may.served is);
         };
         keeps = λ all. record { closed = λ shut. steady.base ∙ (all shut ∙ sym (work_anew (Ok outcome) tried)); is_open = λ opened. steady.base };
-        keeps_work = held_anew (Ok outcome) tried;
         controls = tt;
         built = λ was. was ∙ ap are_built (sym tried.catalog);
         leaves = λ ready. absurd (unready ready);
         fetches = λ ready. tt;
         lists = λ ready. absurd (unready ready);
-        refused = λ refusal is. held_anew (Ok outcome) tried;
         unserved = λ unserved other outcome is. let wrong : true ≡ false = sym served ∙ unserved in absurd (cc);
         damaged = λ damage e ready. absurd (cc);
-        opens = refl;
         exact = exact;
         stays = λ damage e. absurd (cc);
         shape = tried.shape;
@@ -219,11 +226,16 @@ module _ {S : Type 0} (g : Ghosts S) (old : Engine S) (mid store : S) (tables : 
   list_anew (Err stop) may served tried exact =
       let steady = steady_anew (Err stop) tried in
       executes_stop g {X = Outcome} {Y = Outcome} (ListBlocks name) (Err stop) stop old anew refl (λ damage e ready. unready ready) exact
-      (λ damage e. record {
-        base = steady.base;
-        going = steady.ended ∙ may.going;
-        unmarked = tried.reads.marked ∙ (runs.works.marked ∙ may.unmarked);
-        is_open = refl;
-        holds = HoldsAtDamage.before (work_anew (Err stop) tried);
-      })
+      (λ damage e. stays_steady g old anew steady (tried.reads.marked ∙ (runs.works.marked ∙ may.unmarked)) may.going refl)
       (λ ready. absurd (unready ready)) tried.shape (outside_anew (Err stop) tried)
+
+  pub list_anew_any : (result : Result Outcome EngineStop) → old.served ≡ true → ListsAnew g result mid store old.tables tables → NamesExactly g old.tables.shape result store → Executes g (ListBlocks name) result old anew
+      → IsGoingEngine g old → ExecutesOnAny g (ListBlocks name) result old anew
+  list_anew_any (Ok outcome) served tried exact does going =
+      any_answered g (ListBlocks name) old anew outcome (steady_anew (Ok outcome) tried) (steps_any g (ListBlocks name) old anew outcome does going (λ reply e. held_anew (Ok outcome) tried)
+      (λ refusal e. as_it_was (g.state old.store).is_told (held_by g old) (held_by g anew) (held_anew (Ok outcome) tried)) (λ e. absurd (cc)))
+  list_anew_any (Err stop) served tried exact does going =
+      let steady = steady_anew (Err stop) tried in
+      any_halts g (ListBlocks name) (Err stop) stop old anew refl steady going.may.going (λ e. sym going.by_forms ∙ served)
+      (λ damage e.
+      stopped_at g (ListBlocks name) old anew damage (exact damage (ap Err e)) steady (work_anew (Err stop) tried) (tried.reads.marked ∙ (runs.works.marked ∙ going.may.unmarked)) going.may.going refl)

@@ -19,6 +19,7 @@ use Rattle.mdc_sound.specs.SoundDatabase.{IsSoundDatabase, KeepAllRules}
 use Rattle.stored_catalog.specs.StoredDefinitions.{AreStored, AreWithinLimits, BreaksTablePages, IsAnyTablePage}
 use Rattle.script_engine.specs.Breaking.{NamesExactly, OnlyReads}
 use Rattle.script_engine.specs.NotedRooms.{AreForgotten}
+use Rattle.script_engine.specs.OnAnyPages.{IsGoingEngine}
 use Rattle.script_engine.specs.Opening.{IsSoundStore, KeepsPages}
 use Rattle.statement_meaning.specs.Built.{are_built}
 use Rattle.statement_meaning.specs.Session.{first_settings}
@@ -72,6 +73,13 @@ module _ {S : Type 0} (g : Ghosts S) where
       served = λ served.
           served_of engine.tables.catalog (subst AreWithinLimits (sym has) limits) (subst DoNamesDiffer (sym has) differ)
           (ap are_built has ∙ (sym (ap (λ (e : Engine S). e.served) is) ∙ served));
+    }
+
+    pub opened_going : (g.state old).ended ≡ false → (g.state old).marked ≡ None → (g.state old).base ≡ (g.state old).work → IsGoingEngine g engine
+    opened_going going unmarked committed = record {
+      may = opened_may going unmarked;
+      by_forms = ap (λ (e : Engine S). e.served) is ∙ sym (ap are_built has);
+      committed = λ shut. opened_pages.base ∙ (committed ∙ sym opened_pages.work);
     }
 
     pub opened_ready : (IsTrue (g.state old).is_told → AreStored (g.state old).work catalog) → engine.tables.shape ≡ shape → ((owners : List Kind) → AreRightNotes engine.tables.shape engine.tables.notes owners)

@@ -17,7 +17,7 @@ use Rattle.extent_map.specs.Kinds.{is_unused_place}
 use Rattle.extent_map.specs.Map.{IsSpacePage}
 use Rattle.extent_map.specs.Owners.{extent_of, owner_of, place_in_extent}
 use Rattle.extent_map.specs.declared.kind.Kind.{Kind}
-use Rattle.extent_map.specs.declared.kind.Kind.TheVariants.{Free, Block}
+use Rattle.extent_map.specs.declared.kind.Kind.TheVariants.{Block}
 use Rattle.entry_tree.specs.Standing.{IsIdlePage}
 use Rattle.block_map.specs.MapLines.{mapped_blocks}
 use Rattle.table_trees.specs.SpaceChanges.{MakesChanges}
@@ -34,15 +34,17 @@ use Rattle.mdc_sound.proofs.StandingTableLemmas.{block_kept, forests_of, map_of_
 use Rattle.statement_rows.specs.OtherTables.{KeepsTableBlocks, KeepsOtherTables}
 use Rattle.stored_catalog.specs.AroundTable.{view_with}
 use Rattle.stored_catalog.specs.StoredDefinitions.{AreStored}
+use Rattle.stored_catalog.specs.TableSteps.{DropsTable}
 use Rattle.stored_catalog.specs.TreeRuns.{IsAddingPage, IsDroppingPage, IsMakingPage}
 use Rattle.stored_catalog.proofs.EnteringLemmas.{empty_place_below, lowest_place}
 use Rattle.stored_catalog.proofs.LeftDefinitionsLemmas.{def_there, limits_at, stored_at}
 use Rattle.stored_catalog.proofs.OpenedTableLemmas.{defined_there}
 use Rattle.script_engine.specs.Doing.{changed_place}
-use Rattle.script_engine.specs.Others.{ComesEmpty, FreesBlocks, GainsIndex, KeepsOthers, LosesIndex, touched_place}
+use Rattle.script_engine.specs.Others.{ComesEmpty, GainsIndex, KeepsOthers, LosesIndex, touched_place}
 use Rattle.script_engine.specs.Ready.{AreServed, IsReady}
 use Rattle.script_engine.specs.declared.tables.Tables.{Tables}
 use Rattle.script_engine.proofs.ComingTablesLemmas.{no_block_mapped, none_comes, none_goes}
+use Rattle.script_engine.proofs.GivenBackLemmas.{goes_whole}
 use Rattle.script_engine.proofs.OtherBlocksLemmas.{stands_keeps}
 use Rattle.script_engine.proofs.ServedDefsLemmas.{def_at_set, served_below}
 
@@ -252,29 +254,25 @@ others_created g old new before now place def table owners_now ready sound unmap
     off t p of (inr space) = off_space before.shape ready.view.owners t p of (space ready.view.owners (told_of_map g old ready.told before.shape ready.view.owners (map_of_rules before.shape (pages_of g old) ready.view ready.sound.first)))
 
 -- a table is dropped
-pub others_removed : {S : Type 0} (g : Ghosts S) (old new : S) (before now : Tables) (place : ℕ) (owners_now : List Kind) (ready : IsReady g old before)
-    → KeepAllRules before.shape (pages_of g new) (view_with ready.view owners_now place None) → ((e : ℕ) → owner_of ready.view.owners e ≡ Block place → owner_of owners_now e ≡ Free)
-    → AreServed before.catalog → place < 16
+pub others_removed : {S : Type 0} (g : Ghosts S) (old new : S) (before now : Tables) (place : ℕ) (ready : IsReady g old before)
+    → DropsTable before.shape before.notes now.notes (pages_of g old) (pages_of g new) place ready.view → AreServed before.catalog → place < 16
     → now.catalog ≡ without_def before.catalog place → Touches g (IsDroppingPage before.shape place) old new
     → KeepsOthers before.shape (pages_of g old) (pages_of g new) before.catalog now.catalog (Some place)
-others_removed g old new before now place owners_now ready sound freed served low catalog touches = record {
+others_removed g old new before now place ready drops served low catalog touches = record {
   each = λ t other apart at.
       let elsewhere_t : t ≢ place = λ e. apart (ap Some (sym e)) in (
         still_elsewhere t elsewhere_t ∙ at,
-        others_stay g old new before now place None owners_now ready sound served (IsDroppingPage before.shape place) touches off t other elsewhere_t at,
+        others_stay g old new before now place None drops.owners_now ready drops.sound served (IsDroppingPage before.shape place) touches off t other elsewhere_t at,
       );
   made = λ t def none some. elim (cases_eq t place) [
     | inl here ↦ let wrong = sym gone_there ∙ (ap (def_at now.catalog) (sym here) ∙ some) in absurd (cc)
     | inr apart ↦ absurd (none_comes (def_at before.catalog t) (def_at now.catalog t) def (still_elsewhere t apart) none some)
   ];
   gone = λ t def some none. elim (cases_eq t place) [
-    | inl here ↦ subst (FreesBlocks before.shape (pages_of g old) (pages_of g new)) (sym here) (record {
-      owners = ready.view.owners;
-      owners_now = owners_now;
-      held = map_of_rules before.shape (pages_of g old) ready.view ready.sound.first;
-      held_now = map_of_rules before.shape (pages_of g new) (view_with ready.view owners_now place None) sound.first;
-      freed = freed;
-    })
+    | inl here ↦
+        let defines = stored_at (pages_of g old) before.catalog t def ready.stored some in
+        goes_whole before.shape before.notes now.notes (pages_of g old) (pages_of g new) t def ready.view (omega (arith, here, low)) ready.sound defines
+        (subst (λ u. DropsTable before.shape before.notes now.notes (pages_of g old) (pages_of g new) u ready.view) (sym here) drops)
     | inr apart ↦ absurd (none_goes (def_at before.catalog t) (def_at now.catalog t) def (still_elsewhere t apart) some none)
   ];
   gained = λ t def now_def at at_now more. absurd (omega (arith, as_many t def now_def at at_now, more));

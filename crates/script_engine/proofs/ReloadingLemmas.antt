@@ -21,6 +21,7 @@ use Rattle.script_engine.specs.NotedRooms.{AreForgotten}
 use Rattle.statement_meaning.specs.Built.{are_built}
 use Rattle.script_engine.specs.Reloading.{Reloads}
 use Rattle.script_engine.specs.declared.stop.EngineStop.{EngineStop}
+use Rattle.script_engine.specs.declared.stop.EngineStop.TheVariants.{Damaged}
 use Rattle.script_engine.specs.declared.tables.Tables.{Tables}
 use Rattle.script_engine.proofs.CatalogLemmas.{no_broken_pages}
 
@@ -37,6 +38,13 @@ module _ {S : Type 0} (g : Ghosts S) where
     base_again : (g.state back).work ≡ (g.state old).base
     base_again = ap (λ s. s.work) rolls
 
+    -- sound pages name no damage
+    pub reload_unbroken : {X : Type 0} (shape : Shape) (result : Result X EngineStop) (stop : EngineStop) → IsErrAnd result (λ e. e ≡ stop) → LoadsExactly g shape (Err stop) back new
+        → (damage : Damage) → result ≡ Err (Damaged damage) → IsTrue (g.state old).is_told → IsSoundDatabase before.shape (g.state old).base → ⊥
+    reload_unbroken shape (Ok x) stop is loads damage r told sound = absurd is
+    reload_unbroken shape (Err e) stop is loads damage r told sound =
+        loads.damaged damage (cc) (subst IsTrue (sym went_back.is_told) told) before.shape (subst (λ (pages : PageList). IsSoundDatabase before.shape pages) (sym base_again) sound)
+
     -- the catalog couldn't be read
     pub reload_stops : (shape : Shape) (result : Result Bool EngineStop) (stop : EngineStop) → IsErrAnd result (λ e. e ≡ stop) → LoadsExactly g shape (Err stop) back new → Reloads g result old new before now
     reload_stops shape (Ok served) stop is loads = absurd is
@@ -52,8 +60,6 @@ module _ {S : Type 0} (g : Ghosts S) where
       names = tt;
       built = tt;
       device = counts_fault_as (λ r. cc) (λ r. cc) (counts_fault_then count loads.device);
-      damaged = λ damage r told given sound.
-          loads.damaged damage (cc) (subst IsTrue (sym went_back.is_told) told) given (subst (λ (pages : PageList). IsSoundDatabase given pages) (sym base_again) sound);
       output = λ r. loads.output (cc);
     })
 
@@ -71,6 +77,5 @@ module _ {S : Type 0} (g : Ghosts S) where
       names = loads.names;
       built = built;
       device = counts_fault_as (λ r. absurd (cc)) (λ r. absurd (cc)) (counts_fault_then count loads.device);
-      damaged = λ damage r. absurd (cc);
       output = λ r. absurd (cc);
     }

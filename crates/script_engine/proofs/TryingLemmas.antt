@@ -1,5 +1,5 @@
 -- A statement that is tried between a mark and its end.
-use Rattle.std.proofs.Common.{◌≡◌, ℕ, true, List, Option, Some, None, Result, Ok, Err, refl, sym, ap, subst, inl, inr, arith, ◌∙◌, unwrap_or}
+use Rattle.std.proofs.Common.{◌≡◌, ℕ, false, true, List, Option, Some, None, Result, Ok, Err, refl, sym, ap, subst, inl, inr, arith, ◌∙◌, unwrap_or}
 use Rattle.std.specs.Prelude.{IsErrOf, IsTrue}
 use Rattle.mdc_words.specs.Faults.{CountsFault}
 use Rattle.mdc_words.specs.Time.{OverTime}
@@ -10,7 +10,8 @@ use Rattle.mdc_ast.specs.declared.reply.Outcome.{Outcome}
 use Rattle.mdc_ast.specs.declared.reply.Outcome.TheVariants as said
 use Rattle.mdc_ast.specs.declared.statement.Stmt.{Stmt}
 use Rattle.statement_meaning.specs.Binding.{bound_of}
-use Rattle.statement_meaning.specs.Cause.{FileFull, refusal_of}
+use Rattle.statement_meaning.specs.Built.{is_built_step}
+use Rattle.statement_meaning.specs.Cause.{FileFull, NotBuilt, refusal_of}
 use Rattle.mdc_ast.specs.Definitions.{Definitions, def_at}
 use Rattle.statement_meaning.specs.Step.{step}
 use Rattle.store_api.specs.Calls.{Keeps, Marks, Undoes}
@@ -129,7 +130,9 @@ module _ {S : Type 0} (g : Ghosts S) where
             back = λ damage r. record { leaves = record { pages = work; catalog = forgot ∙ catalog }; unmarked = ap (λ s. s.marked) undone };
             does = tt;
             refused = λ refusal r. absurd (cc);
+            unbuilt = λ form. tt;
             reads = tt;
+            catalog = tt;
             fetches = tt;
             device = subst (λ n. CountsFault (IsErrOf {T = Outcome} (Err (stop_of e)) Device) (g.disk_faults old) n) (sym count_undone)
                 (stop_counts e (counts_fault_then count (subst (λ (f : Option StoreFault). CountsFault (f ≡ Some store.Device) (g.disk_faults marked) (g.disk_faults mid)) fault runs.cause.device)));
@@ -140,9 +143,9 @@ module _ {S : Type 0} (g : Ghosts S) where
       -- it was done or refused, and the mark is dropped
       pub try_kept : (outcome : Outcome) (new : S) → result ≡ Ok outcome → Keeps (g.state mid) (g.state new) → g.disk_faults new ≡ g.disk_faults mid → g.say_faults new ≡ g.say_faults mid
           → OverTime g.clock g.left (OnlyBase (g.state mid)) mid new → (IsReady g marked before → DoesStep g marked mid before now stmt outcome)
-          → ((refusal : Refusal) → outcome ≡ said.Refused refusal → LeavesAll g marked mid before now) → (is_reading stmt ≡ true → pages_of g mid ≡ pages_of g marked)
+          → ((refusal : Refusal) → outcome ≡ said.Refused refusal → LeavesAll g marked mid before now) → (is_built_step stmt ≡ false → outcome ≡ said.Refused (refusal_of NotBuilt)) → (is_reading stmt ≡ true → pages_of g mid ≡ pages_of g marked) → (is_reading stmt ≡ true → now.catalog ≡ before.catalog)
           → FetchesForQuery g before.shape marked mid before.catalog (bound_of before.catalog stmt) → TriesStep g stmt (Ok outcome) old new before now
-      try_kept outcome new is kept count_kept say_kept time_kept does leaves reads fetches =
+      try_kept outcome new is kept count_kept say_kept time_kept does leaves unbuilt reads catalog fetches =
           let ending : Steady g mid new = steady_keep (Ok tt) kept tt (omega (arith, count_kept)) say_kept time_kept in
           let work : pages_of g new ≡ pages_of g mid = ap (λ s. s.work) kept in
           let none : store_fault_in store_part_of result ≡ None = ap (store_fault_in store_part_of) is in
@@ -157,7 +160,9 @@ module _ {S : Type 0} (g : Ghosts S) where
             refused = λ refusal r.
                 let left = leaves refusal (cc) in
                 record { pages = work ∙ (left.pages ∙ same_work); catalog = left.catalog };
+            unbuilt = unbuilt;
             reads = λ is. work ∙ (reads is ∙ same_work);
+            catalog = λ is. inl (catalog is);
             fetches = λ ready. fetched_so_far new (ap (λ s. s.fetched) kept) fetches;
             device = subst (λ n. CountsFault (IsErrOf {T = Outcome} (Ok outcome) Device) (g.disk_faults old) n) (sym count_kept) (counts_fault_as (λ r. absurd (cc)) (λ r. absurd (cc)) quiet);
             damaged = λ damage r. absurd (cc);
@@ -170,8 +175,8 @@ module _ {S : Type 0} (g : Ghosts S) where
           → IfFull fault (λ n. (n ≡ before.shape.extents) × (IsReady g marked before → StepRunsFull before.shape (pages_of g marked) before.catalog stmt))
           → now.catalog ≡ before.catalog → AreServed before.catalog
           → last.catalog ≡ now.catalog → last.shape ≡ now.shape → ((owners : List Kind) → AreRightNotes last.shape last.notes owners) → AreForgotten last.rooms
-          → FetchesForQuery g before.shape marked mid before.catalog (bound_of before.catalog stmt) → TriesStep g stmt (Ok (said.Refused refusal)) old new before last
-      try_full cap fault refusal new last is is_full refuses undone count_undone say_undone time_undone full catalog served forgot shape notes rooms fetches =
+          → FetchesForQuery g before.shape marked mid before.catalog (bound_of before.catalog stmt) → (is_built_step stmt ≡ false → IfFull fault (λ n. ⊥)) → TriesStep g stmt (Ok (said.Refused refusal)) old new before last
+      try_full cap fault refusal new last is is_full refuses undone count_undone say_undone time_undone full catalog served forgot shape notes rooms fetches unbuilt =
           let filled : (cap ≡ before.shape.extents) × (IsReady g marked before → StepRunsFull before.shape (pages_of g marked) before.catalog stmt) =
           subst (λ (f : SpaceFault). IfFull f (λ n. (n ≡ before.shape.extents) × (IsReady g marked before → StepRunsFull before.shape (pages_of g marked) before.catalog stmt))) is_full full in
           let ending : Steady g mid new = steady_undo undone count_undone say_undone time_undone in
@@ -200,7 +205,9 @@ module _ {S : Type 0} (g : Ghosts S) where
                   (notes ready.view.owners) rooms;
             });
             refused = λ other r. leaves;
+            unbuilt = λ form. absurd (subst (λ (f : SpaceFault). IfFull f (λ n. ⊥)) is_full (unbuilt form));
             reads = λ is. work;
+            catalog = λ is. inl same;
             fetches = λ r. fetched_so_far new (ap (λ s. s.fetched) undone) fetches;
             device = subst (λ n. CountsFault (IsErrOf {T = Outcome} (Ok (said.Refused refusal)) Device) (g.disk_faults old) n) (sym count_undone) (counts_fault_as (λ r. absurd (cc)) (λ r. absurd (cc)) quiet);
             damaged = λ damage r. absurd (cc);

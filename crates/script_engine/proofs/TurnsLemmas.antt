@@ -24,12 +24,12 @@ use Rattle.store_api.proofs.MomentsLemmas.{base_or_now-steady}
 use Rattle.store_api.proofs.WorksLemmas.{rests_steady, steady_none, steady_then}
 use Rattle.store_api.specs.declared.shape.Shape.{Shape}
 use Rattle.table_trees.specs.ToldPages.{PageList}
-use Rattle.mdc_sound.specs.SoundDatabase.{KeepAllRules}
+use Rattle.mdc_sound.specs.SoundDatabase.{IsSoundDatabase, KeepAllRules}
 use Rattle.mdc_sound.specs.StandingTable.{pages_of}
 use Rattle.mdc_sound.specs.StandsForDatabase.{PagesStandFor}
 use Rattle.stored_catalog.specs.StoredDefinitions.{AreStored}
-use Rattle.script_engine.specs.Breaking.{HoldsAtDamage, NamesExactly, StaysAtDamage}
-use Rattle.script_engine.specs.Committing.{CommitsWork, HasSoundRoot, IsUncounted, LeavesUncounted}
+use Rattle.script_engine.specs.Breaking.{NamesExactly, StaysAtDamage}
+use Rattle.script_engine.specs.Committing.{CommitsWork, HasSoundRoot}
 use Rattle.script_engine.specs.Doing.{DoesStep, LeavesAll, PlacesOnPages, StandsAfter, is_reading}
 use Rattle.script_engine.specs.Held.{HeldPages, KeepsBase, KeepsWork, StandsForSession, StandsForTurn, StepsOnPages}
 use Rattle.script_engine.specs.Held.StepsOnPages.{full, turns}
@@ -40,7 +40,7 @@ use Rattle.script_engine.specs.Ready.{AreServed, IsReady}
 use Rattle.script_engine.specs.Reloading.{Reloads}
 use Rattle.script_engine.specs.Serving.{IsReadyEngine, MayCall, held_by}
 use Rattle.script_engine.specs.Trying.{IsRefusedFull, TriesStep}
-use Rattle.script_engine.specs.Turns.{AnswersControl, Executes, LeavesCommitted, LeavesOutside, answer_in_state, control_of, opened_by}
+use Rattle.script_engine.specs.Turns.{AnswersControl, Executes, LeavesCommitted, LeavesOutside, answer_in_state, control_of}
 use Rattle.script_engine.specs.declared.engine.Engine.{Engine}
 use Rattle.script_engine.specs.declared.stop.EngineStop.{EngineStop}
 use Rattle.script_engine.specs.declared.stop.EngineStop.TheVariants.{Damaged, Device, Output}
@@ -78,19 +78,12 @@ neither : (a b : Bool) → (a || b) ≡ false → (a ≡ false) × (b ≡ false)
 neither true b is = absurd (cc)
 neither false b is = (refl, is)
 
-same_outcome : (result : Result Outcome EngineStop) (a b : Outcome) → result ≡ Ok a → result ≡ Ok b → a ≡ b
-same_outcome result a b first second = cc
-
--- any statement but BEGIN, COMMIT and ROLLBACK leaves a transaction open or none
-pub opened_other : (was : Bool) (stmt : Stmt) → control_of stmt ≡ control.Other → was ≡ opened_by (control_of stmt) was
-opened_other was stmt other = sym (ap (λ control. opened_by control was) other)
-
 -- what the state of the transaction allows is done
 answers_done : (allowed : Bool) → allowed ≡ true → said.Done reply.Done ≡ answer_in_state allowed
 answers_done allowed is = sym (ap answer_in_state is)
 
 -- any statement but BEGIN, COMMIT and ROLLBACK may be answered whatever the state of the transaction is
-answers_other : (was : Bool) (stmt : Stmt) (outcome : Outcome) → control_of stmt ≡ control.Other → AnswersControl (control_of stmt) was outcome
+pub answers_other : (was : Bool) (stmt : Stmt) (outcome : Outcome) → control_of stmt ≡ control.Other → AnswersControl (control_of stmt) was outcome
 answers_other was stmt outcome other = subst (λ (c : Control). AnswersControl c was outcome) (sym other) tt
 
 -- any statement but BEGIN, COMMIT, ROLLBACK and LIST BLOCKS turns a session by its step
@@ -158,7 +151,7 @@ commit_steps shape old new is_open shut base work defs set = turns
     (λ done says place def changed at. absurd (cc))
 
 -- by these two
-abbrev same_settings : {old new : HeldPages} → new.settings ≡ old.settings → new.pass ≡ old.pass → KeepsSettings old new
+abbrev pub same_settings : {old new : HeldPages} → new.settings ≡ old.settings → new.pass ≡ old.pass → KeepsSettings old new
 same_settings settings pass = record { settings = settings; pass = pass }
 
 module _ {S : Type 0} (g : Ghosts S) where
@@ -211,7 +204,7 @@ module _ {S : Type 0} (g : Ghosts S) where
   }
 
   -- the same of a call that answers something else
-  outside_value : {X : Type 0} {x : X} (old new : Engine S) → LeavesOutside {X = Unit {0}} g (Ok tt) old new → LeavesOutside g (Ok x) old new
+  pub outside_value : {X : Type 0} {x : X} (old new : Engine S) → LeavesOutside {X = Unit {0}} g (Ok tt) old new → LeavesOutside g (Ok x) old new
   outside_value old new left = record {
     device = counts_fault_as (λ is. absurd (cc)) (λ is. absurd (cc)) left.device;
     output = λ is. absurd (cc);
@@ -236,7 +229,7 @@ module _ {S : Type 0} (g : Ghosts S) where
   }
 
   -- a commit behind a run that counted nothing
-  outside_then : {X : Type 0} (result : Result X EngineStop) (old new : Engine S) (mid : S) → Steady g old.store mid → g.disk_faults mid ≡ g.disk_faults old.store → CommitsWork g result mid new.store
+  pub outside_then : {X : Type 0} (result : Result X EngineStop) (old new : Engine S) (mid : S) → Steady g old.store mid → g.disk_faults mid ≡ g.disk_faults old.store → CommitsWork g result mid new.store
       → (Rests g mid → Rests g new.store) → LeavesOutside g result old new
   outside_then result old new mid steady still commits rests = record {
     device = counts_fault_then still commits.device;
@@ -268,6 +261,10 @@ module _ {S : Type 0} (g : Ghosts S) where
 
   -- ---- a stop
 
+  -- nothing was committed
+  pub stays_steady : (old new : Engine S) → Steady g old.store new.store → (g.state new.store).marked ≡ None → (g.state old.store).ended ≡ false → new.is_open ≡ old.is_open → StaysAtDamage g old new
+  stays_steady old new steady unmarked going is_open = record { base = steady.base; going = steady.ended ∙ going; unmarked = unmarked; is_open = is_open }
+
   pub executes_stop : {X Y : Type 0} (stmt : Stmt) (result : Result Outcome EngineStop) (stop : EngineStop) (old new : Engine S) → IsErrAnd result (λ e. e ≡ stop)
       → ((damage : Damage) → stop ≡ Damaged damage → IsReadyEngine g old → ⊥) → NamesExactly {X = Y} g old.tables.shape (Err stop) new.store → ((damage : Damage) → stop ≡ Damaged damage → StaysAtDamage g old new)
       → (IsReadyEngine g old → LeavesCommitted g stmt old new) → new.tables.shape ≡ old.tables.shape
@@ -277,16 +274,13 @@ module _ {S : Type 0} (g : Ghosts S) where
     steps = tt;
     may = tt;
     keeps = tt;
-    keeps_work = tt;
     controls = tt;
     built = tt;
     leaves = leaves;
     fetches = tt;
     lists = tt;
-    refused = λ refusal e. absurd (cc);
     unserved = λ served other outcome e. absurd (cc);
     damaged = λ damage e ready. damaged damage (cc) ready;
-    opens = tt;
     exact = λ damage e. exact damage (cc);
     stays = λ damage e. stays damage (cc);
     shape = shape;
@@ -295,7 +289,7 @@ module _ {S : Type 0} (g : Ghosts S) where
 
   -- ---- COMMIT
 
-  sound_root : (s : S) (tables : Tables) → IsReady g s tables → HasSoundRoot g s
+  pub sound_root : (s : S) (tables : Tables) → IsReady g s tables → HasSoundRoot g s
   sound_root s tables ready = record { told = ready.told; shape = tables.shape; sound = ready.sound.first.rule1 }
 
   -- the work that is committed is sound, and so is the base then
@@ -321,26 +315,13 @@ module _ {S : Type 0} (g : Ghosts S) where
       MayBeLeft.after (said.Done reply.Done) (held_with work work old.tables.catalog false old.settings old.pass) (commit_steps old.tables.shape (held_by g old) (held_with work work old.tables.catalog false old.settings old.pass) is_open refl refl refl refl (same_settings refl refl)) refl refl
       (ready.work.view, ready.work.sound) ready.work.stored (built_defs old.tables.catalog (may.served ready.served))
 
-  -- a commit that found another count of pages committed nothing
-  stays_uncounted : (old new : Engine S) (mid : S) → Steady g old.store mid → (g.state mid).marked ≡ None → (g.state old.store).ended ≡ false → new.is_open ≡ old.is_open → LeavesUncounted g mid new.store
-      → (g.state new.store).work ≡ (g.state mid).work → StaysAtDamage g old new
-  stays_uncounted old new mid steady unmarked going is_open left work =
-      let all = steady_then steady left.steady in
-      record {
-        base = all.base;
-        going = all.ended ∙ going;
-        unmarked = left.marked ∙ unmarked;
-        is_open = is_open;
-        holds = HoldsAtDamage.uncounted (λ told. subst IsUncounted (sym work) (left.differs (subst IsTrue left.steady.is_told told)));
-      }
-
   pub commit_stops : (result : Result Outcome EngineStop) (stop : EngineStop) (old : Engine S) (store : S) → MayCall g old → old.is_open ≡ true → IsErrAnd result (λ e. e ≡ stop)
       → CommitsWork {X = Unit {0}} g (Err stop) old.store store → (Rests g old.store → Rests g store) → NamesExactly {X = Unit {0}} g old.tables.shape (Err stop) store
       → Executes g statement.Commit result old (record old { store = store })
   commit_stops result stop old store may is_open is commits rests exact =
       let new : Engine S = record old { store = store } in
       executes_stop {Y = Unit {0}} statement.Commit result stop old new is (λ damage e ready. commits.damaged damage (ap Err e) (sound_root old.store old.tables ready.work)) exact
-      (λ damage e. record (stays_uncounted old new old.store steady_none may.unmarked may.going refl (commits.uncounted damage (ap Err e)) commits.work) { holds = HoldsAtDamage.before commits.work })
+      (λ damage e. let halts = commits.halts damage (ap Err e) in stays_steady old new halts.steady (halts.marked ∙ may.unmarked) may.going refl)
       (λ ready. leaves_then g (Err stop) statement.Commit old new old.store steady_none commits (work_left old may is_open ready)) refl (outside_commit (Err stop) old new commits rests)
 
   pub commit_done : (old : Engine S) (store : S) → MayCall g old → old.is_open ≡ true → CommitsWork {X = Unit {0}} g (Ok tt) old.store store
@@ -349,18 +330,15 @@ module _ {S : Type 0} (g : Ghosts S) where
       let new : Engine S = record old { store = store; is_open = false } in
       record {
         steps = λ ready. (commit_steps old.tables.shape (held_by g old) (held_by g new) is_open refl commits.base commits.work refl (same_settings refl refl), ready_committed old new old.store old.tables ready.work (may.served ready.served) ready.served refl commits);
-        may = record { going = commits.going; unmarked = commits.unmarked; served = may.served };
+        may = record { going = commits.going (λ e. absurd (cc)) ∙ may.going; unmarked = commits.unmarked; served = may.served };
         keeps = λ all. record { closed = λ shut. commits.base ∙ sym commits.work; is_open = λ opened. absurd (cc) };
-        keeps_work = commits.work;
         controls = answers_done old.is_open is_open;
         built = λ was. was;
         leaves = λ ready. leaves_then g (Ok tt) statement.Commit old new old.store steady_none commits (work_left old may is_open ready);
         fetches = λ ready. tt;
         lists = λ ready. tt;
-        refused = λ refusal e. absurd (cc);
         unserved = λ served other outcome e. absurd (cc);
         damaged = λ damage e ready. absurd (cc);
-        opens = refl;
         exact = λ damage e. absurd (cc);
         stays = λ damage e. absurd (cc);
         shape = refl;
@@ -370,19 +348,14 @@ module _ {S : Type 0} (g : Ghosts S) where
   -- ---- ROLLBACK
 
   pub roll_back_stops : (result : Result Outcome EngineStop) (stop : EngineStop) (old : Engine S) (store : S) (tables : Tables) → MayCall g old → IsErrAnd result (λ e. e ≡ stop)
-      → Reloads g (Err stop) old.store store old.tables tables → NamesExactly {X = Bool} g old.tables.shape (Err stop) store
+      → Reloads g (Err stop) old.store store old.tables tables
+      → ((damage : Damage) → stop ≡ Damaged damage → IsTrue (g.state old.store).is_told → IsSoundDatabase old.tables.shape (g.state old.store).base → ⊥) → NamesExactly {X = Bool} g old.tables.shape (Err stop) store
       → Executes g statement.Rollback result old (record old { store = store; tables = tables })
-  roll_back_stops result stop old store tables may is reloads exact =
+  roll_back_stops result stop old store tables may is reloads damaged exact =
       let new : Engine S = record old { store = store; tables = tables } in
       executes_stop {X = Bool} {Y = Bool} statement.Rollback result stop old new is
-      (λ damage e ready. reloads.damaged damage (ap Err e) ready.work.told old.tables.shape (ready.base_view, ready.base_sound)) exact
-      (λ damage e. record {
-        base = reloads.steady.base;
-        going = reloads.steady.ended ∙ may.going;
-        unmarked = reloads.unmarked;
-        is_open = refl;
-        holds = HoldsAtDamage.base reloads.work;
-      })
+      (λ damage e ready. damaged damage e ready.work.told (ready.base_view, ready.base_sound)) exact
+      (λ damage e. stays_steady old new reloads.steady reloads.unmarked may.going refl)
       (λ ready. leaves_steady g statement.Rollback old new reloads.steady) reloads.shape (outside_steady (Err stop) old new reloads.steady reloads.device reloads.output)
 
   roll_back_steps : (old : Engine S) (store : S) (tables : Tables) (served : Bool) → old.is_open ≡ true → Reloads g (Ok served) old.store store old.tables tables
@@ -437,16 +410,13 @@ module _ {S : Type 0} (g : Ghosts S) where
           served = λ is. served_of tables.catalog reloads.limits reloads.names (sym reloads.built ∙ is);
         };
         keeps = λ all. record { closed = λ shut. reloads.steady.base ∙ sym reloads.work; is_open = λ opened. absurd (cc) };
-        keeps_work = λ opened. reloads.work;
         controls = answers_done old.is_open is_open;
         built = λ was. reloads.built;
         leaves = λ ready. leaves_steady g statement.Rollback old new reloads.steady;
         fetches = λ ready. tt;
         lists = λ ready. tt;
-        refused = λ refusal e. absurd (cc);
         unserved = λ served other outcome e. absurd (cc);
         damaged = λ damage e ready. absurd (cc);
-        opens = refl;
         exact = λ damage e. absurd (cc);
         stays = λ damage e. absurd (cc);
         shape = reloads.shape;
@@ -475,7 +445,7 @@ module _ {S : Type 0} (g : Ghosts S) where
       (λ refusal is. held_left old store tables tries.steady (tries.refused refusal (ap Ok is)))
   kept_steps old store tables stmt outcome other changing ready tries kept (inr refused) = full refused.says (held_left old store tables tries.steady refused.leaves) refused.full.full (λ session stands. refused.full.faultless session.working stands.working)
 
-  ready_tried : (old : S) (store : S) (before tables : Tables) (stmt : Stmt) (outcome : Outcome) → DoesStep g old store before tables stmt outcome ⊎ IsRefusedFull g old store before tables stmt outcome
+  pub ready_tried : (old : S) (store : S) (before tables : Tables) (stmt : Stmt) (outcome : Outcome) → DoesStep g old store before tables stmt outcome ⊎ IsRefusedFull g old store before tables stmt outcome
       → IsReady g store tables
   ready_tried old store before tables stmt outcome (inl does) = does.ready
   ready_tried old store before tables stmt outcome (inr refused) = refused.ready
@@ -505,16 +475,13 @@ module _ {S : Type 0} (g : Ghosts S) where
         steps = λ ready. (kept_steps old store tables stmt outcome other changing ready tries kept (tries.does ready.work), kept_ready old store tables stmt outcome ready tries kept);
         may = record { going = tries.steady.ended ∙ may.going; unmarked = tries.unmarked; served = λ is. tries.served };
         keeps = λ all. base_tried old store tables stmt outcome all tries kept;
-        keeps_work = keeps_work (held_by g old) (held_by g new) stmt other changing tries.reads;
         controls = answers_other old.is_open stmt outcome other;
         built = λ was. served ∙ sym tries.served.built;
         leaves = λ ready. leaves_steady g stmt old new tries.steady;
         fetches = λ ready. tries.fetches ready.work;
         lists = λ ready. lists_other g old.store store old.tables.catalog stmt changing;
-        refused = λ refusal is. held_left old store tables tries.steady (tries.refused refusal is);
         unserved = λ unserved other outcome is. let wrong : true ≡ false = sym served ∙ unserved in absurd (cc);
         damaged = λ damage e ready. absurd (cc);
-        opens = opened_other old.is_open stmt other;
         exact = λ damage e. absurd (cc);
         stays = λ damage e. absurd (cc);
         shape = tries.shape;
@@ -558,18 +525,15 @@ module _ {S : Type 0} (g : Ghosts S) where
           committed_steps old (held_by g new) mid tables stmt outcome other changing done shut shut commits.base commits.work refl (same_settings refl refl) tries (tries.does ready.work),
           ready_committed old new mid tables (ready_tried old.store mid old.tables tables stmt outcome (tries.does ready.work)) tries.served served refl commits,
         );
-        may = record { going = commits.going; unmarked = commits.unmarked; served = λ is. tries.served };
+        may = record { going = commits.going (λ e. absurd (cc)) ∙ (tries.steady.ended ∙ may.going); unmarked = commits.unmarked; served = λ is. tries.served };
         keeps = λ all. record { closed = λ still. commits.base ∙ sym commits.work; is_open = λ opened. let wrong : true ≡ false = sym opened ∙ shut in absurd (cc) };
-        keeps_work = keeps_work (held_by g old) (held_by g new) stmt other changing (λ is. commits.work ∙ tries.reads is);
         controls = answers_other old.is_open stmt outcome other;
         built = λ was. served ∙ sym tries.served.built;
         leaves = λ ready. leaves_then g (Ok tt) stmt old new mid tries.steady commits (made_left old mid tables stmt outcome other changing done shut tries ready);
         fetches = λ ready. fetches_counted g old.tables.shape old.tables.catalog old.store mid store (bound_of old.tables.catalog stmt) (tries.fetches ready.work) commits.brings;
         lists = λ ready. lists_other g old.store store old.tables.catalog stmt changing;
-        refused = λ refusal is. absurd (not_done outcome refusal done (same_outcome (Ok outcome) outcome (said.Refused refusal) refl is));
         unserved = λ unserved other outcome is. let wrong : true ≡ false = sym served ∙ unserved in absurd (cc);
         damaged = λ damage e ready. absurd (cc);
-        opens = opened_other old.is_open stmt other;
         exact = λ damage e. absurd (cc);
         stays = λ damage e. absurd (cc);
         shape = tries.shape;
@@ -586,7 +550,9 @@ module _ {S : Type 0} (g : Ghosts S) where
       executes_stop {Y = Unit {0}} stmt result stop old new is
       (λ damage e ready. commits.damaged damage (ap Err e) (sound_root mid tables (ready_tried old.store mid old.tables tables stmt outcome (tries.does ready.work))))
       (subst (λ (of : Shape). NamesExactly {X = Unit {0}} g of (Err stop) store) tries.shape exact)
-      (λ damage e. stays_uncounted old new mid tries.steady tries.unmarked may.going refl (commits.uncounted damage (ap Err e)) commits.work)
+      (λ damage e.
+      let halts = commits.halts damage (ap Err e) in
+      stays_steady old new (steady_then tries.steady halts.steady) (halts.marked ∙ tries.unmarked) may.going refl)
       (λ ready. leaves_then g (Err stop) stmt old new mid tries.steady commits (made_left old mid tables stmt outcome other changing both.1 both.0 tries ready)) tries.shape
       (outside_then (Err stop) old new mid tries.steady still commits rests)
 
@@ -597,15 +563,7 @@ module _ {S : Type 0} (g : Ghosts S) where
   change_untried result stop old store tables stmt may is tries exact =
       let new : Engine S = record old { store = store; tables = tables } in
       executes_stop {X = Outcome} {Y = Outcome} stmt result stop old new is (λ damage e ready. tries.damaged damage (ap Err e) ready.work) exact
-      (λ damage e.
-      let back = tries.back damage (ap Err e) in
-      record {
-        base = tries.steady.base;
-        going = tries.steady.ended ∙ may.going;
-        unmarked = back.unmarked;
-        is_open = refl;
-        holds = HoldsAtDamage.before back.leaves.pages;
-      })
+      (λ damage e. stays_steady old new tries.steady (tries.back damage (ap Err e)).unmarked may.going refl)
       (λ ready. leaves_steady g stmt old new tries.steady) tries.shape
       (outside_steady (Err stop) old new tries.steady tries.device tries.output)
 
@@ -629,3 +587,11 @@ module _ {S : Type 0} (g : Ghosts S) where
 pub is_begin : (stmt : Stmt) → control.Begin ≡ control_of stmt → stmt ≡ statement.Begin
 is_begin statement.Begin is = refl
 is_begin stmt is = absurd (cc)
+
+pub is_commit : (stmt : Stmt) → control.Commit ≡ control_of stmt → stmt ≡ statement.Commit
+is_commit statement.Commit is = refl
+is_commit stmt is = absurd (cc)
+
+pub is_rollback : (stmt : Stmt) → control.Rollback ≡ control_of stmt → stmt ≡ statement.Rollback
+is_rollback statement.Rollback is = refl
+is_rollback stmt is = absurd (cc)

@@ -1,5 +1,5 @@
 -- Damage that is exact: the first rule that the pages of a store break, and the lowest page that breaks it.
-use Rattle.std.specs.Prelude.{◌≡◌, IsTrue, IfOk, IsErrOf, Result, Err, None, false}
+use Rattle.std.specs.Prelude.{◌≡◌, false, IsTrue, IfOk, IsErrOf, None, Result, Err}
 use Rattle.mdc_words.specs.Faults.{CountsFault}
 use Rattle.mdc_ast.specs.Definitions.{Definitions}
 use Rattle.store_api.specs.Works.{Steady}
@@ -9,7 +9,6 @@ use Rattle.store_api.specs.declared.shape.Shape.{Shape}
 use Rattle.mdc_sound.specs.Breaks.{IsFirstBreak}
 use Rattle.mdc_sound.specs.SoundDatabase.{IsSoundDatabase}
 use Rattle.stored_catalog.specs.StoredDefinitions.{AreStored, AreWithinLimits}
-use Rattle.script_engine.specs.Committing.{IsUncounted}
 use Rattle.script_engine.specs.Ready.{DoNamesDiffer}
 use Rattle.script_engine.specs.declared.engine.Engine.{Engine}
 use Rattle.script_engine.specs.declared.stop.EngineStop.{EngineStop}
@@ -47,18 +46,9 @@ pub record LoadsExactly {S : Type 0} (g : Ghosts S) (shape : Shape) (result : Re
   pub exact : NamesExactly g shape result new
   pub output : IsErrOf result Output → ⊥
 
--- The pages that an engine holds where damage is named: those that it held, those of the last commit, or, where a commit finds
--- that there is no page or that page 0 doesn't state how many there are, those that weren't committed.
-pub data HoldsAtDamage {S : Type 0} (g : Ghosts S) (old new : S) : Type 0 where
-  before : (g.state new).work ≡ (g.state old).work → HoldsAtDamage g old new
-  base : (g.state new).work ≡ (g.state old).base → HoldsAtDamage g old new
-  uncounted : (IsTrue (g.state new).is_told → IsUncounted (g.state new).work) → HoldsAtDamage g old new
-
--- Where damage is named, nothing was committed, the store goes on with no mark, a transaction is open as it was, and the pages are
--- those that `HoldsAtDamage` says.
+-- Where damage is named, nothing was committed, the store goes on with no mark, and a transaction is open as it was.
 pub record StaysAtDamage {S : Type 0} (g : Ghosts S) (old new : Engine S) : Type 0 where
   pub base : (g.state new.store).base ≡ (g.state old.store).base
   pub going : (g.state new.store).ended ≡ false
   pub unmarked : (g.state new.store).marked ≡ None
   pub is_open : new.is_open ≡ old.is_open
-  pub holds : HoldsAtDamage g old.store new.store

@@ -1,5 +1,6 @@
 pub mod Breaking
 pub mod Committing
+pub mod Controls
 pub mod Defining
 pub mod Doing
 pub mod Fetching
@@ -8,6 +9,7 @@ pub mod Inserting
 pub mod Leaving
 pub mod Listing
 pub mod NotedRooms
+pub mod OnAnyPages
 pub mod Opening
 pub mod Others
 pub mod Ready

@@ -1,19 +1,16 @@
 -- What going back to the pages of the last commit leaves of a store and of what is kept of it in memory.
-use Rattle.std.specs.Prelude.{◌≡◌, Bool, IsTrue, IfOk, OnOk, IsErrOf, List, Result, Err, None}
+use Rattle.std.specs.Prelude.{◌≡◌, Bool, IsTrue, IfOk, OnOk, IsErrOf, List, Result, None}
 use Rattle.mdc_words.specs.Faults.{CountsFault}
 use Rattle.store_api.specs.Works.{Steady}
-use Rattle.store_api.specs.declared.fault.Damage.{Damage}
 use Rattle.store_api.specs.declared.pages.Pages.{Ghosts}
-use Rattle.store_api.specs.declared.shape.Shape.{Shape}
 use Rattle.extent_map.specs.Owners.{AreRightNotes}
 use Rattle.extent_map.specs.declared.kind.Kind.{Kind}
-use Rattle.mdc_sound.specs.SoundDatabase.{IsSoundDatabase}
 use Rattle.stored_catalog.specs.StoredDefinitions.{AreStored, AreWithinLimits}
 use Rattle.script_engine.specs.NotedRooms.{AreForgotten}
 use Rattle.statement_meaning.specs.Built.{are_built}
 use Rattle.script_engine.specs.Ready.{DoNamesDiffer}
 use Rattle.script_engine.specs.declared.stop.EngineStop.{EngineStop}
-use Rattle.script_engine.specs.declared.stop.EngineStop.TheVariants.{Damaged, Device, Output}
+use Rattle.script_engine.specs.declared.stop.EngineStop.TheVariants.{Device, Output}
 use Rattle.script_engine.specs.declared.tables.Tables.{Tables}
 
 -- The work is the base, the catalog is that of its table pages, nothing is noted, and it is answered whether all tables are of
@@ -30,5 +27,4 @@ pub record Reloads {S : Type 0} (g : Ghosts S) (result : Result Bool EngineStop)
   pub names : OnOk result (DoNamesDiffer now.catalog)
   pub built : IfOk result (λ served. served ≡ are_built now.catalog)
   pub device : CountsFault (IsErrOf result Device) (g.disk_faults old) (g.disk_faults new)
-  pub damaged : (damage : Damage) → result ≡ Err (Damaged damage) → IsTrue (g.state old).is_told → (shape : Shape) → IsSoundDatabase shape (g.state old).base → ⊥
   pub output : IsErrOf result Output → ⊥

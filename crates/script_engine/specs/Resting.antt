@@ -1,5 +1,5 @@
 -- What is kept behind an item may be a chain of steps, each a commit that leaves the database as it is.
-use Rattle.std.specs.Prelude.{◌≡◌, ◌⊎◌, List, [], ◌∷◌, Some, false, true, IfSome, IsTrue, OnOk, IsErrOf, Result, Err}
+use Rattle.std.specs.Prelude.{◌≡◌, ◌⊎◌, Bool, List, [], ◌∷◌, Some, false, true, IfSome, IsTrue, OnErr, OnOk, IsErrOf, Result, Err}
 use Rattle.mdc_words.specs.Faults.{CountsFault}
 use Rattle.mdc_words.specs.Time.{OverTime}
 use Rattle.statement_meaning.specs.Built.{AreBuiltDefs}
@@ -14,9 +14,9 @@ use Rattle.table_trees.specs.ToldPages.{PageList}
 use Rattle.mdc_sound.specs.SoundDatabase.{IsSoundDatabase}
 use Rattle.stored_catalog.specs.StoredDefinitions.{AreStored}
 use Rattle.script_engine.specs.Breaking.{NamesExactly}
-use Rattle.script_engine.specs.Committing.{IsUncounted}
 use Rattle.script_engine.specs.Held.{HeldPages, StandsForSession}
 use Rattle.script_engine.specs.Leaving.{IsAllCommitted}
+use Rattle.script_engine.specs.OnAnyPages.{IsGoingEngine}
 use Rattle.script_engine.specs.Serving.{IsReadyEngine, MayCall, held_by}
 use Rattle.script_engine.specs.Turns.{IsServedByForms, KeepsTime}
 use Rattle.script_engine.specs.declared.engine.Engine.{Engine}
@@ -38,10 +38,22 @@ pub record RestsOnce (shape : Shape) (old new : HeldPages) : Type 0 where
   pub valid : AreBuiltDefs new.defs
   pub settings : new.settings ≡ old.settings
 
--- steps, each from where the one before ends, behind which this is held
-pub data RestsOnPages (shape : Shape) : HeldPages → List HeldPages → Type 0 where
-  nothing : {held : HeldPages} → RestsOnPages shape held []
-  one : {held next : HeldPages} {rests : List HeldPages} → RestsOnce shape held next → RestsOnPages shape next rests → RestsOnPages shape held (next ∷ rests)
+-- The same whatever the pages are: they are committed, and the definitions are those that there were, or those of the pages.
+pub record RestsOnceOnAny (told : Bool) (old new : HeldPages) : Type 0 where
+  pub was_shut : old.open_ ≡ false
+  pub is_shut : new.open_ ≡ false
+  pub committed : new.base ≡ new.work
+  pub settings : new.settings ≡ old.settings
+  pub defs : (new.defs ≡ old.defs) ⊎ (IsTrue told → AreStored new.work new.defs)
+
+-- steps of such a kind, each from where the one before ends, behind which this is held
+pub data RestsBy (Once : HeldPages → HeldPages → Type 0) : HeldPages → List HeldPages → Type 0 where
+  nothing : {held : HeldPages} → RestsBy Once held []
+  one : {held next : HeldPages} {rests : List HeldPages} → Once held next → RestsBy Once next rests → RestsBy Once held (next ∷ rests)
+
+-- steps on sound pages
+abbrev pub RestsOnPages : Shape → HeldPages → List HeldPages → Type 0
+RestsOnPages shape = RestsBy (RestsOnce shape)
 
 -- what is held behind the last of them
 abbrev pub held_behind : HeldPages → List HeldPages → HeldPages
@@ -59,6 +71,10 @@ IsHeldWithin held (next ∷ rests) within = (within ≡ held) ⊎ IsHeldWithin n
 abbrev pub IsBaseWithin : HeldPages → List HeldPages → PageList → Type 0
 IsBaseWithin held rests pages = (within : HeldPages) × IsHeldWithin held rests within × (pages ≡ within.base)
 
+-- the pages are those that were held before such steps, or behind one of them
+abbrev pub IsWorkWithin : HeldPages → List HeldPages → PageList → Type 0
+IsWorkWithin held rests pages = (within : HeldPages) × IsHeldWithin held rests within × (pages ≡ within.work)
+
 -- the pages to which the file reopens after a crash within such steps, with the bytes told before them, where they are told
 abbrev pub LeftResting : HeldPages → List HeldPages → StoreState → Outcomes
 LeftResting held rests s left told = ((pages : PageList) × (left ≡ Some pages) × IsBaseWithin held rests pages) × IfSome s.told (λ bytes. told ≡ bytes)
@@ -67,24 +83,32 @@ LeftResting held rests s left told = ((pages : PageList) × (left ≡ Some pages
 abbrev pub LeftTold : StoreState → Outcomes
 LeftTold s left told = ((pages : PageList) × (left ≡ Some pages)) × IfSome s.told (λ bytes. told ≡ bytes)
 
--- A sound engine took such steps: it is sound behind the last, or it stopped, and then the last was perhaps not committed.
-pub record TakesSteps {S : Type 0} (g : Ghosts S) (result : Result (Unit {0}) EngineStop) (old new : Engine S) : Type 0 where
+-- An engine took steps of such a kind: it is as such steps leave it behind the last, or it stopped, and then the last was perhaps not
+-- committed, where a call of the disk failed. Where it stopped at damage, the pages are those that were held before such steps, or
+-- behind one of them.
+pub record TakesStepsBy {S : Type 0} (g : Ghosts S) (Once : HeldPages → HeldPages → Type 0) (Ready : Engine S → Type 0) (result : Result (Unit {0}) EngineStop) (old new : Engine S) : Type 0 where
   pub rests : List HeldPages
-  pub steps : RestsOnPages old.tables.shape (held_by g old) rests
-  pub last : OnOk result ((held_by g new ≡ held_behind (held_by g old) rests) × IsReadyEngine g new)
+  pub steps : RestsBy Once (held_by g old) rests
+  pub last : OnOk result ((held_by g new ≡ held_behind (held_by g old) rests) × Ready new)
   pub base : IsBaseWithin (held_by g old) rests (g.state new.store).base
+  pub kept : OnErr result ((IsErrOf result Device → ⊥) → (g.state new.store).base ≡ (held_behind (held_by g old) rests).base)
+  pub work : (damage : Damage) → result ≡ Err (Damaged damage) → IsWorkWithin (held_by g old) rests (g.state new.store).work
   pub time : OverTime g.clock g.left (LeftResting (held_by g old) rests (g.state old.store)) old.store new.store
 
--- Where no transaction is open, the pages that are held are those of the last commit, or page 0 of them doesn't state how many there
--- are, as a commit found.
-abbrev pub HoldsCommitted : {S : Type 0} → Ghosts S → Engine S → Type 0
-HoldsCommitted g engine = engine.is_open ≡ false
-    → ((g.state engine.store).base ≡ (g.state engine.store).work) ⊎ (IsTrue (g.state engine.store).is_told → IsUncounted (g.state engine.store).work)
+-- a sound engine took steps that leave it sound
+abbrev pub TakesSteps : {S : Type 0} → Ghosts S → Result (Unit {0}) EngineStop → Engine S → Engine S → Type 0
+TakesSteps g result old new = TakesStepsBy g (RestsOnce old.tables.shape) (IsReadyEngine g) result old new
 
--- The engine did what is left to be done after an answer. Whatever the pages are, a transaction stays open or none, all that was
--- committed is, nothing is told, and the file reopens; no damage is named of sound pages, and damage that is named is exact.
+-- one that may go on took steps whatever the pages are
+abbrev pub TakesStepsOnAny : {S : Type 0} → Ghosts S → Result (Unit {0}) EngineStop → Engine S → Engine S → Type 0
+TakesStepsOnAny g result old new = TakesStepsBy g (RestsOnceOnAny (g.state old.store).is_told) (IsGoingEngine g) result old new
+
+-- The engine did what is left to be done after an answer: steps that leave it sound, or, whatever the pages are, such as may go on. A
+-- transaction stays open or none, all that was committed is, nothing is told, and the file reopens; no damage is named of sound pages,
+-- and damage that is named is exact.
 pub record Settles {S : Type 0} (g : Ghosts S) (result : Result (Unit {0}) EngineStop) (old new : Engine S) : Type 0 where
   pub takes : IsReadyEngine g old → TakesSteps g result old new
+  pub takes_any : IsGoingEngine g old → TakesStepsOnAny g result old new
   pub still : old.is_open ≡ true → held_by g new ≡ held_by g old
   pub may : OnOk result (MayCall g new)
   pub built : OnOk result (IsServedByForms old → IsServedByForms new)
@@ -92,8 +116,8 @@ pub record Settles {S : Type 0} (g : Ghosts S) (result : Result (Unit {0}) Engin
   pub opens : new.is_open ≡ old.is_open
   pub damaged : (damage : Damage) → result ≡ Err (Damaged damage) → IsReadyEngine g old → ⊥
   pub exact : NamesExactly g old.tables.shape result new.store
-  pub going : (damage : Damage) → result ≡ Err (Damaged damage) → (g.state new.store).ended ≡ false
-  pub committed : (damage : Damage) → result ≡ Err (Damaged damage) → IsAllCommitted (held_by g old) → HoldsCommitted g new
+  pub going : (IsErrOf result Device → ⊥) → (g.state new.store).ended ≡ false
+  pub committed : (damage : Damage) → result ≡ Err (Damaged damage) → IsAllCommitted (held_by g old) → IsAllCommitted (held_by g new)
   pub shape : new.tables.shape ≡ old.tables.shape
   pub device : CountsFault (IsErrOf result Device) (g.disk_faults old.store) (g.disk_faults new.store)
   pub output : IsErrOf result Output → ⊥

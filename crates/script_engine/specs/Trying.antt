@@ -26,7 +26,7 @@ use Rattle.script_engine.specs.Doing.{DoesStep, LeavesAll, StepRunsFull, is_read
 use Rattle.script_engine.specs.Fetching.{FetchesForQuery}
 use Rattle.script_engine.specs.Listing.{TellsBlocks}
 use Rattle.script_engine.specs.NotedRooms.{AreForgotten}
-use Rattle.statement_meaning.specs.Built.{are_built}
+use Rattle.statement_meaning.specs.Built.{are_built, is_built_step}
 use Rattle.script_engine.specs.Ready.{AreServed, IsReady}
 use Rattle.script_engine.specs.declared.stop.EngineStop.{EngineStop}
 use Rattle.script_engine.specs.declared.stop.EngineStop.TheVariants.{Damaged, Device, Output}
@@ -44,8 +44,12 @@ pub record GoesBack {S : Type 0} (g : Ghosts S) (old new : S) (before now : Tabl
   pub leaves : LeavesAll g old new before now
   pub unmarked : (g.state new).marked ≡ None
 
+-- the catalog is the one that there was, or, where these pages are told, theirs
+abbrev pub KeepsCatalog : {S : Type 0} → Ghosts S → S → Tables → Tables → Type 0
+KeepsCatalog g s before now = (now.catalog ≡ before.catalog) ⊎ (IsTrue (g.state s).is_told → AreStored (pages_of g s) now.catalog)
+
 -- A statement was tried: it does its step on ready pages, or is refused with 70. A refusal changes nothing, a query no page,
--- and nothing is committed; of a query only pages come to hand that a scan of its table looks at.
+-- a form that isn't built is refused with 14, and nothing is committed; of a query only pages come to hand that a scan of its table looks at.
 pub record TriesStep {S : Type 0} (g : Ghosts S) (stmt : Stmt) (result : Result Outcome EngineStop) (old new : S) (before now : Tables) : Type 0 where
   pub steady : Steady g old new
   pub unmarked : OnOk result ((g.state new).marked ≡ None)
@@ -54,7 +58,9 @@ pub record TriesStep {S : Type 0} (g : Ghosts S) (stmt : Stmt) (result : Result 
   pub back : (damage : Damage) → result ≡ Err (Damaged damage) → GoesBack g old new before now
   pub does : IfOk result (λ outcome. IsReady g old before → DoesStep g old new before now stmt outcome ⊎ IsRefusedFull g old new before now stmt outcome)
   pub refused : (refusal : Refusal) → result ≡ Ok (said.Refused refusal) → LeavesAll g old new before now
+  pub unbuilt : is_built_step stmt ≡ false → IfOk result (λ outcome. outcome ≡ said.Refused (refusal_of NotBuilt))
   pub reads : OnOk result (is_reading stmt ≡ true → pages_of g new ≡ pages_of g old)
+  pub catalog : OnOk result (is_reading stmt ≡ true → KeepsCatalog g old before now)
   pub fetches : OnOk result (IsReady g old before → FetchesForQuery g before.shape old new before.catalog (bound_of before.catalog stmt))
   pub device : CountsFault (IsErrOf result Device) (g.disk_faults old) (g.disk_faults new)
   pub damaged : (damage : Damage) → result ≡ Err (Damaged damage) → IsReady g old before → ⊥
@@ -68,7 +74,9 @@ pub record TriesAnew {S : Type 0} (g : Ghosts S) (stmt : Stmt) (result : Result 
   pub shape : now.shape ≡ before.shape
   pub back : (damage : Damage) → result ≡ Err (Damaged damage) → GoesBack g old new before now
   pub refused : (refusal : Refusal) → result ≡ Ok (said.Refused refusal) → LeavesAll g old new before now
+  pub unbuilt : is_built_step stmt ≡ false → IfOk result (λ outcome. outcome ≡ said.Refused (refusal_of NotBuilt))
   pub reads : OnOk result (is_reading stmt ≡ true → pages_of g new ≡ pages_of g old)
+  pub catalog : OnOk result (is_reading stmt ≡ true → KeepsCatalog g old before now)
   pub device : CountsFault (IsErrOf result Device) (g.disk_faults old) (g.disk_faults new)
   pub output : IsErrOf result Output → ⊥
 

@@ -2,9 +2,7 @@
 ghost use Rattle.std.specs.Prelude.{◌≡◌, false, IfErr, IfOk, IsErrOf, IsTrue, OnErr, OnOk, Ok, Err};
 ghost use Rattle.mdc_words.specs.Faults.{CountsFault};
 ghost use Rattle.mdc_words.specs.Time.{OverTime};
-ghost use Rattle.mdc_ast.specs.declared.refusal.Refusal.{Refusal};
 ghost use Rattle.statement_meaning.specs.Binding.{bound_of};
-ghost use Rattle.statement_meaning.specs.Cause.{NotBuilt, refusal_of};
 ghost use Rattle.store_api.specs.Calls.{Tells, TellsPart};
 ghost use Rattle.store_api.specs.Moments.{BaseOrNow, BaseWithFront};
 ghost use Rattle.store_api.specs.Works.{Rests};
@@ -12,12 +10,11 @@ ghost use Rattle.store_api.specs.declared.fault.Damage.{Damage};
 ghost use Rattle.mdc_sound.specs.Breaks.{IsFirstBreak};
 ghost use Rattle.script_engine.specs.Breaking.{StaysAtDamage};
 ghost use Rattle.script_engine.specs.Fetching.{FetchesForListing, FetchesForQuery};
-ghost use Rattle.script_engine.specs.Held.{IsWritten, KeepsBase, KeepsWork, StepsOnPages};
-ghost use Rattle.script_engine.specs.Leaving.{IsAllCommitted, LeftWithin, MayBeLeft};
+ghost use Rattle.script_engine.specs.Held.{IsWritten, StepsOnPages};
+ghost use Rattle.script_engine.specs.Leaving.{LeftWithin, MayBeLeft};
+ghost use Rattle.script_engine.specs.OnAnyPages.{ExecutesOnAny, IsGoingEngine};
 ghost use Rattle.script_engine.specs.Resting.{Settles};
 ghost use Rattle.script_engine.specs.Serving.{IsReadyEngine, MayCall, held_by};
-ghost use Rattle.script_engine.specs.Turns.{AnswersControl, IsServedByForms, control_of, opened_by};
-ghost use Rattle.script_engine.specs.declared.transactions.Control.{Control};
 
 use crate::stop::EngineStop;
 use crate::tables::Tables;
@@ -50,26 +47,21 @@ impl<S: Store> Engine<S> {
 
     /// Executes a statement. Outside a transaction its change is committed before the answer; where it is refused, nothing has
     /// changed. A crash within it leaves the pages of the last commit before it, or those that it commits, and so does a stop, after
-    /// which the engine takes no further call but `close`. Damage is exact: of the pages as they are then, the first rule that they
-    /// break, and the lowest page that breaks it. A query brings pages of rows to hand only of blocks in whose cells a row may qualify,
-    /// and LIST BLOCKS pages of the block map alone. Whatever the pages are, what BEGIN, COMMIT and ROLLBACK answer hangs on whether a
-    /// transaction is open, and a query, LIST BLOCKS, BEGIN and COMMIT leave the pages.
+    /// which the engine takes no further call but `close`. A query brings pages of rows to hand only of blocks in whose cells a row may
+    /// qualify, and LIST BLOCKS pages of the block map alone. Whatever the pages are, what BEGIN, COMMIT and ROLLBACK answer hangs on
+    /// whether a transaction is open, a refusal, a query and LIST BLOCKS change nothing, a stop commits nothing, unless a call of the
+    /// disk failed, and damage is exact: of the pages as they were held, the first rule that they break, and the lowest page that
+    /// breaks it.
     pub fn execute(&mut self, stmt: &Stmt) -> Result<Outcome, EngineStop>
         requires may { MayCall S.Pages self.old }
         requires written { IsWritten stmt.now }
         ensures steps { IfOk result (λ outcome. IsReadyEngine S.Pages self.old → StepsOnPages self.old.tables.shape (held_by S.Pages self.old) stmt.now outcome (held_by S.Pages self.new) × IsReadyEngine S.Pages self.new) }
+        ensures any { IsGoingEngine S.Pages self.old → ExecutesOnAny S.Pages stmt.now result self.old self.new }
         ensures may { OnOk result (MayCall S.Pages self.new) }
-        ensures keeps_work { OnOk result (KeepsWork stmt.now (held_by S.Pages self.old) (held_by S.Pages self.new)) }
-        ensures controls { IfOk result (AnswersControl (control_of stmt.now) self.old.is_open) }
-        ensures built { OnOk result (IsServedByForms self.old → IsServedByForms self.new) }
-        ensures commits { OnOk result (IsAllCommitted (held_by S.Pages self.old) → KeepsBase (held_by S.Pages self.old) (held_by S.Pages self.new)) }
         ensures left { IsReadyEngine S.Pages self.old → OverTime S.clock S.left (LeftWithin self.old.tables.shape (held_by S.Pages self.old) stmt.now (S.state self.old.store)) self.old.store self.new.store }
         ensures base { IsReadyEngine S.Pages self.old → MayBeLeft self.old.tables.shape (held_by S.Pages self.old) stmt.now (S.state self.new.store).base }
         ensures fetches { OnOk result (IsReadyEngine S.Pages self.old → FetchesForQuery S.Pages self.old.tables.shape self.old.store self.new.store self.old.tables.catalog (bound_of self.old.tables.catalog stmt.now)) }
         ensures lists { OnOk result (IsReadyEngine S.Pages self.old → FetchesForListing S.Pages self.old.store self.new.store self.old.tables.catalog stmt.now) }
-        ensures unserved { self.old.served ≡ false → control_of stmt.now ≡ Control.Other → (outcome : Outcome) → result ≡ Ok outcome → outcome ≡ Outcome.Refused (refusal_of NotBuilt) }
-        ensures refused { (refusal : Refusal) → result ≡ Ok (Outcome.Refused refusal) → held_by S.Pages self.new ≡ held_by S.Pages self.old }
-        ensures opens { OnOk result (self.new.is_open ≡ opened_by (control_of stmt.now) self.old.is_open) }
         ensures device { CountsFault (IsErrOf result EngineStop.Device) (S.disk_faults self.old.store) (S.disk_faults self.new.store) }
         ensures damaged { (damage : Damage) → result ≡ Err (EngineStop.Damaged damage) → IsReadyEngine S.Pages self.old → ⊥ }
         ensures breaks { (damage : Damage) → result ≡ Err (EngineStop.Damaged damage) → IsTrue (S.state self.old.store).is_told → IsFirstBreak self.old.tables.shape (S.state self.new.store).work damage.rule damage.page }

@@ -1,8 +1,10 @@
 // A statement on the tables of a database.
-ghost use Rattle.std.specs.Prelude.{◌≡◌, false, true, IfOk, IfErr, IfSome, Ok};
+ghost use Rattle.std.specs.Prelude.{◌≡◌, false, true, IfOk, IfErr, IfSome, MatchResult, Ok};
 ghost use Rattle.mdc_ast.specs.declared.bound.Bound.TheVariants as bound;
 ghost use Rattle.mdc_ast.specs.declared.refusal.Refusal.{Refusal};
 ghost use Rattle.statement_meaning.specs.Binding.{bound_of};
+ghost use Rattle.statement_meaning.specs.Built.{is_built_step};
+ghost use Rattle.statement_meaning.specs.Cause.{NotBuilt, refusal_of};
 ghost use Rattle.store_api.specs.Causes.{store_fault_in};
 ghost use Rattle.store_api.specs.RunsOverPages.{RunsOverPages};
 ghost use Rattle.store_api.specs.declared.fault.StoreFault.TheVariants as store_fault;
@@ -44,7 +46,9 @@ pub fn execute<P: Pages>(
     ensures refused { (refusal : Refusal) → result ≡ Ok (Outcome.Refused refusal) → LeavesAll P.Pages pages.old pages.new tables.old tables.new }
     ensures full { IfErr result (λ fault. IfFull fault (λ cap. (cap ≡ tables.old.shape.extents)
         × (IsReady P.Pages pages.old tables.old → StepRunsFull tables.old.shape (pages_of P.Pages pages.old) tables.old.catalog stmt.now))) }
+    ensures unbuilt { is_built_step stmt.now ≡ false → MatchResult result (λ outcome. outcome ≡ Outcome.Refused (refusal_of NotBuilt)) (λ fault. IfFull fault (λ cap. ⊥)) }
     ensures reads { is_reading stmt.now ≡ true → (P.state pages.new).work ≡ (P.state pages.old).work }
+    ensures catalog { is_reading stmt.now ≡ true → tables.new.catalog ≡ tables.old.catalog }
     ensures fetches { FetchesForQuery P.Pages tables.old.shape pages.old pages.new tables.old.catalog (bound_of tables.old.catalog stmt.now) }
     ensures keeps { KeepsServed result tables.old tables.new }
     ensures runs { RunsOverPages P.Pages AnyPage AnyPage (BreaksDatabase P.Pages pages.old tables.old) pages.old pages.new (store_fault_in store_part_of result) }
@@ -89,7 +93,9 @@ fn execute_any<P: Pages>(
     ensures refused { (refusal : Refusal) → result ≡ Ok (Outcome.Refused refusal) → LeavesAll P.Pages pages.old pages.new tables.old tables.new }
     ensures full { IfErr result (λ fault. IfFull fault (λ cap. (cap ≡ tables.old.shape.extents)
         × (IsReady P.Pages pages.old tables.old → StepRunsFull tables.old.shape (pages_of P.Pages pages.old) tables.old.catalog stmt.now))) }
+    ensures unbuilt { is_built_step stmt.now ≡ false → MatchResult result (λ outcome. outcome ≡ Outcome.Refused (refusal_of NotBuilt)) (λ fault. IfFull fault (λ cap. ⊥)) }
     ensures reads { is_reading stmt.now ≡ true → (P.state pages.new).work ≡ (P.state pages.old).work }
+    ensures catalog { is_reading stmt.now ≡ true → tables.new.catalog ≡ tables.old.catalog }
     ensures fetches { FetchesForQuery P.Pages tables.old.shape pages.old pages.new tables.old.catalog (bound_of tables.old.catalog stmt.now) }
     ensures keeps { KeepsServed result tables.old tables.new }
     ensures runs { RunsOverPages P.Pages AnyPage AnyPage (BreaksDatabase P.Pages pages.old tables.old) pages.old pages.new (store_fault_in store_part_of result) }
@@ -118,6 +124,7 @@ fn carry_out<P: Pages>(
     ensures full { IfErr result (λ fault. IfFull fault (λ cap. (cap ≡ tables.old.shape.extents)
         × (IsReady P.Pages pages.old tables.old → RunsFullAlone tables.old.shape (pages_of P.Pages pages.old) tables.old.catalog bound))) }
     ensures reads { is_query bound ≡ true → (P.state pages.new).work ≡ (P.state pages.old).work }
+    ensures catalog { is_query bound ≡ true → tables.new.catalog ≡ tables.old.catalog }
     ensures fetches { FetchesForQuery P.Pages tables.old.shape pages.old pages.new tables.old.catalog bound }
     ensures keeps { KeepsServed result tables.old tables.new }
     ensures runs { RunsOverPages P.Pages AnyPage AnyPage (BreaksDatabase P.Pages pages.old tables.old) pages.old pages.new (store_fault_in store_part_of result) }

@@ -4,10 +4,14 @@
 //! for those lists, with rows where placing says, in trees that took no more space than these rows ask for, and the blocks of other
 //! tables as they were, that LIST BLOCKS tells how many blocks a table has in each state, and that a statement which is refused
 //! changes nothing. Outside a transaction its change is committed before the answer; a crash at any moment of a call leaves the
-//! pages of the last commit before it or those that it commits. 70 is answered only where the statement runs full. Damage that is
-//! answered is exact: of the pages as they are then, the first rule that they break, and the lowest page that breaks it. Sound pages
+//! pages of the last commit before it or those that it commits. 70 is answered only where the statement runs full. Sound pages
 //! stand for such lists, by the law here, and for no others, by one of `mdc_sound`: what is promised for each database that pages
 //! stand for is promised for just one.
+//!
+//! Whatever the pages are, a refusal, a query and LIST BLOCKS change none, BEGIN, COMMIT and ROLLBACK do as the state of the
+//! transaction has it, what isn't built is refused with 14, a stop commits nothing, unless a call of the disk failed, and damage is
+//! that of the pages as they were held before the statement, at ROLLBACK of those of the last commit: the first rule that they break,
+//! and the lowest page that breaks it.
 //!
 //! It stands on `binder` for what a statement means, on `table_scan`, `statement_rows`, `index_building` and `stored_catalog` for what
 //! it does to pages, on `mdc_table` for the count of a table's blocks, on `row_checks` and `unique_keys` for what is said against its

@@ -13,6 +13,7 @@ ghost use Rattle.statement_rows.specs.RowsOfStatement.{AnyPage};
 ghost use Rattle.script_engine.specs.Breaking.{NamesExactly};
 ghost use Rattle.script_engine.specs.Fetching.{FetchesForListing};
 ghost use Rattle.script_engine.specs.Listing.{TellsBlocks, blocks_told, is_listing};
+ghost use Rattle.script_engine.specs.OnAnyPages.{ExecutesOnAny, IsGoingEngine};
 ghost use Rattle.script_engine.specs.Ready.{AreServed, BreaksDatabase, IsReady};
 ghost use Rattle.script_engine.specs.Serving.{MayCall};
 ghost use Rattle.script_engine.specs.Trying.{ListsAnew, ListsByPages};
@@ -73,6 +74,7 @@ impl<S: Store> Engine<S> {
     pub(crate) fn list_blocks(&mut self, name: &Name) -> Result<Outcome, EngineStop>
         requires may { MayCall S.Pages self.old }
         ensures executes { Executes S.Pages (Stmt.ListBlocks name.now) result self.old self.new }
+        ensures any { IsGoingEngine S.Pages self.old → ExecutesOnAny S.Pages (Stmt.ListBlocks name.now) result self.old self.new }
     {
         if !self.served {
             return Ok(Outcome::Refused(not_built(self.tables.alloc)));

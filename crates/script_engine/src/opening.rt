@@ -10,6 +10,7 @@ ghost use Rattle.mdc_sound.specs.SoundDatabase.{IsSoundDatabase};
 ghost use Rattle.stored_catalog.specs.StoredDefinitions.{AreStored, AreWithinLimits};
 ghost use Rattle.script_engine.specs.Breaking.{IsExactDamage};
 ghost use Rattle.script_engine.specs.NotedRooms.{AreForgotten};
+ghost use Rattle.script_engine.specs.OnAnyPages.{IsGoingEngine};
 ghost use Rattle.script_engine.specs.Opening.{IsSoundStore, KeepsPages};
 ghost use Rattle.statement_meaning.specs.Built.{are_built, is_built_place};
 ghost use Rattle.statement_meaning.specs.Session.{first_settings};
@@ -44,6 +45,7 @@ impl<S: Store> Engine<S> {
         requires unmarked { (S.state store).marked ≡ None }
         ensures may { IfOk result (λ engine. MayCall S.Pages engine) }
         ensures ready { IfOk result (λ engine. IsSoundStore S.Pages shape store → IsReadyEngine S.Pages engine) }
+        ensures opened { IfOk result (λ engine. (S.state store).base ≡ (S.state store).work → IsGoingEngine S.Pages engine) }
         ensures stored { IfOk result (λ engine. IsTrue (S.state store).is_told → AreStored (S.state store).work engine.tables.catalog) }
         ensures built { IfOk result (λ engine. IsServedByForms engine) }
         ensures closed { IfOk result (λ engine. engine.is_open ≡ false) }

@@ -1,17 +1,21 @@
 // Statements in transactions.
-ghost use Rattle.std.specs.Prelude.{◌≡◌, false, None, Ok};
+ghost use Rattle.std.specs.Prelude.{◌≡◌, false, Err, IsTrue, None, Ok, OnOk};
 ghost use Rattle.statement_meaning.specs.Session.{is_refusal};
+ghost use Rattle.store_api.specs.declared.fault.Damage.{Damage};
+ghost use Rattle.mdc_sound.specs.SoundDatabase.{IsSoundDatabase};
 ghost use Rattle.script_engine.specs.Breaking.{NamesExactly};
 ghost use Rattle.script_engine.specs.Held.{IsWritten};
 ghost use Rattle.script_engine.specs.Listing.{is_listing};
+ghost use Rattle.script_engine.specs.OnAnyPages.{ExecutesOnAny, IsGoingEngine};
 ghost use Rattle.script_engine.specs.Ready.{AreServed};
 ghost use Rattle.script_engine.specs.Reloading.{Reloads};
 ghost use Rattle.script_engine.specs.Serving.{MayCall};
 ghost use Rattle.script_engine.specs.Trying.{TriesStep};
 ghost use Rattle.script_engine.specs.Turns as turns;
-ghost use Rattle.script_engine.specs.Turns.{Executes};
+ghost use Rattle.script_engine.specs.Turns.{ComesUnready, Executes};
+ghost use Rattle.script_engine.specs.declared.stop.EngineStop.TheVariants as stop;
 
-use crate::committing::commit_work;
+use crate::committing::{WRONG_COUNT, commit_counted, commit_work, is_counted};
 use crate::damage::{load_exactly, try_exactly};
 use crate::engine::Engine;
 use crate::executing::execute;
@@ -20,6 +24,7 @@ use crate::opening::are_served;
 use crate::stop::EngineStop;
 use crate::tables::Tables;
 use extent_map::SpaceFault;
+use file_check::{Verdict, check};
 use mdc_ast::{Outcome, Reply, Stmt};
 use row_checks::{file_full, not_built, not_in_state};
 use store_api::{Pages, Store};
@@ -82,6 +87,7 @@ impl<S: Store> Engine<S> {
         requires may { MayCall S.Pages self.old }
         requires written { IsWritten stmt.now }
         ensures executes { Executes S.Pages stmt.now result self.old self.new }
+        ensures any { IsGoingEngine S.Pages self.old → ExecutesOnAny S.Pages stmt.now result self.old self.new }
     {
         if let Some(name) = listed(stmt) {
             return self.list_blocks(name);
@@ -99,6 +105,7 @@ impl<S: Store> Engine<S> {
     fn begin(&mut self) -> Outcome
         requires may { MayCall S.Pages self.old }
         ensures executes { Executes S.Pages Stmt.Begin (Ok result) self.old self.new }
+        ensures any { IsGoingEngine S.Pages self.old → ExecutesOnAny S.Pages Stmt.Begin (Ok result) self.old self.new }
     {
         if self.is_open {
             return Outcome::Refused(not_in_state(self.tables.alloc));
@@ -112,6 +119,7 @@ impl<S: Store> Engine<S> {
     fn commit(&mut self) -> Result<Outcome, EngineStop>
         requires may { MayCall S.Pages self.old }
         ensures executes { Executes S.Pages Stmt.Commit result self.old self.new }
+        ensures any { IsGoingEngine S.Pages self.old → ExecutesOnAny S.Pages Stmt.Commit result self.old self.new }
     {
         if !self.is_open {
             return Ok(Outcome::Refused(not_in_state(self.tables.alloc)));
@@ -126,6 +134,7 @@ impl<S: Store> Engine<S> {
     fn roll_back(&mut self) -> Result<Outcome, EngineStop>
         requires may { MayCall S.Pages self.old }
         ensures executes { Executes S.Pages Stmt.Rollback result self.old self.new }
+        ensures any { IsGoingEngine S.Pages self.old → ExecutesOnAny S.Pages Stmt.Rollback result self.old self.new }
     {
         if !self.is_open {
             return Ok(Outcome::Refused(not_in_state(self.tables.alloc)));
@@ -136,13 +145,14 @@ impl<S: Store> Engine<S> {
     }
 
     /// Any other statement. Its change is committed where no transaction is open.
-    #[tactic(auto, using(crate::proofs::LeavingLemmas::leaves_still, crate::proofs::TurnsLemmas::opened_other, crate::proofs::FetchesForQueryLemmas::fetches_none))]
+    #[tactic(auto, using(crate::proofs::LeavingLemmas::leaves_still, crate::proofs::FetchesForQueryLemmas::fetches_none))]
     fn change(&mut self, stmt: &Stmt) -> Result<Outcome, EngineStop>
         requires may { MayCall S.Pages self.old }
         requires written { IsWritten stmt.now }
         requires other { turns.control_of stmt.now ≡ Control.Other }
         requires changing { is_listing stmt.now ≡ false }
         ensures executes { Executes S.Pages stmt.now result self.old self.new }
+        ensures any { IsGoingEngine S.Pages self.old → ExecutesOnAny S.Pages stmt.now result self.old self.new }
     {
         if !self.served {
             return Ok(Outcome::Refused(not_built(self.tables.alloc)));
@@ -154,8 +164,52 @@ impl<S: Store> Engine<S> {
         if is_refused(&outcome) {
             return Ok(outcome);
         }
-        commit_work(&self.tables, &mut self.store)?;
+        if !is_counted(&mut self.store)? {
+            return self.change_anew(stmt);
+        }
+        commit_counted(&mut self.store)?;
         Ok(outcome)
+    }
+
+    /// The same of a statement behind which page 0 doesn't state how many pages there are. Goes back to the pages of the last commit,
+    /// and judges them. Where they are sound, what was kept of them in memory wasn't theirs: the statement is tried once more by what
+    /// is read of them anew. Of told pages page 0 then states the count.
+    fn change_anew(&mut self, stmt: &Stmt) -> Result<Outcome, EngineStop>
+        requires going { (S.state self.old.store).ended ≡ false }
+        requires written { IsWritten stmt.now }
+        requires other { turns.control_of stmt.now ≡ Control.Other }
+        requires changing { is_listing stmt.now ≡ false }
+        ensures executes { (first : Engine S) → ComesUnready S.Pages first self.old → Executes S.Pages stmt.now result first self.new }
+        ensures any { (first : Engine S) → ComesUnready S.Pages first self.old → IsGoingEngine S.Pages first → ExecutesOnAny S.Pages stmt.now result first self.new }
+    {
+        self.served = go_back_to_sound(&mut self.tables, &mut self.store)?;
+        if !self.served {
+            return Ok(Outcome::Refused(not_built(self.tables.alloc)));
+        }
+        let outcome = try_statement(&mut self.tables, &mut self.store, stmt)?;
+        if is_refused(&outcome) {
+            return Ok(outcome);
+        }
+        if !is_counted(&mut self.store)? {
+            self.store.rollback();
+            return Err(EngineStop::Damaged(WRONG_COUNT));
+        }
+        commit_counted(&mut self.store)?;
+        Ok(outcome)
+    }
+}
+
+/// Goes back to the pages of the last commit, judges them, and answers whether their tables are of forms that are built.
+fn go_back_to_sound<S: Store>(tables: &mut Tables, store: &mut S) -> Result<bool, EngineStop>
+    requires going { (S.state store.old).ended ≡ false }
+    ensures reloads { Reloads S.Pages result store.old store.new tables.old tables.new }
+    ensures exact { NamesExactly S.Pages tables.old.shape result store.new }
+    ensures sound { OnOk result (IsTrue (S.state store.old).is_told → IsSoundDatabase tables.old.shape (S.state store.old).base) }
+{
+    let served = go_back(tables, store)?;
+    match check(tables.alloc, tables.shape, store)? {
+        Verdict::Broken(damage) => Err(EngineStop::Damaged(damage)),
+        Verdict::Sound => Ok(served),
     }
 }
 
@@ -163,6 +217,7 @@ impl<S: Store> Engine<S> {
 fn go_back<S: Store>(tables: &mut Tables, store: &mut S) -> Result<bool, EngineStop>
     requires going { (S.state store.old).ended ≡ false }
     ensures reloads { Reloads S.Pages result store.old store.new tables.old tables.new }
+    ensures damaged { (damage : Damage) → result ≡ Err (stop.Damaged damage) → IsTrue (S.state store.old).is_told → IsSoundDatabase tables.old.shape (S.state store.old).base → ⊥ }
     ensures exact { NamesExactly S.Pages tables.old.shape result store.new }
 {
     store.rollback();

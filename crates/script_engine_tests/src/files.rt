@@ -7,6 +7,7 @@ use crate::scripts::{AMPLE, run_on};
 use mdc_outside::{Host, MemHost};
 use page_store::{FileStore, make};
 use std::alloc::Global;
+use std::marker::Brand;
 use std::test::Fail;
 use store_api::{Damage, Pages};
 
@@ -23,7 +24,7 @@ fn opened<H: Host + Drop>(alloc: Global, mut host: H) -> Result<FileStore<H>, Fa
     ensures unmarked { IfOk result (λ store. (⟦<FileStore<H> as Pages>⟧.state store).marked ≡ None) }
 {
     host.attach("table", false)?;
-    match FileStore::open(alloc, host, 8) {
+    match FileStore::<H, Brand>::open(alloc, host, 8) {
         Ok(store) => Ok(store),
         Err(unopened) => Err(unopened.fault)?,
     }

@@ -1,28 +1,28 @@
 -- Runs of items over pages, one behind another.
-use Rattle.std.proofs.Common.{◌≡◌, ◌+◌, ◌≤◌, ℕ, zero, suc, List, [], ◌∷◌, ◌++◌, length, refl, sym, ◌∙◌, ap, subst, inl, inr, arith}
+use Rattle.std.proofs.Common.{◌≡◌, ◌+◌, ◌≤◌, ℕ, zero, suc, List, [], ◌∷◌, ◌++◌, length, length-append, refl, sym, ◌∙◌, ap, subst, inl, inr, arith}
 use Rattle.mdc_ast.specs.declared.reply.Outcome.{Outcome}
 use Rattle.mdc_ast.specs.Reading.{Item}
-use Rattle.store_api.specs.declared.shape.Shape.{Shape}
 use Rattle.script_engine.specs.Held.{HeldPages}
-use Rattle.script_engine.specs.Resting.{IsHeldWithin, RestsOnPages, held_behind}
+use Rattle.script_engine.specs.Resting.{IsHeldWithin, RestsBy, held_behind}
 use Rattle.script_engine.specs.Resting as resting
-use Rattle.script_session.specs.Going.{GoesOnPages, IsHeldIn, Stage, end_of, held_last, nothing, one, stage_after, still}
+use Rattle.script_session.specs.AnyStops.{IsHeldLast}
+use Rattle.script_session.specs.Going.{Goes, IsHeldIn, Stage, end_of, held_last, nothing, one, stage_after, still}
 
 -- ---- one behind another
 
 -- a run, and then another from where it ends
-pub goes_then : {shape : Shape} {held : HeldPages} {items more : List Item} {outcomes next : List Outcome} {stages others : List Stage} → GoesOnPages shape held items outcomes stages
-    → GoesOnPages shape (held_last held stages) more next others → GoesOnPages shape held (items ++ more) (outcomes ++ next) (stages ++ others)
+pub goes_then : {Met : HeldPages → Item → Outcome → Stage → Type 0} {held : HeldPages} {items more : List Item} {outcomes next : List Outcome} {stages others : List Stage} → Goes Met held items outcomes stages
+    → Goes Met (held_last held stages) more next others → Goes Met held (items ++ more) (outcomes ++ next) (stages ++ others)
 goes_then nothing goes = goes
 goes_then (one meets front) goes = one meets (goes_then front goes)
 
 -- each item has one outcome
-pub length-items : {shape : Shape} {held : HeldPages} {items : List Item} {outcomes : List Outcome} {stages : List Stage} → GoesOnPages shape held items outcomes stages → length items ≡ length outcomes
+pub length-items : {Met : HeldPages → Item → Outcome → Stage → Type 0} {held : HeldPages} {items : List Item} {outcomes : List Outcome} {stages : List Stage} → Goes Met held items outcomes stages → length items ≡ length outcomes
 length-items nothing = refl
 length-items (one meets goes) = omega (arith, length-items goes)
 
 -- and one stage
-pub length-stages : {shape : Shape} {held : HeldPages} {items : List Item} {outcomes : List Outcome} {stages : List Stage} → GoesOnPages shape held items outcomes stages → length stages ≡ length outcomes
+pub length-stages : {Met : HeldPages → Item → Outcome → Stage → Type 0} {held : HeldPages} {items : List Item} {outcomes : List Outcome} {stages : List Stage} → Goes Met held items outcomes stages → length stages ≡ length outcomes
 length-stages nothing = refl
 length-stages (one meets goes) = omega (arith, length-stages goes)
 
@@ -83,10 +83,23 @@ held_behind_stages held stages others n within is =
     (from_end (stage_last (still held) stages) others n within
     (subst (λ (last : HeldPages). IsHeldIn (stage_after (still last) others n) within) (sym (end_of-stage_last (still held) stages)) is))
 
+-- what is held last is held within the last stage
+last_in : (stage : Stage) (stages : List Stage) → IsHeldIn (stage_after stage stages (length stages)) (held_last (end_of stage) stages)
+last_in stage [] = end_in_stage stage
+last_in stage (next ∷ stages) = last_in next stages
+
+pub held_last_in : (held : HeldPages) (stages : List Stage) → IsHeldLast held stages (held_last held stages)
+held_last_in held stages = last_in (still held) stages
+
+-- what is held within the last stage behind others is held so behind all of these
+pub held_last_behind : (held : HeldPages) (stages others : List Stage) (within : HeldPages) → IsHeldLast (held_last held stages) others within → IsHeldLast held (stages ++ others) within
+held_last_behind held stages others within is =
+    subst (λ (n : ℕ). IsHeldIn (stage_after (still held) (stages ++ others) n) within) (sym (length-append stages others)) (held_behind_stages held stages others (length others) within is)
+
 -- ---- steps behind steps
 
 -- steps, and then others from where they end
-pub rests_then : {shape : Shape} {held : HeldPages} {rests more : List HeldPages} → RestsOnPages shape held rests → RestsOnPages shape (held_behind held rests) more → RestsOnPages shape held (rests ++ more)
+pub rests_then : {Once : HeldPages → HeldPages → Type 0} {held : HeldPages} {rests more : List HeldPages} → RestsBy Once held rests → RestsBy Once (held_behind held rests) more → RestsBy Once held (rests ++ more)
 rests_then resting.nothing more = more
 rests_then (resting.one step steps) more = resting.one step (rests_then steps more)
 

@@ -9,7 +9,7 @@ use Rattle.table_trees.specs.ToldPages.{PageList}
 use Rattle.mdc_sound.specs.StandsForDatabase.{PagesStandFor}
 use Rattle.script_engine.specs.Held.{HeldPages, StandsForSession}
 use Rattle.script_session.specs.Going.{IsHeldIn, Stage, held_last, stage_after, still}
-use Rattle.script_session.specs.Leaving.{AreKept}
+use Rattle.script_session.specs.Leaving.{AreKept, CommitsOnPages}
 use Rattle.script_session.specs.Lists.{GoesOnLists, IsKeptDatabase, session_at, session_last}
 use Rattle.script_session.proofs.ListsLemmas.{statement_meets}
 
@@ -51,7 +51,7 @@ pub record StandForKept (shape : Shape) (session : Session) (sessions : List Ses
 
 -- so the pages of the last commit do after so many items
 pub kept_stand : {shape : Shape} {held : HeldPages} {session : Session} {items : List Item} {outcomes : List Outcome} {stages : List Stage} {sessions : List Session} {in_hand : List Item} {pages : PageList} {n : ℕ}
-    → GoesOnLists shape held session items outcomes stages sessions → AreKept shape held stages in_hand pages n → StandForKept shape session sessions in_hand pages n
+    → GoesOnLists shape held session items outcomes stages sessions → AreKept (CommitsOnPages shape) held stages in_hand pages n → StandForKept shape session sessions in_hand pages n
 kept_stand {shape} {held} {session} {stages = stages} {sessions = sessions} {n = n} lists (AreKept.done few within is same) =
     let db = (session_at session sessions n).kept in
     let first : KeepsStage shape (still held) session = λ at at_is. subst (λ (h : HeldPages). PagesStandFor shape h.base session.kept) (sym at_is) (stands_first lists).kept in
@@ -60,10 +60,10 @@ kept_stand {shape} {held} {session} {stages = stages} {sessions = sessions} {n =
       kept = IsKeptDatabase.done (omega (arith, few, length-sessions lists)) refl;
       stand = subst (λ (p : PageList). PagesStandFor shape p db) (sym same) (keeps_at (still held) lists first n within is);
     }
-kept_stand {shape} {held} {session} {stages = stages} {sessions = sessions} lists (AreKept.stopped stmt outcome new in_hand count steps closed same saved) =
-    let met = statement_meets shape (held_last held stages) new stmt outcome (session_last session sessions) steps (stands_last lists) in
+kept_stand {shape} {held} {session} {stages = stages} {sessions = sessions} lists (AreKept.stopped stmt in_hand count commits) =
+    let met = statement_meets shape (held_last held stages) commits.new stmt commits.outcome (session_last session sessions) commits.steps (stands_last lists) in
     record {
       db = met.after.kept;
-      kept = IsKeptDatabase.stopped stmt outcome met.after in_hand (omega (arith, count, length-sessions lists)) met.meets (met.stands.is_open ∙ closed) refl;
-      stand = subst (λ (p : PageList). PagesStandFor shape p met.after.kept) (sym same) met.stands.kept;
+      kept = IsKeptDatabase.stopped stmt commits.outcome met.after in_hand (omega (arith, count, length-sessions lists)) met.meets (met.stands.is_open ∙ commits.closed) refl;
+      stand = subst (λ (p : PageList). PagesStandFor shape p met.after.kept) (sym commits.are) met.stands.kept;
     }

@@ -16,7 +16,7 @@ use Rattle.script_engine.specs.Listing.{PagesTell, TellsNumbers}
 use Rattle.script_engine.specs.Resting.{IsHeldWithin, RestsOnPages}
 use Rattle.script_engine.specs.Resting as resting
 use Rattle.script_session.proofs.GoingLemmas.{end_in_stage}
-use Rattle.script_session.specs.Going.{GoesOnPages, MeetsOnPages, Stage, end_of}
+use Rattle.script_session.specs.Going.{Goes, GoesOnPages, MeetsOnPages, Stage, end_of}
 use Rattle.script_session.specs.Lists.{GoesOnLists, MeetsOnLists, TurnsLists}
 
 -- what the pages tell are some numbers of blocks
@@ -84,8 +84,8 @@ stand_within {held = held} session (resting.one step steps) stands within (inr l
 
 pub goes_on_lists : (shape : Shape) (held : HeldPages) (items : List Item) (outcomes : List Outcome) (stages : List Stage) → GoesOnPages shape held items outcomes stages
     → (session : Session) → StandsForSession shape held session → (sessions : List Session) × GoesOnLists shape held session items outcomes stages sessions
-goes_on_lists shape held items outcomes stages GoesOnPages.nothing session stands = ([], GoesOnLists.nothing stands)
-goes_on_lists shape held items outcomes stages (GoesOnPages.one {stage = stage} {item = item} {outcome = outcome} {items = more} {outcomes = others} {stages = later} meets goes) session stands =
+goes_on_lists shape held items outcomes stages Goes.nothing session stands = ([], GoesOnLists.nothing stands)
+goes_on_lists shape held items outcomes stages (Goes.one {stage = stage} {item = item} {outcome = outcome} {items = more} {outcomes = others} {stages = later} meets goes) session stands =
     let met = item_meets shape held stage.met item outcome session meets.meets stands in
     let within = stand_within met.after meets.rests (stands_rested shape stage.met met.after met.stands) in
     let after = rested met.after (end_of stage).pass in

@@ -5,20 +5,20 @@ use Rattle.mdc_ast.specs.declared.reply.Outcome.{Outcome}
 use Rattle.mdc_ast.specs.Reading.{Item}
 use Rattle.statement_meaning.specs.Texts.{texts}
 use Rattle.store_api.specs.declared.pages.Pages.{Ghosts}
-use Rattle.store_api.specs.declared.shape.Shape.{Shape}
 use Rattle.script_engine.specs.Held.{HeldPages}
 use Rattle.script_engine.specs.Serving.{held_by}
 use Rattle.script_engine.specs.declared.engine.Engine.{Engine}
-use Rattle.script_session.specs.Going.{GoesOnPages, Stage, held_last, nothing}
-use Rattle.script_session.specs.Leaving.{AreKept, LeftByServing, done}
+use Rattle.script_session.specs.Going.{Goes, Stage, held_last, nothing}
+use Rattle.script_session.specs.Leaving.{AreKept, LeftBy, done}
 use Rattle.script_session.specs.Turning.{RunsItems}
+use Rattle.script_session.specs.Ways.{Way}
 use Rattle.script_session.proofs.GoingLemmas.{goes_then, length-stages}
 use Rattle.script_session.proofs.LeftLemmas.{kept_then, left_then, left_wider}
 use Rattle.script_session.proofs.ToldLemmas.{takes_more, takes_nothing, told_behind}
 
-module _ {S : Type 0} (g : Ghosts S) where
+module _ {S : Type 0} (way : Way) (g : Ghosts S) where
   -- no item yet
-  pub runs_none : (engine : Engine S) → RunsItems g [] [] [] [] [] engine engine
+  pub runs_none : (engine : Engine S) → RunsItems way g [] [] [] [] [] engine engine
   runs_none engine = record {
     goes = nothing;
     told = takes_nothing (g.state engine.store).told;
@@ -28,19 +28,17 @@ module _ {S : Type 0} (g : Ghosts S) where
 
   -- a run of which all is told, and then another
   pub runs_then : {items more in_hand : List Item} {outcomes others : List Outcome} {stages following : List Stage} {said : List ℕ} {old mid new : Engine S}
-      → RunsItems g items [] outcomes stages (texts outcomes) old mid → held_by g mid ≡ held_last (held_by g old) stages → mid.tables.shape ≡ old.tables.shape
-      → RunsItems g more in_hand others following said mid new → RunsItems g (items ++ more) in_hand (outcomes ++ others) (stages ++ following) (texts outcomes ++ said) old new
-  runs_then {more = more} {in_hand = in_hand} {outcomes = outcomes} {others = others} {stages = stages} {following = following} {said = said} {old = old} {mid = mid} {new = new} first held shape second =
-      let goes = subst (λ (h : HeldPages). GoesOnPages mid.tables.shape h more others following) held second.goes in
-      let kept = subst (λ (h : HeldPages). AreKept mid.tables.shape h following in_hand (g.state new.store).base second.base.0) held second.base.1 in
+      → RunsItems way g items [] outcomes stages (texts outcomes) old mid → held_by g mid ≡ held_last (held_by g old) stages
+      → RunsItems way g more in_hand others following said mid new → RunsItems way g (items ++ more) in_hand (outcomes ++ others) (stages ++ following) (texts outcomes ++ said) old new
+  runs_then {more = more} {in_hand = in_hand} {outcomes = outcomes} {others = others} {stages = stages} {following = following} {said = said} {old = old} {mid = mid} {new = new} first held second =
+      let kept = subst (λ (h : HeldPages). AreKept way.Stopped h following in_hand (g.state new.store).base second.base.0) held second.base.1 in
       record {
-        goes = goes_then first.goes (subst (λ (s : Shape). GoesOnPages s (held_last (held_by g old) stages) more others following) shape goes);
+        goes = goes_then first.goes (subst (λ (h : HeldPages). Goes way.Met h more others following) held second.goes);
         told = takes_more (g.state old.store).told (g.state mid.store).told (g.state new.store).told (texts outcomes) said first.told second.told;
-        base = (length stages + second.base.0, kept_then stages (subst (λ (s : Shape). AreKept s (held_last (held_by g old) stages) following in_hand (g.state new.store).base second.base.0) shape kept));
+        base = (length stages + second.base.0, kept_then stages kept);
         time = λ before told.
             over_time_then (over_time_wider (first.time before told) (λ left said is. left_wider following others in_hand is))
             (over_time_wider (second.time (before ++ texts outcomes) (told_behind (g.state old.store).told (g.state mid.store).told (texts outcomes) before told first.told))
             (λ left said is. left_then stages outcomes (length-stages first.goes)
-            (subst (λ (s : Shape). LeftByServing s (held_last (held_by g old) stages) following others in_hand (before ++ texts outcomes) left said) shape
-            (subst (λ (h : HeldPages). LeftByServing mid.tables.shape h following others in_hand (before ++ texts outcomes) left said) held is))));
+            (subst (λ (h : HeldPages). LeftBy way.Left way.Stopped h following others in_hand (before ++ texts outcomes) left said) held is)));
       }

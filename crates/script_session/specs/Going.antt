@@ -45,10 +45,14 @@ pub record MeetsItem (shape : Shape) (old : HeldPages) (item : Item) (outcome : 
   pub rests : RestsOnPages shape stage.met stage.rests
 
 -- The items have these outcomes, and are met in these stages, each from the end of the one before.
-pub data GoesOnPages (shape : Shape) : HeldPages → List Item → List Outcome → List Stage → Type 0 where
-  nothing : {held : HeldPages} → GoesOnPages shape held [] [] []
+pub data Goes (Met : HeldPages → Item → Outcome → Stage → Type 0) : HeldPages → List Item → List Outcome → List Stage → Type 0 where
+  nothing : {held : HeldPages} → Goes Met held [] [] []
   one : {held : HeldPages} {stage : Stage} {item : Item} {outcome : Outcome} {items : List Item} {outcomes : List Outcome} {stages : List Stage}
-      → MeetsItem shape held item outcome stage → GoesOnPages shape (end_of stage) items outcomes stages → GoesOnPages shape held (item ∷ items) (outcome ∷ outcomes) (stage ∷ stages)
+      → Met held item outcome stage → Goes Met (end_of stage) items outcomes stages → Goes Met held (item ∷ items) (outcome ∷ outcomes) (stage ∷ stages)
+
+-- so they go over sound pages
+abbrev pub GoesOnPages : Shape → HeldPages → List Item → List Outcome → List Stage → Type 0
+GoesOnPages shape = Goes (MeetsItem shape)
 
 -- the stage after so many items, or after the last one
 abbrev pub stage_after : Stage → List Stage → ℕ → Stage

@@ -5,14 +5,16 @@ ghost use Rattle.mdc_words.specs.Time.{OverTime};
 ghost use Rattle.statement_meaning.specs.Texts.{outcome_text};
 ghost use Rattle.store_api.specs.Calls.{Tells, TellsPart};
 ghost use Rattle.store_api.specs.Moments.{BaseWithFront};
+ghost use Rattle.store_api.specs.Works.{Rests};
 ghost use Rattle.script_engine.specs.Serving.{IsReadyEngine, MayCall, held_by};
 ghost use Rattle.script_session.specs.Answering.{AnswersItem};
 ghost use Rattle.script_session.specs.Written.{IsReadWritten};
+ghost use Rattle.sql_reader.specs.Item.{item_of};
 
 use crate::stop::SessionStop;
 use answer_text::outcome_bytes;
 use mdc_ast::{Outcome, Reply};
-use script_engine::{Engine, EngineStop, sound_pages_stand};
+use script_engine::{Engine, EngineStop};
 use sql_reader::Read;
 use store_api::Store;
 
@@ -20,10 +22,8 @@ use store_api::Store;
 pub fn outcome_of<S: Store>(engine: &mut Engine<S>, read: Read) -> Result<Outcome, EngineStop>
     requires may { MayCall S.Pages engine.old }
     requires written { IsReadWritten read }
-    ensures answers { AnswersItem S.Pages read result engine.old engine.new }
+    ensures answers { AnswersItem S.Pages (item_of read) result engine.old engine.new }
 {
-    // The law that sound pages stand for a database: a statement, which turns each one that they stand for, turns one.
-    sound_pages_stand();
     match read {
         Read::Stmt(stmt) => engine.execute(stmt.get()),
         Read::Refused(refusal) => Ok(Outcome::Refused(refusal)),
@@ -48,6 +48,7 @@ pub fn tell_outcome<S: Store>(
     ensures unsaid { CountsFault (IsErrOf result SessionStop.Unsaid) (S.say_faults engine.old.store) (S.say_faults engine.new.store) }
     ensures disk_faults { S.disk_faults engine.new.store ≡ S.disk_faults engine.old.store }
     ensures time { OverTime S.clock S.left (BaseWithFront (outcome_text outcome.now) (S.state engine.old.store)) engine.old.store engine.new.store }
+    ensures rests { Rests S.Pages engine.old.store → Rests S.Pages engine.new.store }
 {
     // The lines of a query are told from where they stand.
     if let Outcome::Done(Reply::Lines(lines)) = outcome {

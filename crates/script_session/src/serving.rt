@@ -1,16 +1,16 @@
 // The statements of a script, answered one after another as they close.
-ghost use Rattle.std.specs.Prelude.{◌≡◌, ◌≤◌, IfSome, IsErrOf, Err};
+ghost use Rattle.std.specs.Prelude.{◌≡◌, ◌≤◌, IfSome, IsErrOf, Err, false};
 ghost use Rattle.mdc_words.specs.Faults.{CountsFault};
 ghost use Rattle.mdc_words.specs.Time.{OverTime};
 ghost use Rattle.statement_meaning.specs.Session.{is_refusal};
 ghost use Rattle.script_session.specs.Told.{TellsMore};
 ghost use Rattle.store_api.specs.declared.fault.Damage.{Damage};
+ghost use Rattle.store_api.specs.Works.{Rests};
+ghost use Rattle.script_engine.specs.OnAnyPages.{IsGoingEngine};
 ghost use Rattle.script_engine.specs.Serving.{IsReadyEngine, MayCall};
-ghost use Rattle.script_session.specs.Damaged.{BreaksAtStop};
-ghost use Rattle.script_session.specs.Replying.{RepliesTo};
 ghost use Rattle.script_session.specs.ScriptLaws.{ScriptLaws};
 ghost use Rattle.script_session.specs.Leaving.{ReopensAlways};
-ghost use Rattle.script_session.specs.Serving.{RunsScript, TakesScript};
+ghost use Rattle.script_session.specs.Serving.{RunsOnAny, RunsScript, TakesScript};
 ghost use Rattle.script_session.specs.Turning.{TurnsItem};
 ghost use Rattle.script_session.specs.Written.{IsReadWritten};
 ghost use Rattle.sql_reader.specs.Item.{item_of};
@@ -33,21 +33,21 @@ pub fn serve<I: Source, S: Store>(
 ) -> Result<Served, SessionStop>
     requires may { MayCall S.Pages engine.old }
     ensures runs { IsReadyEngine S.Pages engine.old → RunsScript S.Pages (I.left input.old) (I.left input.new) engine.old engine.new result }
+    // Whatever the pages are: one run of the script's items, each of which does to them what its statement may, and damage that is
+    // that of the pages that were held.
+    ensures any { IsGoingEngine S.Pages engine.old → RunsOnAny S.Pages (I.left input.old) (I.left input.new) engine.old engine.new result }
     ensures reads { CountsFault (IsErrOf result SessionStop.Unread) (I.read_faults input.old) (I.read_faults input.new) }
     ensures unsaid { CountsFault (IsErrOf result SessionStop.Unsaid) (S.say_faults engine.old.store) (S.say_faults engine.new.store) }
     ensures device { CountsFault (IsErrOf result SessionStop.Device) (S.disk_faults engine.old.store) (S.disk_faults engine.new.store) }
     ensures damaged { (damage : Damage) → result ≡ Err (SessionStop.Damaged damage) → IsReadyEngine S.Pages engine.old → ⊥ }
-    // Damage is that of the pages that are held behind the items that were answered.
-    ensures breaks { (damage : Damage) → result ≡ Err (SessionStop.Damaged damage) → (replies : RepliesTo (I.left input.old) (I.left input.new) (S.state engine.old.store).told (S.state engine.new.store).told result)
-        × BreaksAtStop S.Pages replies.items engine.old engine.new damage }
     ensures beside { (S.state engine.new.store).beside ≡ (S.state engine.old.store).beside }
     ensures is_told { (S.state engine.new.store).is_told ≡ (S.state engine.old.store).is_told }
     ensures takes { IfSome (I.left input.old) (λ script. TakesScript script (I.left input.new) result) }
     ensures tells { TellsMore (S.state engine.old.store).told (S.state engine.new.store).told }
-    // Whatever the pages are, the texts of outcomes are told, by which the run ends.
-    ensures replies { RepliesTo (I.left input.old) (I.left input.new) (S.state engine.old.store).told (S.state engine.new.store).told result }
-    // Whatever the pages are, a crash leaves a file that reopens.
+    // And a crash leaves a file that reopens, which behind a run is that of the pages of the last commit, unless the disk failed.
     ensures reopens { OverTime S.clock S.left ReopensAlways engine.old.store engine.new.store }
+    ensures going { IsGoingEngine S.Pages engine.old → (IsErrOf result SessionStop.Device → ⊥) → (S.state engine.new.store).ended ≡ false }
+    ensures rests { Rests S.Pages engine.old.store → Rests S.Pages engine.new.store }
     ensures later { S.clock engine.old.store ≤ S.clock engine.new.store }
 {
     script_laws();

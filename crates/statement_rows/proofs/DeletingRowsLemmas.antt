@@ -23,7 +23,7 @@ use Rattle.mdc_sound.specs.TableRows.{PlacedRow}
 use Rattle.block_rows.specs.HeldRows.{placed_row}
 use Rattle.block_rows.specs.declared.hit.Hit.{Hit}
 use Rattle.table_blocks.specs.BlockSteps.{HasThisRow}
-use Rattle.cell_change.specs.RowChanges.{DeletesRow, row_in_place}
+use Rattle.cell_change.specs.RowChanges.{DeletesRow, placed_at}
 use Rattle.cell_change.proofs.ChangeRunsLemmas.{in_space}
 use Rattle.cell_change.proofs.TableStepsLemmas.{takes_no_block}
 use Rattle.statement_rows.specs.RowsAndSpace.{TakesRowsBy}
@@ -63,7 +63,7 @@ module _ {S : Type 0} (g : Ghosts S) where
       → MakesChanges shape (pages_of g old) (left_by g shape old def rid row owners forests this) (pages_of g new) → Works g old new → Touches g (IsTableOrMapPage g shape old def) old new
       → IsSoundBetweenChanges shape def (pages_of g new)
       → ((db : Database) → PagesStandFor shape (with_table_page def (pages_of g old)) db → PagesStandFor shape (with_table_page def (pages_of g new)) (changed_at db def.number (without_row row.number)))
-      → ChangesRowsOf g shape before now room_now old new def def owners forests (TakesBefore def (row_in_place rid row)) (without_row row.number)
+      → ChangesRowsOf g shape before now room_now old new def def owners forests (TakesBefore def (placed_at rid row)) (without_row row.number)
   one_deleted shape before now room_of room_now old new def row rid owners forests ready this deletes makes works touches sound stands_for = record {
     owners_now = deletes.owners_now;
     forests_now = deletes.forests_now;

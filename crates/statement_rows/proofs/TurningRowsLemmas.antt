@@ -22,7 +22,7 @@ use Rattle.mdc_sound.specs.SoundDatabase.{IsSoundBetweenChanges, with_table_page
 use Rattle.mdc_sound.specs.StandingTable.{IsTableSpace, RoomNote, TableForests, pages_of, spots_of}
 use Rattle.mdc_sound.specs.StandsForDatabase.{PagesStandFor, with_row}
 use Rattle.mdc_sound.specs.TableRows.{PlacedRow}
-use Rattle.cell_change.specs.RowChanges.{ChangesOneRow, TurnsRowBy, row_in_place}
+use Rattle.cell_change.specs.RowChanges.{ChangesOneRow, TurnsRowBy, placed_at}
 use Rattle.cell_change.proofs.ChangedSpaceLemmas.{shows_spots}
 use Rattle.cell_change.proofs.TableStepsLemmas.{turns_no_block}
 use Rattle.statement_rows.specs.RowsAndSpace.{TurnsRowsBy}
@@ -55,7 +55,7 @@ updating_more more (UpdatingChanges.stuck free apart lies takes returns no_spot)
 
 -- the changes of one row go before those of the rows behind it
 updating_behind : (def : TableDef) (n : ℕ) (old next : List Spot) (rid : Rid) (row other : Row) (first : List SpaceChange) → TurnsRowBy def n old rid row other next first
-    → (rows : List (PlacedRow × Row)) (changes : List SpaceChange) → UpdatingChanges def n next rows changes → UpdatingChanges def n old ((row_in_place rid row, other) ∷ rows) (first ++ changes)
+    → (rows : List (PlacedRow × Row)) (changes : List SpaceChange) → UpdatingChanges def n next rows changes → UpdatingChanges def n old ((placed_at rid row, other) ∷ rows) (first ++ changes)
 updating_behind def n old next rid row other _ (TurnsRowBy.stays cell turns claims) rows changes more = UpdatingChanges.stays cell turns claims more
 updating_behind def n old next rid row other _ (TurnsRowBy.moves free apart lies takes returns puts claims) rows changes more = UpdatingChanges.moves free apart lies takes returns puts claims more
 

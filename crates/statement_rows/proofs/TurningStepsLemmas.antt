@@ -22,7 +22,7 @@ use Rattle.mdc_sound.specs.StandsForDatabase.{PagesStandFor, with_row}
 use Rattle.mdc_table.specs.KnownBlocks.{IsExpectedSpace}
 use Rattle.table_blocks.specs.BlockSteps.{HasThisRow}
 use Rattle.cell_change.specs.ExpectedTables.{WithSoundIndexes}
-use Rattle.cell_change.specs.RowChanges.{ChangesOneRow, row_in_place}
+use Rattle.cell_change.specs.RowChanges.{ChangesOneRow, placed_at}
 use Rattle.cell_change.proofs.OneTableLemmas.{touches_of_expected}
 use Rattle.cell_change.proofs.RowChangesLemmas.{indexes_here}
 use Rattle.cell_change.proofs.ChangedRowLemmas.{full_as}
@@ -104,7 +104,7 @@ module _ {S : Type 0} (g : Ghosts S) (shape : Shape) (before : SpaceNotes) (room
     -- it runs full
     pub full_at_one : (fault : SpaceFault)
         → IfFull fault (λ cap. (cap ≡ shape.extents) × ((owners : List Kind) (forests : TableForests) → IsReadyTable g shape noted room_now s def owners forests → HasThisRow g shape s def one.hit.rid one.hit.row owners forests
-        → UpdateRunsFull shape (pages_of g s) def ((row_in_place one.hit.rid one.hit.row, one.row) ∷ [])))
+        → UpdateRunsFull shape (pages_of g s) def ((placed_at one.hit.rid one.hit.row, one.row) ∷ [])))
         → IfFull fault (λ cap. (cap ≡ shape.extents) × ((owners : List Kind) (forests : TableForests) → IsReadyBetween g shape before room_of old def owners forests → HasAll owners forests
         → UpdateRunsFull shape (pages_of g old) def (map turned_row all)))
     full_at_one fault = full_as fault _ _ (λ cap is. (

@@ -1,5 +1,5 @@
 -- Blocks and trees of one place that are given back change nothing around it.
-use Rattle.std.proofs.Common.{◌≡◌, ◌≢◌, ℕ, List, [], ◌∷◌, Some, length, sum_by, ap, arith, sym, ◌∙◌, inl, inr}
+use Rattle.std.proofs.Common.{◌≡◌, ◌≢◌, ℕ, List, [], ◌∷◌, length, sum_by, ap, arith, sym, ◌∙◌, inl, inr}
 use Rattle.std.specs.Prelude.{Contains, IsTrue}
 use Rattle.std.specs.List.{AllZip}
 use Rattle.std.proofs.lemmas.Bool.{cases_lt}
@@ -9,15 +9,14 @@ use Rattle.store_api.specs.declared.shape.Shape.{Shape}
 use Rattle.store_api.proofs.FrameLemmas.{touches_wider}
 use Rattle.extent_map.specs.Map.{IsMapPage}
 use Rattle.extent_map.specs.Owners.{owner_of}
-use Rattle.extent_map.specs.declared.kind.Kind.{Kind}
-use Rattle.extent_map.specs.declared.kind.Kind.TheVariants.{Free, Block, Index}
+use Rattle.extent_map.specs.declared.kind.Kind.TheVariants.{Block}
 use Rattle.extent_map.specs.declared.space_notes.SpaceNotes.{SpaceNotes}
 use Rattle.entry_tree.specs.Forest.{Forest, times}
 use Rattle.entry_tree.specs.Pruning.{without_pages}
 use Rattle.table_trees.specs.TableTrees.{TreePlace}
 use Rattle.table_trees.specs.ToldPages.{HasTree}
 use Rattle.table_trees.specs.TreesBeside.{HoldsTreeAt, KeepsOwners, StandTrees, table_of_block}
-use Rattle.table_trees.proofs.KeptOwnersLemmas.{keeps_returns}
+use Rattle.table_trees.proofs.KeptOwnersLemmas.{block_of_table, keeps_returns}
 use Rattle.table_trees.proofs.ToldPagesLemmas.{map_of_told, told_of_map, told_of_tree, tree_of_told}
 use Rattle.mdc_sound.specs.SpaceRules.{DatabaseView}
 use Rattle.mdc_sound.specs.StandingTable.{pages_of}
@@ -26,12 +25,6 @@ use Rattle.stored_catalog.specs.AroundTable.{HasNoBlocks, StandsBut}
 use Rattle.stored_catalog.specs.TreeRuns.{FreesTrees, GivesBlocks, without_blocks}
 use Rattle.stored_catalog.proofs.AroundTableLemmas.{ChangesAround, root_still, touched_listed}
 use Rattle.stored_catalog.proofs.GivenBlocksLemmas.{block_before, owner_without, trees_after_giving, used_before, used_still}
-
--- a block of a table, by the table of its kind
-is_block : (kind : Kind) (u : ℕ) → table_of_block kind ≡ Some u → kind ≡ Block u
-is_block Free u is = absurd (cc)
-is_block (Block t) u is = let same : t ≡ u = cc in ap Block same
-is_block (Index used) u is = absurd (cc)
 
 module _ {S : Type 0} (g : Ghosts S) (s : S) (told : IsTrue (g.state s).is_told) where
   trees_of_list : (places : List TreePlace) (trees : List Forest) → AllZip (HasTree (pages_of g s)) places trees → AllZip (HoldsTreeAt g s) places trees
@@ -89,14 +82,18 @@ module _ {S : Type 0} (g : Ghosts S) (shape : Shape) (old new : S) (view : Datab
   freed_keeps : {before noted : SpaceNotes} (freed : FreesTrees g shape before noted new view.owners trees) → KeepsOwners shape view.owners trees (without_pages shape view.owners freed.given) []
   freed_keeps freed = keeps_returns shape view.owners freed.given trees [] beside.map.count (λ p l. (beside.used p l).page) (λ p. omega (arith, freed.counts p))
 
+  -- what is a block then was one
+  pub block_before_freeing : {before noted : SpaceNotes} (freed : FreesTrees g shape before noted new view.owners trees) (e u : ℕ) → owner_of (without_pages shape view.owners freed.given) e ≡ Block u → owner_of view.owners e ≡ Block u
+  block_before_freeing freed e u is = block_of_table _ u (sym ((freed_keeps freed).blocks e) ∙ ap table_of_block is)
+
   pub freed_around : {before noted : SpaceNotes} (freed : FreesTrees g shape before noted new view.owners trees)
       → ChangesAround shape (pages_of g old) (pages_of g new) view.owners t trees (without_pages shape view.owners freed.given) [] []
   freed_around freed = record {
     root = root_still g (IsMapPage shape) shape old new told st.root count touched off_root;
     extents = map_of_told g new (same ∙ told) shape (without_pages shape view.owners freed.given) freed.extents;
     held = tt;
-    others_blocks = λ e u apart is. is_block _ u ((freed_keeps freed).blocks e ∙ ap table_of_block is);
-    no_others_blocks = λ e u apart is. is_block _ u (sym ((freed_keeps freed).blocks e) ∙ ap table_of_block is);
+    others_blocks = λ e u apart is. block_of_table _ u ((freed_keeps freed).blocks e ∙ ap table_of_block is);
+    no_others_blocks = λ e u apart is. block_before_freeing freed e u is;
     others_pages = (freed_keeps freed).others;
     used_pages = (freed_keeps freed).used;
     used = λ p l. absurd (omega (arith, l));
@@ -107,4 +104,4 @@ module _ {S : Type 0} (g : Ghosts S) (shape : Shape) (old new : S) (view : Datab
 
   -- returns of index pages make no block
   pub no_blocks_freed : {before noted : SpaceNotes} (freed : FreesTrees g shape before noted new view.owners trees) → HasNoBlocks view.owners t → HasNoBlocks (without_pages shape view.owners freed.given) t
-  no_blocks_freed freed none e is = none e (is_block _ t (sym ((freed_keeps freed).blocks e) ∙ ap table_of_block is))
+  no_blocks_freed freed none e is = none e (block_before_freeing freed e t is)

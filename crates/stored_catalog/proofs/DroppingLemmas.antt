@@ -1,8 +1,9 @@
 -- A table less: its blocks and its trees are given back beside those of all others, and its table page of zeros closes the database.
-use Rattle.std.proofs.Common.{◌≡◌, ◌≢◌, ◌<◌, ◌+◌, ℕ, List, [], ◌∷◌, ◌++◌, Option, None, length, refl, ap, arith, sym, ◌∙◌, subst, inl, inr, get_or, get_or-set_same}
+use Rattle.std.proofs.Common.{◌≡◌, ◌≢◌, ◌<◌, ◌+◌, ℕ, List, [], ◌∷◌, ◌++◌, Option, Some, None, length, sum_by, ap, arith, sym, ◌∙◌, subst, inl, inr, get_or, get_or-set_other, get_or-set_same, length-set}
 use Rattle.std.proofs.lemmas.Bool.{cases_lt}
 use Rattle.std.proofs.lemmas.List.{get_or_past}
-use Rattle.std.specs.Prelude.{IsTrue}
+use Rattle.std.proofs.lemmas.Option.{same_Some}
+use Rattle.std.specs.Prelude.{IsTrue, slice_get}
 use Rattle.mdc_ast.specs.declared.definition.TableDef.{TableDef}
 use Rattle.mdc_ast.specs.Database.{Database, PlainTable, with_place}
 use Rattle.store_api.specs.Frame.{Touches}
@@ -10,11 +11,12 @@ use Rattle.store_api.specs.StoreState.{page_at, zero_page}
 use Rattle.store_api.specs.declared.pages.Pages.{Ghosts}
 use Rattle.store_api.specs.declared.shape.Shape.{Shape}
 use Rattle.extent_map.specs.Map.{IsMapPage}
-use Rattle.extent_map.specs.Owners.{owner_of}
+use Rattle.extent_map.specs.Owners.{IsExtentPage, IsUsedPage, owner_of}
 use Rattle.extent_map.specs.declared.kind.Kind.{Kind}
 use Rattle.extent_map.specs.declared.kind.Kind.TheVariants.{Free, Block}
 use Rattle.extent_map.specs.declared.space_notes.SpaceNotes.{SpaceNotes}
-use Rattle.entry_tree.specs.Forest.{Forest}
+use Rattle.extent_map.proofs.UsedPagesLemmas.{no_space_page}
+use Rattle.entry_tree.specs.Forest.{Forest, times}
 use Rattle.entry_tree.specs.Pruning.{without_pages}
 use Rattle.table_page.specs.TablePage.{IsTablePageOf, table_page}
 use Rattle.table_trees.specs.TableTrees.{tree_places}
@@ -27,16 +29,18 @@ use Rattle.mdc_sound.specs.StandsForDatabase.{HoldsPlace, PagesStandFor}
 use Rattle.mdc_sound.specs.TablePages.{DefinesTable, table_page_at}
 use Rattle.mdc_sound.specs.TableViews.{TableView, trees_of_table}
 use Rattle.mdc_sound.proofs.SpaceRulesLemmas.{there_at}
-use Rattle.mdc_sound.proofs.StandingTableLemmas.{number_of_place}
+use Rattle.mdc_sound.proofs.StandingTableLemmas.{map_of_rules, number_of_place}
 use Rattle.stored_catalog.specs.AroundTable.{HasNoBlocks, StandsBut, view_with, with_owners}
+use Rattle.stored_catalog.specs.GivenBack.{OnlyGivesBack}
 use Rattle.stored_catalog.specs.StoredDefinitions.{with_stored}
 use Rattle.stored_catalog.specs.TableSteps.{DropsTable}
 use Rattle.stored_catalog.specs.TreeRuns.{FreesTrees, GivesBlocks, IsDroppingPage, blocks_in_map, without_blocks}
-use Rattle.stored_catalog.proofs.AroundDroppingLemmas.{freed_around, given_around, no_blocks_freed, trees_beside}
+use Rattle.stored_catalog.proofs.AroundDroppingLemmas.{block_before_freeing, freed_around, given_around, no_blocks_freed, trees_beside}
 use Rattle.stored_catalog.proofs.AroundTableLemmas.{ChangesAround, around_kept, around_place_kept, page_around, page_written, stands_for_but}
 use Rattle.stored_catalog.proofs.BlocksInMapLemmas.{block_there, blocks_owned, no_blocks_left}
 use Rattle.stored_catalog.proofs.FreedTreesLemmas.{free_without_pages}
-use Rattle.stored_catalog.proofs.GivenBlocksLemmas.{owner_given}
+use Rattle.stored_catalog.proofs.GivenBackLemmas.{page_stays}
+use Rattle.stored_catalog.proofs.GivenBlocksLemmas.{block_before, free_stays, owner_given, used_before}
 use Rattle.stored_catalog.proofs.OpenedTableLemmas.{IsDefinedThere, closed_dropping, defined_there, opened_dropping}
 
 module _ {S : Type 0} (g : Ghosts S) (shape : Shape) (before mid noted : SpaceNotes) (old middle new : S) (t : ℕ) (def : TableDef) (told : IsTrue (g.state old).is_told) (low : t < 16)
@@ -108,15 +112,66 @@ module _ {S : Type 0} (g : Ghosts S) (shape : Shape) (before mid noted : SpaceNo
       let named = block_there shape view.owners table.def table.map e keeps.first.rule2.count map_sound own in
       free_without_pages shape owners_then freed.given e (owner_given view.owners (blocks_in_map table.map) e named)
 
+  -- what is free then was free, or was given back
+  free_last : (e : ℕ) → owner_of view.owners e ≡ Free → owner_of owners_last e ≡ Free
+  free_last e free = free_without_pages shape owners_then freed.given e (free_stays view.owners (blocks_in_map table.map) e free)
+
+  -- what is a block then was one
+  was_block : (e u : ℕ) → owner_of owners_last e ≡ Block u → owner_of view.owners e ≡ Block u
+  was_block e u is =
+      block_before view.owners (blocks_in_map table.map) e u
+      (block_before_freeing g shape middle new (with_owners view_at_first owners_then) t (tree_places def) trees (told_one ∙ told) stands_then count_two told_two touched_two freed e u is)
+
+  -- a page that is used then was used
+  was_used : (p : ℕ) → IsUsedPage shape owners_last p → IsUsedPage shape view.owners p
+  was_used p used = elim (around_two.used_pages p used) [
+    | inl none ↦ absurd (omega (arith, none))
+    | inr mid ↦ used_before shape view.owners (blocks_in_map table.map) p mid.0
+  ]
+
+  -- and not by a tree of the table
+  no_tree_left : (other : TableView) → slice_get view.places t ≡ Some (Some other) → (p : ℕ) → 0 < sum_by (times p) (trees_of_table other) → IsUsedPage shape owners_last p → ⊥
+  no_tree_left other at p some used =
+      let same : table ≡ other = same_Some table other (same_Some (Some table) (Some other) (sym there.there ∙ at)) in
+      elim (around_two.used_pages p used) [
+        | inl none ↦ omega (arith, none)
+        | inr mid ↦ omega (arith, mid.1, ap (λ (it : TableView). sum_by (times p) (trees_of_table it)) same, some)
+      ]
+
+  -- and no call touched it
+  page_last : (p : ℕ) → IsExtentPage shape p → page_at (with_stored (pages_of g new) t None) p ≡ page_at (pages_of g old) p
+  page_last p page =
+      get_or-set_other (pages_of g new) (1 + t) p zero_page [] (λ is. omega (arith, page.behind, is, low))
+      ∙ page_stays g (IsMapPage shape) middle new p (told_one ∙ told) touched_two count_two (λ on. no_space_page shape p page (inr on))
+      ∙ page_stays g (IsMapPage shape) old middle p told touched_one count_one (λ on. no_space_page shape p page (inr on))
+
   -- with zeros as its table page the place is empty
-  pub drops_table : (last : PageList) → last ≡ with_stored (pages_of g new) t None → DropsTable shape before noted last t view
+  sound_last : KeepAllRules shape (with_stored (pages_of g new) t None) (view_with view owners_last t None)
+  sound_last =
+      closed_dropping shape (pages_of g new) (view_with view owners_last t None) t stands_last
+      (no_blocks_freed g shape middle new (with_owners view_at_first owners_then) t (tree_places def) trees (told_one ∙ told) stands_then count_two told_two touched_two freed no_blocks)
+
+  -- and space was only given back
+  gives_last : OnlyGivesBack shape (pages_of g old) (with_stored (pages_of g new) t None)
+  gives_last = record {
+    owners = view.owners;
+    owners_now = owners_last;
+    held = map_of_rules shape (pages_of g old) view keeps.first;
+    held_now = map_of_rules shape (with_stored (pages_of g new) t None) (view_with view owners_last t None) sound_last.first;
+    used = λ p used. let was = was_used p used in (was, page_last p was.page);
+    free = free_last;
+    blocks = was_block;
+    count = length-set (pages_of g new) (1 + t) zero_page ∙ (count_two ∙ count_one);
+  }
+
+  pub drops_table : (last : PageList) → last ≡ with_stored (pages_of g new) t None → DropsTable shape before noted (pages_of g old) last t view
   drops_table last is = record {
     owners_now = owners_last;
-    sound = subst (λ pages. KeepAllRules shape pages (view_with view owners_last t None)) (sym is)
-        (closed_dropping shape (pages_of g new) (view_with view owners_last t None) t stands_last
-        (no_blocks_freed g shape middle new (with_owners view_at_first owners_then) t (tree_places def) trees (told_one ∙ told) stands_then count_two told_two touched_two freed no_blocks));
+    sound = subst (λ pages. KeepAllRules shape pages (view_with view owners_last t None)) (sym is) sound_last;
     notes = λ right. freed.notes (gave.notes right);
     freed = all_freed;
+    unused = no_tree_left;
+    gives = subst (OnlyGivesBack shape (pages_of g old)) (sym is) gives_last;
   }
 
   -- and each other place holds what it held
@@ -153,10 +208,7 @@ page_cleared old mid last t def defines count is =
 -- each other table page is as it was where only this one and those of the extent map were touched
 pub others_untouched : {S : Type 0} (g : Ghosts S) (shape : Shape) (old new : S) (t u : ℕ) → IsTrue (g.state old).is_told → Touches g (IsDroppingPage shape t) old new
     → length (g.state new).work ≡ length (g.state old).work → u < 16 → u ≢ t → table_page_at (pages_of g new) u ≡ table_page_at (pages_of g old) u
-others_untouched g shape old new t u told touched count few apart = elim (cases_lt (1 + u) (length (g.state old).work)) [
-  | inl within ↦ (touched.others (1 + u) (page_at (g.state old).work (1 + u)) off (record { is_told = told; within = within; bytes_are = refl })).bytes_are
-  | inr past ↦ get_or_past (g.state new).work (1 + u) [] (omega (arith, past, count)) ∙ sym (get_or_past (g.state old).work (1 + u) [] past)
-]
+others_untouched g shape old new t u told touched count few apart = page_stays g (IsDroppingPage shape t) old new (1 + u) told touched count off
   where
     off : IsDroppingPage shape t (1 + u) → ⊥
     off (inl same) = apart (omega (arith, same))

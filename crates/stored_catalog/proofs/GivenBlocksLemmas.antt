@@ -32,7 +32,7 @@ owner_other : (owners : List Kind) (e i : ℕ) → i ≢ e → owner_of (without
 owner_other owners e i other = get_or-set_other owners e i Free Free other
 
 -- what is free stays so
-free_stays : (owners : List Kind) (given : List ℕ) (e : ℕ) → owner_of owners e ≡ Free → owner_of (without_blocks owners given) e ≡ Free
+pub free_stays : (owners : List Kind) (given : List ℕ) (e : ℕ) → owner_of owners e ≡ Free → owner_of (without_blocks owners given) e ≡ Free
 free_stays owners [] e free = free
 free_stays owners (x ∷ given) e free = free_stays (without_block owners x) given e (elim (cases_eq e x) [
   | inl here ↦ ap (owner_of (without_block owners x)) here ∙ owner_here owners x

@@ -8,6 +8,7 @@ pub mod DroppingRunsLemmas
 pub mod EnteringLemmas
 pub mod FreedTreesLemmas
 pub mod FreeingRunsLemmas
+pub mod GivenBackLemmas
 pub mod GivenBlocksLemmas
 pub mod GivingRunsLemmas
 pub mod IndexNamesLemmas

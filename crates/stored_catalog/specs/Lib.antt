@@ -1,4 +1,5 @@
 pub mod AroundTable
+pub mod GivenBack
 pub mod NewTables
 pub mod StoredDefinitions
 pub mod TableSteps

@@ -32,9 +32,9 @@ use store_api::rules::BLOCK_MAPS_RULE;
 use store_api::{Damage, Pages, Shape, StoreFault};
 use table_trees::{block_index_tree, block_map_tree, record_tree};
 
-/// Drops the table in a place: its blocks and the pages of its trees are given back, and its table page is zeros. Rows aren't
-/// looked at. Damaged names a part of the table. After a fault the catalog is as it was, `undo` goes back to a mark, and the
-/// notes of the extents are to be forgotten.
+/// Drops the table in a place: its blocks and the pages of its trees are given back, no space is taken, and its table page is
+/// zeros. Rows aren't looked at. Damaged names a part of the table. After a fault the catalog is as it was, `undo` goes back to
+/// a mark, and the notes of the extents are to be forgotten.
 pub fn drop_table<P: Pages>(
     alloc: Global,
     catalog: &mut Catalog,
@@ -52,7 +52,7 @@ pub fn drop_table<P: Pages>(
     ensures limits { OnOk result (AreWithinLimits catalog.new) }
     ensures stored { OnOk result (IsTrue (P.state pages.old).is_told → AreStored (P.state pages.old).work catalog.old → AreStored (P.state pages.new).work catalog.new) }
     ensures drops { OnOk result (IsTrue (P.state pages.old).is_told → AreStored (P.state pages.old).work catalog.old → (view : DatabaseView) → KeepAllRules shape (P.state pages.old).work view
-        → DropsTable shape notes.old notes.new (P.state pages.new).work table view) }
+        → DropsTable shape notes.old notes.new (P.state pages.old).work (P.state pages.new).work table view) }
     ensures stands_for { OnOk result (IsTrue (P.state pages.old).is_told → AreStored (P.state pages.old).work catalog.old → (view : DatabaseView) → KeepAllRules shape (P.state pages.old).work view
         → (db : Database) → PagesStandFor shape (P.state pages.old).work db → PagesStandFor shape (P.state pages.new).work (with_place db table None)) }
     ensures count { length (P.state pages.new).work ≡ length (P.state pages.old).work }
@@ -81,7 +81,7 @@ fn unmake_table<P: Pages>(
     requires going { (P.state pages.old).ended ≡ false }
     ensures clears { OnOk result (IsTrue (P.state pages.old).is_told → DefinesTable (P.state pages.old).work table def.now → table_page_at (P.state pages.new).work table ≡ zero_page) }
     ensures drops { OnOk result (IsTrue (P.state pages.old).is_told → DefinesTable (P.state pages.old).work table def.now → (view : DatabaseView) → KeepAllRules shape (P.state pages.old).work view
-        → DropsTable shape notes.old notes.new (P.state pages.new).work table view) }
+        → DropsTable shape notes.old notes.new (P.state pages.old).work (P.state pages.new).work table view) }
     ensures stands_for { OnOk result (IsTrue (P.state pages.old).is_told → DefinesTable (P.state pages.old).work table def.now → (view : DatabaseView) → KeepAllRules shape (P.state pages.old).work view
         → (db : Database) → PagesStandFor shape (P.state pages.old).work db → PagesStandFor shape (P.state pages.new).work (with_place db table None)) }
     ensures count { length (P.state pages.new).work ≡ length (P.state pages.old).work }

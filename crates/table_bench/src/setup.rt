@@ -5,6 +5,7 @@ use crate::stop::Stop;
 use mdc_outside::Host;
 use page_store::FileStore;
 use std::alloc::Global;
+use std::marker::Brand;
 use store_api::{Pages, Shape};
 
 // How many clean pages a store keeps.
@@ -16,7 +17,7 @@ pub fn opened<H: Host + Drop>(alloc: Global, mut host: H, path: &str) -> Result<
     ensures unmarked { IfOk result (λ store. (⟦<FileStore<H> as Pages>⟧.state store).marked ≡ None) }
 {
     host.attach(path, false)?;
-    match FileStore::open(alloc, host, CACHE) {
+    match FileStore::<H, Brand>::open(alloc, host, CACHE) {
         Ok(store) => Ok(store),
         Err(unopened) => Err(Stop::Unopened(unopened.fault)),
     }

@@ -45,6 +45,12 @@ module _ {B : Type 0} (now : B → List Value) (test : List Value → Bool) wher
 
 -- ---- one index
 
+-- a row alone has no twin
+pub none_among_few : {B : Type 0} (now : B → List Value) (parts : List KeyPart) (rows : List B) → length rows < 2 → false ≡ have_twins parts (map now rows)
+none_among_few now parts [] few = refl
+none_among_few now parts (row ∷ []) few = refl
+none_among_few now parts (row ∷ other ∷ rows) few = absurd (omega (arith, few))
+
 module _ (parts : List KeyPart) (stay come : List (List Value)) (own : have_twins parts stay ≡ false) where
   -- two of the rows that come have equal keys
   pub clash_among : true ≡ have_twins parts come → have_twins parts (stay ++ come) ≡ true

@@ -11,7 +11,7 @@ use Rattle.mdc_ast.specs.Truth.{qualifies}
 use Rattle.mdc_ast.specs.declared.predicate.Pred.{Pred}
 use Rattle.mdc_sound.specs.TableRows.{PlacedRow}
 use Rattle.mdc_sound.proofs.ElementsLemmas.{each_in, from_map, in_map}
-use Rattle.row_entries.specs.SoundEntries.{LieApart}
+use Rattle.record_index.specs.SoundRows.{LieApart}
 use Rattle.unique_keys.specs.Clashes.{AreStaying}
 
 -- ---- those that pass a test

@@ -89,6 +89,10 @@ fn clashes_in<P: Pages>(
 fn are_twins_among(alloc: Global, parts: &[KeyPart], come: &[&List<Value>]) -> Result<bool, Memory>
     ensures { IfOk result (λ found. found ≡ spec.have_twins parts.now (map (λ values. values.now) come.now)) }
 {
+    // Most INSERTs bring one row.
+    if come.len() < 2 {
+        return Ok(false);
+    }
     let mut lent = Vec::with_capacity(alloc, come.len())?;
     for values in come {
         lent.push(values.as_slice())?;

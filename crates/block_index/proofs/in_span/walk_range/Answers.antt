@@ -5,10 +5,11 @@ use Rattle.entry_tree.specs.EntryBounds.{Bound}
 use Rattle.entry_tree.specs.Forest.{leaf_entries}
 use Rattle.entry_tree.specs.Reading.{entries_from}
 use Rattle.entry_tree.proofs.ReadLeafLemmas.{holds_still}
-use Rattle.block_index.specs.PartRanges.{blocks_in_range, entries_until}
+use Rattle.block_index.specs.PartRanges.{blocks_in_range, entries_until, walked}
 use Rattle.block_index.specs.Reading.{entries_left}
-use Rattle.block_index.proofs.PartRangesLemmas.{leaf_counted, leaf_ended, leaf_ended_counted, leaf_walked, long_entries, walked}
+use Rattle.block_index.proofs.PartRangesLemmas.{blocks_in_range-append, long_entries}
 use Rattle.block_index.proofs.ReadingRunsLemmas.{ReadsTree, reads_more}
+use Rattle.block_index.proofs.TakenLemmas.{leaf_counted, leaf_ended, leaf_ended_counted, leaf_walked}
 use Rattle.block_index.proofs.in_span.walk_range.Goals as goal
 
 pub returns-in_err-bound-clause-runs : goal.returns-in_err-bound-clause-runs
@@ -35,7 +36,7 @@ returns-then-branch-clause-blocks g c t h =
     let whole = c.in_ok-bound.ensures.read t (holds_still inv.runs.works.steady inv.same h) in
     let before : blocks_in_range range (walked c.args.tree.now.width range all) ≡ c.leaves.blocks.items ++ blocks_in_range range (entries_until range (entries_from c.bytes.result.now all)) =
     inv.taken t h ∙ ap (λ (b : Bound). c.leaves.blocks.items ++ blocks_in_range range (entries_until range (entries_left all b))) (c.in-Some.is ∙ ap Some (sym c.bytes.ensures)) in
-    leaf_ended range all given c.bytes.result.now c.in_ok-bound.bound c.leaves.blocks.items c.take_blocks.new.blocks.items whole c.in_ok-take_blocks.ensures.blocks (c.in_ok-take_blocks.ensures.ended c.if-branch.true (entries_left all c.in_ok-bound.bound)) ∙ sym before
+    leaf_ended (blocks_in_range range) range all given c.bytes.result.now c.in_ok-bound.bound c.leaves.blocks.items c.take_blocks.new.blocks.items whole c.in_ok-take_blocks.ensures.blocks (c.in_ok-take_blocks.ensures.ended c.if-branch.true (entries_left all c.in_ok-bound.bound)) ∙ sym before
 
 pub returns-then-branch-clause-counted : goal.returns-then-branch-clause-counted
 returns-then-branch-clause-counted g c t h =
@@ -49,7 +50,7 @@ returns-then-branch-clause-counted g c t h =
       inv.counted t h,
       ap (λ (b : Bound). length (entries_until range (entries_left all b))) (c.in-Some.is ∙ ap Some (sym c.bytes.ensures)),
       c.in_ok-take_blocks.ensures.counted,
-      leaf_ended_counted range all given c.bytes.result.now c.in_ok-bound.bound c.leaves.blocks.items c.take_blocks.new.blocks.items whole c.in_ok-take_blocks.ensures.blocks (c.in_ok-take_blocks.ensures.ended c.if-branch.true (entries_left all c.in_ok-bound.bound)),
+      leaf_ended_counted (blocks_in_range range) range all given c.bytes.result.now c.in_ok-bound.bound c.leaves.blocks.items c.take_blocks.new.blocks.items whole c.in_ok-take_blocks.ensures.blocks (c.in_ok-take_blocks.ensures.ended c.if-branch.true (entries_left all c.in_ok-bound.bound)),
     )
 
 pub returns-then-branch-clause-runs : goal.returns-then-branch-clause-runs
@@ -71,7 +72,7 @@ leaves-preserved g c =
           let all = leaf_entries t in
           let whole = c.in_ok-bound.ensures.read t (holds_still inv.runs.works.steady inv.same h) in
           inv.taken t h ∙ (ap (λ (b : Bound). c.leaves.blocks.items ++ blocks_in_range range (entries_until range (entries_left all b))) (c.in-Some.is ∙ ap Some (sym c.bytes.ensures))
-          ∙ leaf_walked range all given c.bytes.result.now c.in_ok-bound.bound c.leaves.blocks.items c.take_blocks.new.blocks.items whole c.in_ok-take_blocks.ensures.blocks (c.in_ok-take_blocks.ensures.goes_on c.if-branch.false (entries_left all c.in_ok-bound.bound)));
+          ∙ leaf_walked (blocks_in_range range) range all given c.bytes.result.now c.in_ok-bound.bound c.leaves.blocks.items c.take_blocks.new.blocks.items whole c.in_ok-take_blocks.ensures.blocks (c.in_ok-take_blocks.ensures.goes_on c.if-branch.false (entries_left all c.in_ok-bound.bound)) (blocks_in_range-append range));
       counted = λ t h.
           let all = leaf_entries t in
           let whole = c.in_ok-bound.ensures.read t (holds_still inv.runs.works.steady inv.same h) in
@@ -80,6 +81,6 @@ leaves-preserved g c =
             inv.counted t h,
             ap (λ (b : Bound). length (entries_until range (entries_left all b))) (c.in-Some.is ∙ ap Some (sym c.bytes.ensures)),
             c.in_ok-take_blocks.ensures.counted,
-            leaf_counted range all given c.bytes.result.now c.in_ok-bound.bound c.leaves.blocks.items c.take_blocks.new.blocks.items whole c.in_ok-take_blocks.ensures.blocks (c.in_ok-take_blocks.ensures.goes_on c.if-branch.false (entries_left all c.in_ok-bound.bound)),
+            leaf_counted (blocks_in_range range) range all given c.bytes.result.now c.in_ok-bound.bound c.leaves.blocks.items c.take_blocks.new.blocks.items whole c.in_ok-take_blocks.ensures.blocks (c.in_ok-take_blocks.ensures.goes_on c.if-branch.false (entries_left all c.in_ok-bound.bound)),
           );
     }

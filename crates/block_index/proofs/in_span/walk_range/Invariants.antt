@@ -2,9 +2,8 @@ use Rattle.std.proofs.Common.{◌≡◌, ◌+◌, ◌++◌, None, false, length}
 use Rattle.entry_tree.specs.Forest.{Forest, leaf_entries}
 use Rattle.entry_tree.specs.HeldTrees.{HoldsTree}
 use Rattle.entry_tree.specs.Reading.{BoundFits}
-use Rattle.block_index.specs.PartRanges.{blocks_in_range, entries_until}
+use Rattle.block_index.specs.PartRanges.{blocks_in_range, entries_until, walked}
 use Rattle.block_index.specs.Reading.{entries_left, room_above}
-use Rattle.block_index.proofs.PartRangesLemmas.{walked}
 use Rattle.block_index.proofs.ReadingRunsLemmas.{ReadsTree}
 use Rattle.block_index.proofs.in_span.walk_range.Given as goal
 

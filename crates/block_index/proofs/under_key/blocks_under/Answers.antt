@@ -7,7 +7,9 @@ use Rattle.entry_tree.specs.Forest.{leaf_entries}
 use Rattle.entry_tree.proofs.ReadLeafLemmas.{holds_still}
 use Rattle.block_index.specs.Reading.{FindsUnder}
 use Rattle.block_index.proofs.ReadingRunsLemmas.{ReadsTree, reads_more}
-use Rattle.block_index.proofs.UnderKeyLemmas.{blocks_below_all, blocks_below_most, blocks_below_next, blocks_below_none, last_put}
+use Rattle.block_index.proofs.NumberedLemmas.{numbers_below_next, numbers_below_none}
+use Rattle.block_index.proofs.RisingLemmas.{last_put}
+use Rattle.block_index.proofs.UnderKeyLemmas.{blocks_below_all, blocks_below_most}
 use Rattle.block_index.proofs.under_key.blocks_under.Goals as goal
 
 pub finding-init : goal.finding-init
@@ -15,7 +17,7 @@ finding-init g c = record {
   same = refl;
   going = c.requires.going;
   runs = runs_none;
-  so_far = λ t h. blocks_below_none c.args.key.now (leaf_entries t) c.new-blocks.result c.new-blocks.ensures;
+  so_far = λ t h. numbers_below_none 4 c.args.key.now (leaf_entries t) c.new-blocks.result c.new-blocks.ensures;
   behind = λ e l. subst (LastIsBefore IsLower e) (sym c.new-blocks.ensures) tt;
 }
 
@@ -49,7 +51,7 @@ pub returns-then-block-clause-listed : goal.returns-then-block-clause-listed
 returns-then-block-clause-listed g c t h =
     let inv = c.finding.invariant in
     blocks_below_most c.args.key.now (leaf_entries t) (c.in-Some.block + 1) c.push_block.new.blocks (omega (arith, c.if-block.true))
-    (blocks_below_next c.args.key.now (leaf_entries t) c.finding.from c.in-Some.block (c.in-Some.block + 1) c.finding.blocks c.push_block.new.blocks (omega arith) refl (inv.so_far t h)
+    (numbers_below_next 4 c.args.key.now (leaf_entries t) c.finding.from c.finding.blocks (inv.so_far t h) c.in-Some.block c.push_block.new.blocks (omega arith)
     (subst (FindsUnder c.args.key.now (leaf_entries t) c.finding.from) c.in-Some.is (c.in_ok-block.ensures.found t (holds_still inv.runs.works.steady inv.same h))) c.in_ok-push_block.ensures.pushed)
 
 pub returns-then-block-clause-runs : goal.returns-then-block-clause-runs
@@ -66,7 +68,7 @@ finding-preserved g c =
       going = c.in_ok-block.ensures.runs.works.steady.ended ∙ inv.going;
       runs = reads_more g.P.Pages c.args.tree.now c.args.pages.now c.finding.pages c.next_block.new.pages None inv.runs inv.same c.in_ok-block.ensures.runs;
       so_far = λ t h.
-          blocks_below_next c.args.key.now (leaf_entries t) c.finding.from c.in-Some.block (c.in-Some.block + 1) c.finding.blocks c.push_block.new.blocks (omega arith) refl (inv.so_far t h)
+          numbers_below_next 4 c.args.key.now (leaf_entries t) c.finding.from c.finding.blocks (inv.so_far t h) c.in-Some.block c.push_block.new.blocks (omega arith)
           (subst (FindsUnder c.args.key.now (leaf_entries t) c.finding.from) c.in-Some.is (c.in_ok-block.ensures.found t (holds_still inv.runs.works.steady inv.same h))) c.in_ok-push_block.ensures.pushed;
       behind = λ e l. subst (LastIsBefore IsLower e) (sym c.in_ok-push_block.ensures.pushed) (last_put c.finding.blocks c.in-Some.block e (omega (arith, l)));
     })

@@ -1,30 +1,9 @@
-use Rattle.std.proofs.Common.{◌≢◌, arith, length, subst, sym, take, ◌∙◌}
+use Rattle.std.proofs.Common.{subst}
 use Rattle.entry_tree.specs.Forest.{leaf_entries}
-use Rattle.entry_tree.specs.Reading.{BoundFits}
-use Rattle.block_index.proofs.ReadingRunsLemmas.{reads_broken}
-use Rattle.block_index.proofs.UnderKeyLemmas.{finds_block, finds_no_lower, finds_none, finds_other}
+use Rattle.block_index.specs.Numbered.{FindsNumber}
 use Rattle.block_index.proofs.under_key.next_block.Goals as goal
 
-pub entry_under-bound-requires : goal.entry_under-bound-requires
-entry_under-bound-requires g c = omega (arith, c.requires.width, c.args.tree.now.narrow)
-
-pub returns-in_default-clause-found : goal.returns-in_default-clause-found
-returns-in_default-clause-found g c t h =
-    finds_none c.args.key.now c.args.from (leaf_entries t) c.bytes.result.now c.in_ok-first.field-0 (omega (arith, c.ranges.from.fits)) (c.bytes.ensures ∙ c.entry_under-bound.ensures) (c.in_ok-first.ensures.first t h) c.in_default.is
-
-pub returns-in_default-block_under-clause-found : goal.returns-in_default-block_under-clause-found
-returns-in_default-block_under-clause-found g c t h =
-    finds_other c.args.key.now c.args.from (leaf_entries t) c.bytes.result.now c.in_ok-first.field-0 (omega (arith, c.ranges.from.fits)) (c.bytes.ensures ∙ c.entry_under-bound.ensures) (c.in_ok-first.ensures.first t h)
-    c.in-Some.first c.in-Some.is (subst (BoundFits c.args.tree.now.width) c.in-Some.is c.in_ok-first.ensures.width ∙ sym c.requires.width) (subst (λ v. take (length c.args.key.now) v ≢ c.args.key.now) c.bytes-2.ensures c.in_default-block_under.ensures.none)
-
-pub returns-then-block-from-clause-runs : goal.returns-then-block-from-clause-runs
-returns-then-block-from-clause-runs g c =
-    reads_broken g.P.Pages c.args.tree.now c.args.pages.now c.first_from.new.pages c.out_of_order.result c.out_of_order.ensures c.in_ok-first.ensures.runs
-    (λ t h.
-    finds_no_lower c.args.key.now c.args.from (leaf_entries t) c.bytes.result.now c.in_ok-first.field-0 (omega (arith, c.ranges.from.fits)) (c.bytes.ensures ∙ c.entry_under-bound.ensures) (c.in_ok-first.ensures.first t h)
-    c.in-Some.first c.in-Some.is c.in-Some-block_under.block (omega arith) (sym c.bytes-2.ensures ∙ c.in-Some-block_under.ensures.some) (omega (arith, c.if-block-from.true)))
-
-pub returns-clause-found : goal.returns-clause-found
-returns-clause-found g c t h =
-    finds_block c.args.key.now c.args.from (leaf_entries t) c.bytes.result.now c.in_ok-first.field-0 (omega (arith, c.ranges.from.fits)) (c.bytes.ensures ∙ c.entry_under-bound.ensures) (c.in_ok-first.ensures.first t h)
-    c.in-Some.first c.in-Some.is c.in-Some-block_under.block (omega arith) (sym c.bytes-2.ensures ∙ c.in-Some-block_under.ensures.some)
+pub returns-in-None-clause-found : goal.returns-in-None-clause-found
+returns-in-None-clause-found g c t h =
+    subst (FindsNumber 4 c.args.key.now (leaf_entries t) c.args.from) c.in-None.is
+    (subst (λ n. FindsNumber 4 c.args.key.now (leaf_entries t) n c.in_ok-block.field-0) c.from.ensures (c.in_ok-block.ensures.found t h))

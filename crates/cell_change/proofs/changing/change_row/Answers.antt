@@ -140,7 +140,7 @@ returns-clause-stands_for g c =
 
 pub returns-clause-seen : goal.returns-clause-seen
 returns-clause-seen g c =
-    IfOk-weaker c.put_row.result _ _ (λ to inserts told none apart. let row = c.in_ok-delete_row.ensures.seen told none apart in (row.0, row.1.slot)) c.put_row.ensures.inserts
+    IfOk-weaker c.put_row.result _ _ (λ to inserts told apart indexes. let row = c.in_ok-delete_row.ensures.seen told apart indexes in (row.0, row.1.slot)) c.put_row.ensures.inserts
 
 pub returns-clause-seen_kept : goal.returns-clause-seen_kept
 returns-clause-seen_kept g c = IfOk-weaker c.put_row.result _ _ (λ to inserts told cell. absurd (cells_apart g c cell)) c.put_row.ensures.inserts

@@ -1,4 +1,4 @@
-use Rattle.std.proofs.Common.{◌∙◌, subst}
+use Rattle.std.proofs.Common.{◌∙◌, inl, inr, subst}
 use Rattle.std.proofs.lemmas.Result.{IfOk-weaker, on_ok_weaker}
 use Rattle.store_api.proofs.FrameLemmas.{touches_wider}
 use Rattle.store_api.proofs.RunsOverPagesLemmas.{runs_exit}
@@ -12,7 +12,7 @@ use Rattle.block_rows.specs.SeenRows.{SeesSomeRow}
 use Rattle.table_blocks.specs.SeenSlots.{IsMapApart, SeesUsedSlot}
 use Rattle.cell_change.proofs.ChangeRunsLemmas.{in_space}
 use Rattle.cell_change.proofs.DeletingRowsLemmas.{blocks_left, deletes, deletes_anywhere, left_stays, ready_left, row_left, runs_leaving, runs_left, this_left}
-use Rattle.cell_change.proofs.SeenRowsLemmas.{apart_left, row_seen}
+use Rattle.cell_change.proofs.SeenRowsLemmas.{apart_beside, apart_left, row_seen, seen_beside}
 use Rattle.cell_change.proofs.SoundRowsLemmas.{sound_deleted}
 use Rattle.cell_change.proofs.StandsForRowLemmas.{database_deleted}
 use Rattle.cell_change.proofs.deleting.delete_row.Goals as goal
@@ -109,7 +109,19 @@ returns-clause-seen_standing g c =
 
 pub returns-clause-seen : goal.returns-clause-seen
 returns-clause-seen g c =
-    on_ok_weaker c.take_row.result (λ seen told none.
-    subst (λ s. IsMapApart g.P.Pages c.args.shape s c.args.def.now c.args.rid.block → SeesSomeRow (SeesUsedSlot g.P.Pages c.args.shape s c.args.def.now c.args.rid)) (c.leave_entries.ensures.none none)
-    (seen (c.in_ok-leave_entries.ensures.runs.works.steady.is_told ∙ told)))
+    on_ok_weaker c.take_row.result (λ seen told apart indexes.
+    let shape = c.args.shape in
+    let old = c.args.pages.now in
+    let middle = c.leave_entries.new.pages in
+    let def = c.args.def.now in
+    let rid = c.args.rid in
+    let runs = c.in_ok-leave_entries.ensures.runs in
+    let still = runs.works.steady.is_told in
+    elim indexes [
+      | inl none ↦ subst (λ s. IsMapApart g.P.Pages shape s def rid.block → SeesSomeRow (SeesUsedSlot g.P.Pages shape s def rid)) (c.leave_entries.ensures.none none) (seen (still ∙ told)) apart
+      | inr beside ↦
+          let touched = c.leave_entries.ensures.touches in
+          seen_beside g.P.Pages shape old middle def rid told still touched beside c.in_ok-leave_entries.ensures.count
+          (seen (still ∙ told) (apart_beside g.P.Pages shape old middle def rid told still touched beside apart))
+    ])
     c.take_row.ensures.seen

@@ -5,7 +5,7 @@ use Rattle.table_trees.specs.ToldPages.{PageList}
 use Rattle.mdc_sound.specs.RunningFull.{UpdateRunsFull}
 use Rattle.mdc_sound.specs.StandsForDatabase.{with_row}
 use Rattle.free_space.specs.RoomNotes.{room_of}
-use Rattle.cell_change.specs.RowChanges.{row_in_place}
+use Rattle.cell_change.specs.RowChanges.{placed_at}
 use Rattle.checked_table.proofs.EndingLemmas.{end_expected_change, end_unkept, full_back, whole_back}
 use Rattle.checked_table.proofs.ExactDamageLemmas.{answers_none}
 use Rattle.checked_table.proofs.MarkedChangesLemmas.{whole_kept}
@@ -48,7 +48,7 @@ returns-in-Err g c =
     let under = HasThisRow g.P.Pages shape marked def c.args.rid c.args.was.now in
     let ends = end_expected_change this under (λ owners forests has. row_there first has) c.begin_change.ensures c.in-Err.ensures.runs undone.undoes undone.device undone.forgets undone.exact
     c.requires.defined c.requires.place in
-    let RunsFull : PageList → Type 0 = λ work. UpdateRunsFull shape work def ((row_in_place c.args.rid c.args.was.now, c.args.is.now) ∷ []) in
+    let RunsFull : PageList → Type 0 = λ work. UpdateRunsFull shape work def ((placed_at c.args.rid c.args.was.now, c.args.is.now) ∷ []) in
     record {
       changes = tt;
       stay = tt;

@@ -1,5 +1,5 @@
 -- A run on the store that was opened, or a refusal.
-use Rattle.std.proofs.Common.{◌≡◌, ◌++◌, Err, List, Option, ap, inl, inr, refl, subst, sym, ℕ, ◌∙◌}
+use Rattle.std.proofs.Common.{◌++◌, Err, List, Option, ap, inl, inr, refl, subst, sym, ℕ, ◌∙◌}
 use Rattle.mdc_words.proofs.FaultsLemmas.{counts_fault_then}
 use Rattle.page_file.proofs.LeavesLemmas.{sound_image}
 use Rattle.page_store.proofs.Judged.{served_formed}
@@ -7,14 +7,11 @@ use Rattle.page_store.specs.Faults.{MayComeFirst}
 use Rattle.page_store.specs.Standing.{pages_in}
 use Rattle.script_session.specs.Told.{TellsMore}
 use Rattle.script_session.proofs.ToldLemmas.{same-tells_more, told_behind}
-use Rattle.file_session.specs.Breaking.{BreaksAtEnd}
-use Rattle.file_session.specs.Serving.{RepliesBySession}
-use Rattle.file_session.specs.declared.stop.FileStop.TheVariants as file
-use Rattle.file_session.proofs.BreaksLemmas.{damage_of_opening}
+use Rattle.file_session.proofs.AnyFileRunsLemmas.{any_refused_on_file, any_run_opened, any_served_on_file, any_unopened, tells_still}
 use Rattle.file_session.proofs.CausesLemmas.{cause_of_opening, cause_of_session, not_device}
-use Rattle.file_session.proofs.FirstEndsLemmas.{replies_unopened, takes_unopened}
+use Rattle.file_session.proofs.FirstEndsLemmas.{takes_unopened}
 use Rattle.file_session.proofs.FileRunsLemmas.{refused_on_file, run_on_file, stays_well}
-use Rattle.file_session.proofs.FormedRunsLemmas.{formed_after, formed_on_file, formed_refused}
+use Rattle.file_session.proofs.FormedRunsLemmas.{formed_after, formed_on_file, formed_refused, rests_or_before}
 use Rattle.file_verdict.proofs.RestingLemmas.{kept_beside, stays_file}
 use Rattle.file_verdict.proofs.SoundFilesLemmas.{states_standing}
 use Rattle.file_verdict.proofs.ToldLemmas.{test_by_told}
@@ -115,30 +112,18 @@ returns-in-Err-clause-left_alone g c = λ file is unserved. (
 pub returns-in-Err-clause-takes : goal.returns-in-Err-clause-takes
 returns-in-Err-clause-takes g c = takes_unopened (g.I.Source.left c.args.input.now) c.in-Err.field-0.fault c.stop_of_opening.result c.stop_of_opening.ensures
 
-pub returns-in-Ok-clause-replies : goal.returns-in-Ok-clause-replies
-returns-in-Ok-clause-replies g c =
-    let Replies : Option (List ℕ) → Type 0 =
-    λ tape. RepliesBySession (g.I.Source.left c.args.input.now) (g.I.Source.left c.serve_store.new.input) tape (g.H.Disk.beside c.serve_store.result.host).tape c.serve_store.result.end in
-    inr (subst Replies (ap (λ b. b.tape) c.in-Ok.ensures.opens.beside) c.serve_store.ensures.replies)
-
-pub returns-in-Err-clause-replies : goal.returns-in-Err-clause-replies
-returns-in-Err-clause-replies g c =
-    let new = c.in-Err.field-0.host in
-    replies_unopened (g.I.Source.left c.args.input.now) (g.H.Disk.beside c.args.host).tape (g.H.Disk.beside new).tape c.in-Err.field-0.fault c.stop_of_opening.result c.stop_of_opening.ensures
-    (ap (λ b. b.tape) (kept_beside g.H.Disk c.args.host new (MayComeFirst c.in-Err.field-0.fault) c.in-Err.ensures.opens_or_leaves))
-
 pub returns-in-Ok-clause-reopens : goal.returns-in-Ok-clause-reopens
 returns-in-Ok-clause-reopens g c = λ before said is told formed.
     let opened = c.in-Ok.ensures in
     let store = c.in-Ok.store in
     let after = opened.opens.told before is in
     let leaves = c.serve_store.ensures.reopens after.0 said after.1 (ap (λ b. b.tape) opened.opens.beside ∙ told) in
-    formed_on_file g.H.Disk _ store before after.0 said c.args.host store.host c.serve_store.result.host formed after.2 leaves (opened.opens.crash before said is told) refl c.serve_store.ensures.later
-    (λ t pages heard left. (left.4, left.5)) (opened.base_since before is said)
+    inl (formed_on_file g.H.Disk _ store before after.0 said c.args.host store.host c.serve_store.result.host formed after.2 leaves (opened.opens.crash before said is told) refl c.serve_store.ensures.later
+    (λ t pages heard left. (left.4, left.5)) (opened.base_since before is said))
 
 pub returns-in-Err-clause-reopens : goal.returns-in-Err-clause-reopens
 returns-in-Err-clause-reopens g c = λ before said is told formed.
-    formed_refused g.H.Disk before said c.args.host c.in-Err.field-0.host (MayComeFirst c.in-Err.field-0.fault) formed is told c.in-Err.ensures.opens_or_leaves
+    formed_refused g.H.Disk before said (g.I.Source.left c.args.input.now) c.args.host c.in-Err.field-0.host (MayComeFirst c.in-Err.field-0.fault) formed is told c.in-Err.ensures.opens_or_leaves
 
 pub returns-in-Ok-clause-stays_formed : goal.returns-in-Ok-clause-stays_formed
 returns-in-Ok-clause-stays_formed g c = λ before said is told formed.
@@ -149,7 +134,7 @@ returns-in-Ok-clause-stays_formed g c = λ before said is told formed.
       after.0,
       after.1,
       formed_after g.H.Disk before after.0 said (said ++ tells.1.0) c.args.host new (g.met.H.Disk.only_now c.args.host) (g.met.H.Disk.only_now new) (g.met.H.Disk.earlier new) is told after.1
-          (told_behind (g.H.Disk.beside c.args.host).tape (g.H.Disk.beside new).tape tells.1.0 said told tells.1.1) formed (returns-in-Ok-clause-reopens g c before said is told first),
+          (told_behind (g.H.Disk.beside c.args.host).tape (g.H.Disk.beside new).tape tells.1.0 said told tells.1.1) formed (rests_or_before g.H.Disk before said (returns-in-Ok-clause-reopens g c before said is told first)),
     )
 
 pub returns-in-Err-clause-stays_formed : goal.returns-in-Err-clause-stays_formed
@@ -161,22 +146,46 @@ returns-in-Err-clause-stays_formed g c = λ before said is told formed.
       after.0,
       after.1,
       formed_after g.H.Disk before after.0 said (said ++ tells.1.0) c.args.host new (g.met.H.Disk.only_now c.args.host) (g.met.H.Disk.only_now new) (g.met.H.Disk.earlier new) is told after.1
-          (told_behind (g.H.Disk.beside c.args.host).tape (g.H.Disk.beside new).tape tells.1.0 said told tells.1.1) formed (returns-in-Err-clause-reopens g c before said is told first),
+          (told_behind (g.H.Disk.beside c.args.host).tape (g.H.Disk.beside new).tape tells.1.0 said told tells.1.1) formed (rests_or_before g.H.Disk before said (returns-in-Err-clause-reopens g c before said is told first)),
     )
 
--- ---- damage is exact
+-- ---- whatever the pages are
 
-pub returns-in-Ok-clause-breaks : goal.returns-in-Ok-clause-breaks
-returns-in-Ok-clause-breaks g c = λ damage ends before is. inr (λ shape states.
+pub returns-in-Ok-clause-any : goal.returns-in-Ok-clause-any
+returns-in-Ok-clause-any g c =
     let opened = c.in-Ok.ensures in
-    let after = opened.opens.told before is in
-    let formed = served_formed before.bytes (opened.served before is).0 in
-    let From : Option (List ℕ) → Type 0 =
-    λ tape. BreaksAtEnd shape (g.I.Source.left c.args.input.now) (g.I.Source.left c.serve_store.new.input) tape (g.H.Disk.beside c.serve_store.result.host).tape damage c.serve_store.result.end (g.H.Disk.file c.serve_store.result.host) in
-    subst From (ap (λ b. b.tape) opened.opens.beside)
-    (c.serve_store.ensures.breaks damage ends (sym (ap (λ state. state.work) opened.just_opened)) after.0 after.1 shape (states_standing before.bytes after.0.bytes (pages_in before.bytes) shape (after.2.1 formed) states)))
+    let store = c.in-Ok.store in
+    let serves = c.serve_store.ensures.any (sym (ap (λ state. state.work) opened.just_opened)) opened.rests in
+    inr (any_served_on_file _ g.H.Disk store (g.I.Source.left c.args.input.now) (g.I.Source.left c.serve_store.new.input) c.serve_store.result.host c.serve_store.result.end
+    (g.H.Disk.file c.args.host) (g.H.Disk.file store.host) (g.H.Disk.beside c.args.host).tape serves
+    (tells_still (g.H.Disk.file c.args.host) (g.H.Disk.file store.host) opened.opens.untold (λ before is. let after = opened.opens.told before is in (after.0, after.1)))
+    (ap (λ b. b.tape) opened.opens.beside)
+    (λ before is. let served = opened.served before is in let after = opened.opens.told before is in let formed = served_formed before.bytes served.0 in (served.1, formed, after.0, after.1, after.2.1 formed)))
 
-pub returns-in-Err-clause-breaks : goal.returns-in-Err-clause-breaks
-returns-in-Err-clause-breaks g c = λ damage ends before is.
-    let named : c.stop_of_opening.result ≡ file.Damaged damage = cc in
-    inl (damage_of_opening before.bytes c.in-Err.field-0.fault c.stop_of_opening.result damage (c.in-Err.ensures.refused before is) c.stop_of_opening.ensures named)
+pub returns-in-Err-clause-any : goal.returns-in-Err-clause-any
+returns-in-Err-clause-any g c =
+    let new = c.in-Err.field-0.host in
+    any_unopened (g.H.Disk.file c.args.host) (g.I.Source.left c.args.input.now) (g.H.Disk.beside c.args.host).tape (g.H.Disk.beside new).tape c.in-Err.field-0.fault c.stop_of_opening.result c.in-Err.ensures.refused c.stop_of_opening.ensures
+    (ap (λ b. b.tape) (kept_beside g.H.Disk c.args.host new (MayComeFirst c.in-Err.field-0.fault) c.in-Err.ensures.opens_or_leaves))
+
+pub returns-in-Ok-clause-runs_any : goal.returns-in-Ok-clause-runs_any
+returns-in-Ok-clause-runs_any g c = λ before said is told served.
+    let opened = c.in-Ok.ensures in
+    let store = c.in-Ok.store in
+    let new = c.serve_store.result.host in
+    let after = opened.opens.told before is in
+    let formed = served_formed before.bytes served in
+    let script = g.I.Source.left c.args.input.now in
+    let left = g.I.Source.left c.serve_store.new.input in
+    let serves = c.serve_store.ensures.any (sym (ap (λ state. state.work) opened.just_opened)) opened.rests in
+    any_run_opened _ g.H.Disk store script left new c.serve_store.result.end (g.H.Disk.file store.host) before after.0 said store.host c.args.host serves after.1 (opened.served before is).1
+    (ap (λ b. b.tape) opened.opens.beside ∙ told) (g.met.H.Disk.only_now new) (g.met.H.Disk.earlier new) formed after.2 (opened.opens.crash before said is told) refl c.serve_store.ensures.later
+    (λ t pages heard left. (left.4, left.5)) (opened.base_since before is said)
+
+pub returns-in-Err-clause-runs_any : goal.returns-in-Err-clause-runs_any
+returns-in-Err-clause-runs_any g c = λ before said is told served.
+    let fault = c.in-Err.field-0.fault in
+    let refuses = c.in-Err.ensures.refused before is in
+    let stop = stop_of_well fault c.stop_of_opening.result before.bytes served refuses c.stop_of_opening.ensures in
+    any_refused_on_file g.H.Disk before said (g.I.Source.left c.args.input.now) c.args.host c.in-Err.field-0.host (MayComeFirst fault) fault c.stop_of_opening.result (served_formed before.bytes served) is told
+    stop.0 stop.1 stop.2 refuses c.stop_of_opening.ensures c.in-Err.ensures.opens_or_leaves

@@ -1,13 +1,11 @@
 -- What is said of the store, said of its host.
-use Rattle.std.proofs.Common.{◌≡◌, ◌++◌, ℕ, List, Option, is_some, subst, sym, ◌∙◌, ap}
-use Rattle.script_session.specs.Replying.{RepliesTo}
+use Rattle.std.proofs.Common.{◌≡◌, ◌++◌, ℕ, List, Option, is_some, refl, subst, sym, ◌∙◌, ap}
 use Rattle.script_session.specs.Told.{TellsMore}
 use Rattle.script_session.proofs.ToldLemmas.{told_behind}
 use Rattle.script_session.specs.declared.stop.SessionStop.TheVariants as session
 use Rattle.page_store.specs.FileStore.{left_of}
 use Rattle.page_store.proofs.BesideLemmas.{beside_of-attaches, beside_of-shape}
-use Rattle.file_session.specs.Breaking.{BreaksInFile}
-use Rattle.file_session.proofs.BreaksLemmas.{breaks_closed}
+use Rattle.file_session.proofs.AnyHostRunsLemmas.{any_on_host, image_left}
 use Rattle.file_session.proofs.EndOfSessionLemmas.{end_counted, end_counted_as, stop_of_end}
 use Rattle.file_session.proofs.FormedRunsLemmas.{left_formed}
 use Rattle.file_session.proofs.HostRunsLemmas.{left_in_shape, run_on_host}
@@ -73,13 +71,6 @@ returns-clause-attaches g c =
     ap (λ host. g.H.Disk.attaches host) c.close.ensures.same
     ∙ beside_of-attaches last.desk.shape c.args.store.desk.shape (g.H.Disk.attaches last.host) (g.H.Disk.attaches c.args.store.host) c.serve_pages-answered.ensures.beside
 
-pub returns-clause-replies : goal.returns-clause-replies
-returns-clause-replies g c =
-    let ended = c.serve_pages-answered.result.end in
-    let Replies : Option (List ℕ) → Type 0 =
-    λ tape. RepliesTo (g.I.Source.left c.args.input.now) (g.I.Source.left c.serve_pages-answered.new.input) (g.H.Disk.beside c.args.store.host).tape tape ended in
-    (ended, c.end_of.ensures, subst Replies (sym (ap (λ host. (g.H.Disk.beside host).tape) c.close.ensures.same)) c.serve_pages-answered.ensures.replies)
-
 pub returns-clause-reopens : goal.returns-clause-reopens
 returns-clause-reopens g c = λ file said is told.
     let last = c.serve_pages-answered.result.store in
@@ -95,23 +86,26 @@ returns-clause-reopens g c = λ file said is told.
           (c.close.ensures.left now_told.0 (said ++ tells.0) now_told.1 tape t image heard now);
     }
 
--- ---- damage is exact
+-- ---- whatever the pages are
 
-pub returns-clause-breaks : goal.returns-clause-breaks
-returns-clause-breaks g c = λ damage ends committed file is shape states.
+pub returns-clause-any : goal.returns-clause-any
+returns-clause-any g c = λ committed rests.
     let last = c.serve_pages-answered.result.store in
+    let answered = c.serve_pages-answered.ensures in
+    let tells = answered.tells in
     let ended = c.serve_pages-answered.result.end in
-    let script = g.I.Source.left c.args.input.now in
-    let left = g.I.Source.left c.serve_pages-answered.new.input in
-    let old = (g.H.Disk.beside c.args.store.host).tape in
+    any_on_host _ g.H.Disk (g.H.Disk.file c.args.store.host) c.in-Some.shape (g.I.Source.left c.args.input.now) (g.I.Source.left c.serve_pages-answered.new.input) c.args.store last c.close.result ended c.end_of.result
+    (answered.any committed) refl (ap (λ host. (g.H.Disk.beside host).tape) c.close.ensures.same) c.end_of.ensures
+    (λ file is given states.
     let stated = c.shape-extents.ensures.stated c.requires.going file is in
-    let same = same_shape c.in-Some.shape shape (c.in-Some.ensures.0 ∙ (sym stated.0 ∙ states.extents)) (c.in-Some.ensures.1 ∙ (sym stated.1 ∙ states.extent_pages)) in
-    let tells = ap is_some is in
-    let now_told = told_by_test (g.H.Disk.file last.host) (c.serve_pages-answered.ensures.is_told ∙ tells) in
-    let file_is = ap (λ host. g.H.Disk.file host) c.close.ensures.same ∙ now_told.1 in
-    let breaks = c.serve_pages-answered.ensures.breaks damage (stop_of_end ended (session.Damaged damage) (sym c.end_of.ensures ∙ ends)) in
-    let base = (c.close.ensures.base breaks.1.going now_told.0 file_is).1 in
-    let Behind : Option (List ℕ) → Type 0 = λ tape. (replies : RepliesTo script left old tape ended) × BreaksInFile shape replies.items damage now_told.0.bytes in
-    let behind = subst Behind (sym (ap (λ host. (g.H.Disk.beside host).tape) c.close.ensures.same))
-    (breaks.0, breaks_closed _ c.in-Some.shape shape breaks.0.items c.args.store last damage now_told.0.bytes same tells (c.serve_pages-answered.ensures.is_told ∙ tells) committed base breaks.1) in
-    record { end_ = ended; result_is = c.end_of.ensures; replies = behind.0; after = now_told.0; file_is = file_is; breaks = behind.1 }
+    same_shape c.in-Some.shape given (c.in-Some.ensures.0 ∙ (sym stated.0 ∙ states.extents)) (c.in-Some.ensures.1 ∙ (sym stated.1 ∙ states.extent_pages)))
+    (λ heard told file is t image tape now.
+    let stated = c.shape-extents.ensures.stated c.requires.going file is in
+    let now_told = told_by_test (g.H.Disk.file last.host) (answered.is_told ∙ ap is_some is) in
+    let left_last = left_of last.desk.shape (g.H.Disk.file last.host) (g.H.Disk.beside last.host).tape (g.H.Disk.moment last.host) in
+    image_left last.desk.shape file.bytes now_told.0.bytes (left_last t) image tape
+    (ap (λ shape. shape.extents) (kept_shape g c) ∙ (sym (ap (λ parts. parts.0) c.shape-extents.ensures.parts) ∙ sym stated.0))
+    (ap (λ shape. shape.extent_pages) (kept_shape g c) ∙ (sym (ap (λ parts. parts.1) c.shape-extents.ensures.parts) ∙ sym stated.1))
+    (c.close.ensures.left now_told.0 heard now_told.1 told t image tape now))
+    (ap (λ host. g.H.Disk.clock host) c.close.ensures.same) (answered.rests rests) (answered.going committed)
+    (λ said told. (said ++ tells.0, told_behind (g.H.Disk.beside c.args.store.host).tape (g.H.Disk.beside last.host).tape tells.0 said told tells.1))

@@ -1,4 +1,4 @@
-use Rattle.std.proofs.Common.{◌∙◌, Err, ap, inl, inr, refl, sym}
+use Rattle.std.proofs.Common.{◌∙◌, Err, Some, ap, inl, inr, refl, sym}
 use Rattle.mdc_words.specs.Time.{OverTime}
 use Rattle.mdc_words.proofs.TimeLemmas.{over_time_none}
 use Rattle.page_file.proofs.LeavesLemmas.{sound_image}
@@ -7,10 +7,11 @@ use Rattle.file_verdict.specs.declared.unjudged.Unjudged.TheVariants as unjudged
 use Rattle.file_session.specs.declared.stop.FileStop.TheVariants.{Memory}
 use Rattle.mdc_shell.specs.Leaving.{LeftByCreate}
 use Rattle.mdc_shell.specs.Words.{CheckFile, CreateFile, RunFile, RunScratch}
+use Rattle.mdc_shell.proofs.AnyRunsLemmas.{runs_any-before}
 use Rattle.mdc_shell.proofs.Asking.{one_line}
 use Rattle.mdc_shell.proofs.CheckLemmas.{checks_formed-before, checks_path-before, checks_unserved-before}
 use Rattle.mdc_shell.proofs.CreateLemmas.{create_line-one}
-use Rattle.mdc_shell.proofs.RunsLemmas.{refuses_file-before, reopens_file-before, runs_items-complete, runs_path-before, runs_scratch-ended, serves_path-before, takes_none}
+use Rattle.mdc_shell.proofs.RunsLemmas.{refuses_file-before, reopens_file-before, runs_items-complete, runs_path-before, runs_scratch-ended, says_end-quiet, serves_path-before, takes_none}
 use Rattle.mdc_shell.proofs.program.run.Goals as goal
 
 pub returns-in-Ok-Some-RunScratch-clause-complete : goal.returns-in-Ok-Some-RunScratch-clause-complete
@@ -60,6 +61,11 @@ returns-in-Ok-None-clause-served g c = λ path line.
 
 pub returns-in-Ok-None-clause-runs : goal.returns-in-Ok-None-clause-runs
 returns-in-Ok-None-clause-runs g c = λ path line.
+    let asked = rw (c.in-Ok-None.field-0-is, c.as_slice.ensures.value) at c.in-Ok-None.ensures in
+    absurd (asked (RunFile path) line)
+
+pub returns-in-Ok-None-clause-runs_any : goal.returns-in-Ok-None-clause-runs_any
+returns-in-Ok-None-clause-runs_any g c = λ path line.
     let asked = rw (c.in-Ok-None.field-0-is, c.as_slice.ensures.value) at c.in-Ok-None.ensures in
     absurd (asked (RunFile path) line)
 
@@ -114,15 +120,19 @@ returns-in-Ok-None-clause-complete g c = λ no_disk no_read no_say within before
     elim asks [ inl file ↦ absurd (asked (RunFile file.0) file.1) | inr scratch ↦ absurd (asked RunScratch scratch.0) ]
 
 pub returns-in-Err-clause-served : goal.returns-in-Err-clause-served
-returns-in-Err-clause-served g c = λ path line. (serves_path-before _ _ _ _ _ Memory tt refl, inr refl, inr (inr (inr (inr (inr (inr (inr (inl refl))))))))
+returns-in-Err-clause-served g c = λ path line. (serves_path-before _ _ _ _ Memory tt refl, inr refl, inr (inr (inr (inr (inr (inr (inr (inl refl))))))))
 
 pub returns-in-Err-clause-runs : goal.returns-in-Err-clause-runs
 returns-in-Err-clause-runs g c = λ path line before said is told well.
     runs_path-before g.H.Disk before said _ c.args.host c.args.host Memory well (c.nothing_is_run.ensures.well before.bytes said _ Memory tt well)
     ((g.met.H.Host.lies_beside c.args.host).0 ∙ told) over_time_none
 
+pub returns-in-Err-clause-runs_any : goal.returns-in-Err-clause-runs_any
+returns-in-Err-clause-runs_any g c = λ path line before said is told served.
+    runs_any-before g.H.Disk before said _ _ c.args.host c.args.host Memory tt (says_end-quiet (Some said) _ Memory tt told) over_time_none
+
 pub returns-in-Err-clause-reopens : goal.returns-in-Err-clause-reopens
-returns-in-Err-clause-reopens g c = λ path line before said is told formed. reopens_file-before g.H.Disk before said _ c.args.host c.args.host Memory tt told over_time_none
+returns-in-Err-clause-reopens g c = λ path line before said is told formed. reopens_file-before g.H.Disk before said _ _ c.args.host c.args.host Memory tt told over_time_none
 
 pub returns-in-Err-clause-refuses : goal.returns-in-Err-clause-refuses
 returns-in-Err-clause-refuses g c = λ path line before said is told not_served. (refuses_file-before g.H.Disk before said _ c.args.host c.args.host Memory tt told over_time_none, refl)

@@ -1,13 +1,10 @@
-use Rattle.std.proofs.Common.{◌≡◌, ◌⊎◌, ◌++◌, ℕ, List, Option, Err, sym, subst, ◌∙◌, ap}
-use Rattle.mdc_outside.specs.Disk.{File}
+use Rattle.std.proofs.Common.{◌⊎◌, ◌++◌, ℕ, List, Option, sym, subst, ◌∙◌, ap}
 use Rattle.page_file.proofs.LeavesLemmas.{sound_image}
-use Rattle.page_store.specs.Opened.{file_bytes}
 use Rattle.script_session.specs.Told.{TellsMore}
-use Rattle.file_session.specs.Breaking.{IsDamageOf}
+use Rattle.file_session.specs.AnyServing.{RunsOnServed}
 use Rattle.file_session.specs.Ending.{IsRefused}
-use Rattle.file_session.specs.Serving.{RepliesBySession}
-use Rattle.file_session.specs.declared.stop.FileStop.TheVariants.{Device}
 use Rattle.mdc_shell.specs.Status.{SaysEnd, line_of_end, status_of}
+use Rattle.mdc_shell.proofs.AnyRunsLemmas.{runs_any-said}
 use Rattle.mdc_shell.proofs.RunsLemmas.{refused_time, reopens_file-said, runs_items-quiet, runs_path-ended, same_bytes, status_either, takes_by_status}
 use Rattle.script_session.proofs.ToldLemmas.{same-told, tells_more-told, told_behind, told_then}
 use Rattle.mdc_shell.proofs.running.run_attached.Goals as goal
@@ -32,12 +29,8 @@ returns-clause-served g c =
       cause = c.serve_file-ended.ensures.cause;
       before_line = line_tape;
       kept = subst (λ (t : Option (List ℕ)). TellsMore t line_tape) (lies c.args.host).0 (subst (λ (t : Option (List ℕ)). TellsMore first t) (lies mid).0 c.serve_file-ended.ensures.told.1);
-      replies = subst (λ (t : Option (List ℕ)). IsRefused end_ ⊎ RepliesBySession script left t line_tape end_) (lies c.args.host).0
-          (subst (λ (t : Option (List ℕ)). IsRefused end_ ⊎ RepliesBySession script left first t end_) (lies mid).0 c.serve_file-ended.ensures.replies);
-      breaks = λ before is damage ends.
-          subst (λ (t : Option (List ℕ)). IsDamageOf before.bytes script left t line_tape damage end_ (g.H.Disk.file c.end_run.result.host)) (lies c.args.host).0
-          (subst (λ (t : Option (List ℕ)). IsDamageOf before.bytes script left first t damage end_ (g.H.Disk.file c.end_run.result.host)) (lies mid).0
-          (subst (λ (f : Option File). IsDamageOf before.bytes script left first (g.H.Disk.beside mid).tape damage end_ f) (sym c.end_run.ensures.disk.same_file) (c.serve_file-ended.ensures.breaks damage ends before is)));
+      any = subst (λ (t : Option (List ℕ)). IsRefused end_ ⊎ RunsOnServed (g.H.Disk.file c.args.host) script left t line_tape end_) (lies c.args.host).0
+          (subst (λ (t : Option (List ℕ)). IsRefused end_ ⊎ RunsOnServed (g.H.Disk.file c.args.host) script left first t end_) (lies mid).0 c.serve_file-ended.ensures.any);
       ends = c.end_run.ensures.ends;
     }
 
@@ -55,9 +48,22 @@ returns-clause-reopens g c = λ before said is told formed.
     let beside = (lies c.args.host).0 ∙ told in
     let after = served.told.0 before is in
     let heard = told_behind (g.H.Disk.beside c.args.host).tape (g.H.Disk.beside mid).tape served.told.1.0 said beside served.told.1.1 in
-    reopens_file-said g.H.Disk before after.0 said (said ++ served.told.1.0) c.args.host mid c.end_run.result.host (g.H.Host.tape mid) (g.H.Host.tape c.end_run.result.host) c.serve_file-ended.result.end
+    reopens_file-said g.H.Disk before after.0 said (said ++ served.told.1.0) (g.I.Source.left c.args.input.now) (g.I.Source.left c.serve_file-ended.new.input) c.args.host mid c.end_run.result.host (g.H.Host.tape mid) (g.H.Host.tape c.end_run.result.host) c.serve_file-ended.result.end
     c.end_run.result.status.0 (disk.only_now c.args.host) (disk.only_now mid) (disk.earlier mid) is beside after.1 (sound_image (g.H.Disk.file mid) after.0 (disk.sound mid) after.1) heard
     (sym (lies mid).0 ∙ heard) (served.cause before is) c.end_run.ensures.ends c.end_run.ensures.time (served.reopens before said is beside formed)
+
+pub returns-clause-runs_any : goal.returns-clause-runs_any
+returns-clause-runs_any g c = λ before said is told is_served.
+    let lies = g.met.H.Host.lies_beside in
+    let disk = g.met.H.Disk in
+    let mid = c.serve_file-ended.result.host in
+    let served = c.serve_file-ended.ensures in
+    let beside = (lies c.args.host).0 ∙ told in
+    let after = served.told.0 before is in
+    let heard = told_behind (g.H.Disk.beside c.args.host).tape (g.H.Disk.beside mid).tape served.told.1.0 said beside served.told.1.1 in
+    runs_any-said g.H.Disk before said (g.I.Source.left c.args.input.now) (g.I.Source.left c.serve_file-ended.new.input) after.0 (said ++ served.told.1.0) c.args.host mid c.end_run.result.host (g.H.Host.tape mid)
+    (g.H.Host.tape c.end_run.result.host) c.serve_file-ended.result.end c.end_run.result.status.0 (disk.only_now c.args.host) (disk.only_now mid) (disk.earlier mid) is beside after.1
+    (sound_image (g.H.Disk.file mid) after.0 (disk.sound mid) after.1) heard (sym (lies mid).0 ∙ heard) c.end_run.ensures.ends c.end_run.ensures.time c.end_run.ensures.disk.same_file (served.runs_any before said is beside is_served)
 
 pub returns-clause-stays_formed : goal.returns-clause-stays_formed
 returns-clause-stays_formed g c = λ before said is told formed.

@@ -1,11 +1,12 @@
-use Rattle.std.proofs.Common.{◌∙◌, ap, refl}
+use Rattle.std.proofs.Common.{◌∙◌, Some, ap, refl}
 use Rattle.std.specs.Option.{option_map}
 use Rattle.page_file.proofs.LeavesLemmas.{sound_image}
 use Rattle.mdc_words.proofs.TimeLemmas.{over_time_wider}
 use Rattle.mdc_outside.specs.Disk.{opened}
 use Rattle.file_session.specs.declared.stop.FileStop.TheVariants.{Device}
+use Rattle.mdc_shell.proofs.AnyRunsLemmas.{runs_any-before, runs_any-opened}
 use Rattle.mdc_shell.proofs.CreateLemmas.{tape_stays}
-use Rattle.mdc_shell.proofs.RunsLemmas.{attach_failed, could_be_left-quiet, refuses_file-before, refuses_file-opened, reopens_file-before, reopens_file-opened, runs_path-before, runs_path-opened, serves_path-before, serves_path-opened, takes_none}
+use Rattle.mdc_shell.proofs.RunsLemmas.{attach_failed, could_be_left-quiet, refuses_file-before, refuses_file-opened, reopens_file-before, reopens_file-opened, runs_path-before, runs_path-opened, says_end-quiet, serves_path-before, serves_path-opened, takes_none}
 use Rattle.mdc_shell.proofs.running.run_path.Goals as goal
 
 pub returns-in-Ok-clause-runs : goal.returns-in-Ok-clause-runs
@@ -28,7 +29,15 @@ returns-in-Ok-clause-reopens g c = λ before said is told formed.
     let tape = tape_stays _ _ _ _ c.attach.ensures.beside (lies c.attach.new.self).0 (lies c.args.host).0 ∙ told in
     let meanwhile = over_time_wider c.attach.ensures.time (could_be_left-quiet _ _ before said is ((lies c.args.host).0 ∙ told)) in
     let run = c.run_attached.ensures.reopens (opened before) said (c.in-Ok.ensures.opened ∙ ap (option_map opened) is) tape formed in
-    reopens_file-opened g.H.Disk before said _ c.args.host c.attach.new.self c.run_attached.result.host c.run_attached.result.status.0 meanwhile run
+    reopens_file-opened g.H.Disk before said _ _ _ c.args.host c.attach.new.self c.run_attached.result.host c.run_attached.result.status.0 meanwhile run
+
+pub returns-in-Ok-clause-runs_any : goal.returns-in-Ok-clause-runs_any
+returns-in-Ok-clause-runs_any g c = λ before said is told served.
+    let lies = g.met.H.Host.lies_beside in
+    let tape = tape_stays _ _ _ _ c.attach.ensures.beside (lies c.attach.new.self).0 (lies c.args.host).0 ∙ told in
+    let meanwhile = over_time_wider c.attach.ensures.time (could_be_left-quiet _ _ before said is ((lies c.args.host).0 ∙ told)) in
+    let run = c.run_attached.ensures.runs_any (opened before) said (c.in-Ok.ensures.opened ∙ ap (option_map opened) is) tape served in
+    runs_any-opened g.H.Disk before said _ _ _ c.args.host c.attach.new.self c.run_attached.result.host c.run_attached.result.status.0 meanwhile run
 
 pub returns-in-Ok-clause-stays_formed : goal.returns-in-Ok-clause-stays_formed
 returns-in-Ok-clause-stays_formed g c = λ before said is told formed.
@@ -47,12 +56,12 @@ returns-in-Ok-clause-refuses g c = λ before said is told not_served.
 pub returns-in-Ok-clause-served : goal.returns-in-Ok-clause-served
 returns-in-Ok-clause-served g c =
     let lies = g.met.H.Host.lies_beside in
-    serves_path-opened _ _ _ _ _ _ _ _ _ c.in-Ok.ensures.opened (tape_stays _ _ _ _ c.attach.ensures.beside (lies c.attach.new.self).0 (lies c.args.host).0) c.run_attached.ensures.served
+    serves_path-opened _ _ _ _ _ _ _ _ c.in-Ok.ensures.opened (tape_stays _ _ _ _ c.attach.ensures.beside (lies c.attach.new.self).0 (lies c.args.host).0) c.run_attached.ensures.served
 
 pub returns-in-Err-clause-served : goal.returns-in-Err-clause-served
 returns-in-Err-clause-served g c =
     let lies = g.met.H.Host.lies_beside in
-    serves_path-before _ _ _ _ _ Device tt (tape_stays _ _ _ _ c.attach.ensures.beside (lies c.attach.new.self).0 (lies c.args.host).0)
+    serves_path-before _ _ _ _ Device tt (tape_stays _ _ _ _ c.attach.ensures.beside (lies c.attach.new.self).0 (lies c.args.host).0)
 
 pub returns-in-Err-clause-runs : goal.returns-in-Err-clause-runs
 returns-in-Err-clause-runs g c = λ before said is told well.
@@ -69,7 +78,14 @@ returns-in-Err-clause-reopens g c = λ before said is told formed.
     let lies = g.met.H.Host.lies_beside in
     let tape = tape_stays _ _ _ _ c.attach.ensures.beside (lies c.attach.new.self).0 (lies c.args.host).0 ∙ told in
     let meanwhile = over_time_wider c.attach.ensures.time (could_be_left-quiet _ _ before said is ((lies c.args.host).0 ∙ told)) in
-    reopens_file-before g.H.Disk before said _ c.args.host c.attach.new.self Device tt tape meanwhile
+    reopens_file-before g.H.Disk before said _ _ c.args.host c.attach.new.self Device tt tape meanwhile
+
+pub returns-in-Err-clause-runs_any : goal.returns-in-Err-clause-runs_any
+returns-in-Err-clause-runs_any g c = λ before said is told served.
+    let lies = g.met.H.Host.lies_beside in
+    let tape = tape_stays _ _ _ _ c.attach.ensures.beside (lies c.attach.new.self).0 (lies c.args.host).0 ∙ told in
+    let meanwhile = over_time_wider c.attach.ensures.time (could_be_left-quiet _ _ before said is ((lies c.args.host).0 ∙ told)) in
+    runs_any-before g.H.Disk before said _ _ c.args.host c.attach.new.self Device tt (says_end-quiet (Some said) _ Device tt tape) meanwhile
 
 pub returns-in-Err-clause-stays_formed : goal.returns-in-Err-clause-stays_formed
 returns-in-Err-clause-stays_formed g c = λ before said is told formed. (before, attach_failed _ _ c.in-Err.ensures.file_failed ∙ is, formed)

@@ -34,7 +34,7 @@ pub returns-in_default-clause-leaves : goal.returns-in_default-clause-leaves
 returns-in_default-clause-leaves g c = looked_leaves c.inspect.ensures.runs c.inspect.ensures.same c.requires.synced
 
 pub returns-in_err-bring_home-clause-leaves : goal.returns-in_err-bring_home-clause-leaves
-returns-in_err-bring_home-clause-leaves g c = keeps_then (looked_leaves c.inspect.ensures.runs c.inspect.ensures.same c.requires.synced) (home_keeps c.bring_home.ensures.leaves)
+returns-in_err-bring_home-clause-leaves g c = keeps_then (looked_leaves c.inspect.ensures.runs c.inspect.ensures.same c.requires.synced) (home_keeps c.bring_home.ensures.leaves c.bring_home.ensures.reach)
 
 pub returns-clause-served : goal.returns-clause-served
 returns-clause-served g c = λ file is. (c.in_ok-found.ensures.served file is).0
@@ -46,7 +46,7 @@ returns-clause-at_rest g c = λ after is.
     rests_as_found c.in_ok-found.found.opened before.0.bytes after served.2 (home_rests c.bring_home.ensures.leaves c.in_ok-bring_home.ensures.closed before.0 after before.1 is)
 
 pub returns-clause-leaves : goal.returns-clause-leaves
-returns-clause-leaves g c = keeps_then (looked_leaves c.inspect.ensures.runs c.inspect.ensures.same c.requires.synced) (home_keeps c.bring_home.ensures.leaves)
+returns-clause-leaves g c = keeps_then (looked_leaves c.inspect.ensures.runs c.inspect.ensures.same c.requires.synced) (home_keeps c.bring_home.ensures.leaves c.bring_home.ensures.reach)
 
 pub returns-in_err-found-clause-left_alone : goal.returns-in_err-found-clause-left_alone
 returns-in_err-found-clause-left_alone g c = if_err c.from_residual.result (λ fault other. c.inspect.ensures.runs)

@@ -20,11 +20,11 @@ use Rattle.record_index.proofs.in_span.rids_in.Goals as goal
 pub at-requires : goal.at-requires
 at-requires g c = omega (arith, c.requires.there, c.from-index.ensures)
 
-pub of-requires-clause-parts : goal.of-requires-clause-parts
-of-requires-clause-parts g c = index_parts c.args.def.now c.from-index.result c.at.result.now c.requires.indexes c.at.ensures
+pub first_part_range-requires-clause-parts : goal.first_part_range-requires-clause-parts
+first_part_range-requires-clause-parts g c = index_parts c.args.def.now c.from-index.result c.at.result.now c.requires.indexes c.at.ensures
 
-pub of-requires-clause-kind : goal.of-requires-clause-kind
-of-requires-clause-kind g c =
+pub first_part_range-requires-clause-kind : goal.first_part_range-requires-clause-kind
+first_part_range-requires-clause-kind g c =
     subst (λ (ps : List KeyPart). IsTrue (span_has_kind_of (type_of_column c.args.def.now.columns (first_column ps)) c.args.span.now))
     (parts_are c.args.def.now c.args.index c.from-index.result c.at.result.now c.from-index.ensures c.at.ensures) c.requires.kind
 
@@ -65,7 +65,7 @@ returns-clause-found g c =
     IfOk-weaker c.rising.result _ _ (λ rids found t held.
     let h = holds_at c.args.pages.now tree (place_of_record_index c.args.def.now c.args.index) t place held in
     subst (λ (ps : List KeyPart). FindsRids columns ps c.args.span.now (leaf_entries t) rids c.args.entries.now c.walk_range.new.entries) (sym parts)
-    (finds_rids columns c.at.result.now.parts c.args.span.now range tree.width (leaf_entries t) (map rid_of_number c.in_ok-numbers.numbers.items) rids c.args.entries.now c.walk_range.new.entries c.in_ok-range.ensures.values within
+    (finds_rids columns c.at.result.now.parts c.args.span.now range tree.width (leaf_entries t) (map rid_of_number c.in_ok-numbers.numbers.items) rids c.args.entries.now c.walk_range.new.entries c.in_ok-range.ensures.values c.in_ok-range.ensures.first within
     (tree_wide t h) (Fits-entries _ _ [] t h.is_tree.fits) (c.in_ok-numbers.ensures.numbers t h) (c.in_ok-numbers.ensures.counted t h) found.0 found.1)) (both_ok c.rising.result _ _ c.rising.ensures.same c.rising.ensures.places)
 
 pub returns-clause-runs : goal.returns-clause-runs

@@ -5,13 +5,14 @@ use Rattle.entry_tree.specs.EntryBounds.{Bound}
 use Rattle.entry_tree.specs.Forest.{leaf_entries}
 use Rattle.entry_tree.specs.Reading.{entries_from}
 use Rattle.entry_tree.proofs.ReadLeafLemmas.{holds_still}
+use Rattle.block_index.specs.PartRanges.{entries_until, walked}
 use Rattle.block_index.specs.Reading.{entries_left}
 use Rattle.block_index.proofs.PartRangesLemmas.{long_entries}
 use Rattle.block_index.proofs.ReadingRunsLemmas.{ReadsTree, reads_more}
+use Rattle.block_index.proofs.TakenLemmas.{leaf_counted, leaf_ended, leaf_ended_counted, leaf_walked}
 use Rattle.std.specs.Prelude.{map}
+use Rattle.std.proofs.lemmas.List.{map-append}
 use Rattle.record_index.specs.FoundRids.{rid_in_entry, rid_of_number}
-use Rattle.record_index.specs.Ranges.{before_end, rids_before_end, walked_in}
-use Rattle.record_index.proofs.RangesLemmas.{leaf_counted, leaf_ended, leaf_ended_counted, leaf_walked}
 use Rattle.record_index.proofs.in_span.walk_range.Goals as goal
 
 pub returns-in_err-bound-clause-runs : goal.returns-in_err-bound-clause-runs
@@ -39,9 +40,9 @@ returns-then-branch-clause-numbers g c t h =
     let range = c.args.range.now in
     let given = c.read_leaf.new.leaf.entries in
     let whole = c.in_ok-bound.ensures.read t (holds_still inv.runs.works.steady inv.same h) in
-    let before : map rid_in_entry (walked_in c.args.tree.now.width range all) ≡ map rid_of_number c.leaves.numbers.items ++ rids_before_end range (entries_from c.bytes.result.now all) =
-    inv.taken t h ∙ ap (λ (b : Bound). map rid_of_number c.leaves.numbers.items ++ rids_before_end range (entries_left all b)) (c.in-Some.is ∙ ap Some (sym c.bytes.ensures)) in
-    leaf_ended range all given c.bytes.result.now c.in_ok-bound.bound (map rid_of_number c.leaves.numbers.items) (map rid_of_number c.take_rids.new.numbers.items) whole c.in_ok-take_rids.ensures.numbers (c.in_ok-take_rids.ensures.ended c.if-branch.true (entries_left all c.in_ok-bound.bound)) ∙ sym before
+    let before : map rid_in_entry (walked c.args.tree.now.width range all) ≡ map rid_of_number c.leaves.numbers.items ++ map rid_in_entry (entries_until range (entries_from c.bytes.result.now all)) =
+    inv.taken t h ∙ ap (λ (b : Bound). map rid_of_number c.leaves.numbers.items ++ map rid_in_entry (entries_until range (entries_left all b))) (c.in-Some.is ∙ ap Some (sym c.bytes.ensures)) in
+    leaf_ended (map rid_in_entry) range all given c.bytes.result.now c.in_ok-bound.bound (map rid_of_number c.leaves.numbers.items) (map rid_of_number c.take_rids.new.numbers.items) whole c.in_ok-take_rids.ensures.numbers (c.in_ok-take_rids.ensures.ended c.if-branch.true (entries_left all c.in_ok-bound.bound)) ∙ sym before
 
 pub returns-then-branch-clause-counted : goal.returns-then-branch-clause-counted
 returns-then-branch-clause-counted g c t h =
@@ -53,9 +54,9 @@ returns-then-branch-clause-counted g c t h =
     omega (
       arith,
       inv.counted t h,
-      ap (λ (b : Bound). length (before_end range (entries_left all b))) (c.in-Some.is ∙ ap Some (sym c.bytes.ensures)),
+      ap (λ (b : Bound). length (entries_until range (entries_left all b))) (c.in-Some.is ∙ ap Some (sym c.bytes.ensures)),
       c.in_ok-take_rids.ensures.counted,
-      leaf_ended_counted range all given c.bytes.result.now c.in_ok-bound.bound (map rid_of_number c.leaves.numbers.items) (map rid_of_number c.take_rids.new.numbers.items) whole c.in_ok-take_rids.ensures.numbers (c.in_ok-take_rids.ensures.ended c.if-branch.true (entries_left all c.in_ok-bound.bound)),
+      leaf_ended_counted (map rid_in_entry) range all given c.bytes.result.now c.in_ok-bound.bound (map rid_of_number c.leaves.numbers.items) (map rid_of_number c.take_rids.new.numbers.items) whole c.in_ok-take_rids.ensures.numbers (c.in_ok-take_rids.ensures.ended c.if-branch.true (entries_left all c.in_ok-bound.bound)),
     )
 
 pub returns-then-branch-clause-runs : goal.returns-then-branch-clause-runs
@@ -77,16 +78,16 @@ leaves-preserved g c =
       taken = λ t h.
           let all = leaf_entries t in
           let whole = c.in_ok-bound.ensures.read t (holds_still inv.runs.works.steady inv.same h) in
-          inv.taken t h ∙ (ap (λ (b : Bound). map rid_of_number c.leaves.numbers.items ++ rids_before_end range (entries_left all b)) (c.in-Some.is ∙ ap Some (sym c.bytes.ensures))
-          ∙ leaf_walked range all given c.bytes.result.now c.in_ok-bound.bound (map rid_of_number c.leaves.numbers.items) (map rid_of_number c.take_rids.new.numbers.items) whole c.in_ok-take_rids.ensures.numbers (c.in_ok-take_rids.ensures.goes_on c.if-branch.false (entries_left all c.in_ok-bound.bound)));
+          inv.taken t h ∙ (ap (λ (b : Bound). map rid_of_number c.leaves.numbers.items ++ map rid_in_entry (entries_until range (entries_left all b))) (c.in-Some.is ∙ ap Some (sym c.bytes.ensures))
+          ∙ leaf_walked (map rid_in_entry) range all given c.bytes.result.now c.in_ok-bound.bound (map rid_of_number c.leaves.numbers.items) (map rid_of_number c.take_rids.new.numbers.items) whole c.in_ok-take_rids.ensures.numbers (c.in_ok-take_rids.ensures.goes_on c.if-branch.false (entries_left all c.in_ok-bound.bound)) (map-append rid_in_entry));
       counted = λ t h.
           let all = leaf_entries t in
           let whole = c.in_ok-bound.ensures.read t (holds_still inv.runs.works.steady inv.same h) in
           omega (
             arith,
             inv.counted t h,
-            ap (λ (b : Bound). length (before_end range (entries_left all b))) (c.in-Some.is ∙ ap Some (sym c.bytes.ensures)),
+            ap (λ (b : Bound). length (entries_until range (entries_left all b))) (c.in-Some.is ∙ ap Some (sym c.bytes.ensures)),
             c.in_ok-take_rids.ensures.counted,
-            leaf_counted range all given c.bytes.result.now c.in_ok-bound.bound (map rid_of_number c.leaves.numbers.items) (map rid_of_number c.take_rids.new.numbers.items) whole c.in_ok-take_rids.ensures.numbers (c.in_ok-take_rids.ensures.goes_on c.if-branch.false (entries_left all c.in_ok-bound.bound)),
+            leaf_counted (map rid_in_entry) range all given c.bytes.result.now c.in_ok-bound.bound (map rid_of_number c.leaves.numbers.items) (map rid_of_number c.take_rids.new.numbers.items) whole c.in_ok-take_rids.ensures.numbers (c.in_ok-take_rids.ensures.goes_on c.if-branch.false (entries_left all c.in_ok-bound.bound)),
           );
     }

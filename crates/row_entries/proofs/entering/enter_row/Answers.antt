@@ -11,7 +11,7 @@ use Rattle.mdc_sound.specs.StandingTable.{pages_of}
 use Rattle.record_index.proofs.OneIndexLemmas.{full_states, on_ok}
 use Rattle.row_entries.specs.ChosenIndexes.{HasEntry, all_chosen, chosen_indexes}
 use Rattle.row_entries.specs.ChosenTrees.{BreaksIndexes}
-use Rattle.row_entries.specs.RowEntries.{EntersChosen, LacksRow}
+use Rattle.row_entries.specs.RowEntries.{EntersChosen, LacksRowEntries}
 use Rattle.row_entries.proofs.ChosenBitsLemmas.{all_true, chosen_all}
 use Rattle.row_entries.proofs.TableEntriesLemmas.{entered_table, indexes_stand, no_row_rules_out, on_ok_both, runs_in_space}
 use Rattle.row_entries.proofs.entering.enter_row.Given.{Over}
@@ -58,7 +58,7 @@ runs g c =
 
 pub returns-clause-runs : goal.returns-clause-runs
 returns-clause-runs g c =
-    runs_in_space c.args.shape c.args.def.now c.requires.defined c.args.pages.now c.enter_chosen.new.pages (all_chosen c.args.def.now) (HasEntry c.args.def.now c.args.row.now c.args.rid) (LacksRow c.args.def.now c.args.row.now c.args.rid)
+    runs_in_space c.args.shape c.args.def.now c.requires.defined c.args.pages.now c.enter_chosen.new.pages (all_chosen c.args.def.now) (HasEntry c.args.def.now c.args.row.now c.args.rid) (LacksRowEntries c.args.def.now c.args.row.now c.args.rid)
     (store_fault_in store_part_of c.enter_chosen.result) (no_row_rules_out c.args.def.now c.args.row.now c.args.rid) (runs g c)
 
 pub returns-clause-names : goal.returns-clause-names

@@ -10,7 +10,7 @@ use Rattle.mdc_sound.specs.StandingTable.{pages_of}
 use Rattle.record_index.proofs.OneIndexLemmas.{on_ok}
 use Rattle.row_entries.specs.ChosenIndexes.{LacksEntry, all_chosen, chosen_indexes}
 use Rattle.row_entries.specs.ChosenTrees.{BreaksIndexes}
-use Rattle.row_entries.specs.RowEntries.{LeavesChosen, HasRow}
+use Rattle.row_entries.specs.RowEntries.{LeavesChosen, HasRowEntries}
 use Rattle.row_entries.proofs.ChosenBitsLemmas.{all_true, chosen_all}
 use Rattle.row_entries.proofs.TableEntriesLemmas.{left_table, indexes_stand, row_rules_out, runs_on_map}
 use Rattle.row_entries.proofs.leaving.leave_row.Given.{Over}
@@ -49,8 +49,11 @@ runs g c =
 
 pub returns-clause-runs : goal.returns-clause-runs
 returns-clause-runs g c =
-    runs_on_map c.args.shape c.args.def.now c.requires.defined c.args.pages.now c.leave_chosen.new.pages (all_chosen c.args.def.now) (LacksEntry c.args.def.now c.args.row.now c.args.rid) (HasRow c.args.def.now c.args.row.now c.args.rid)
+    runs_on_map c.args.shape c.args.def.now c.requires.defined c.args.pages.now c.leave_chosen.new.pages (all_chosen c.args.def.now) (LacksEntry c.args.def.now c.args.row.now c.args.rid) (HasRowEntries c.args.def.now c.args.row.now c.args.rid)
     (fault_of c.leave_chosen.result) (row_rules_out c.args.def.now c.args.row.now c.args.rid) (runs g c)
 
 pub returns-clause-names : goal.returns-clause-names
 returns-clause-names g c damage is = (runs g c).cause.damaged damage is
+
+pub returns-clause-touches : goal.returns-clause-touches
+returns-clause-touches g c = c.leave_chosen.ensures.runs.touches

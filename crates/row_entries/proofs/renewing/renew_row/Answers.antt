@@ -14,7 +14,7 @@ use Rattle.mdc_sound.specs.StandingTable.{pages_of}
 use Rattle.record_index.proofs.OneIndexLemmas.{full_states, on_ok}
 use Rattle.row_entries.specs.ChosenIndexes.{LacksOrHasEntry, differing_chosen}
 use Rattle.row_entries.specs.ChosenTrees.{BreaksIndexes}
-use Rattle.row_entries.specs.RowEntries.{HasRowOnly}
+use Rattle.row_entries.specs.RowEntries.{HasRowEntriesOnly}
 use Rattle.row_entries.proofs.RenewingLemmas.{differing_are, renewed_table, runs_leaving, runs_of_differing, runs_renewing, told_in_front}
 use Rattle.row_entries.proofs.TableEntriesLemmas.{indexes_stand, on_ok_both, only_rules_out, runs_in_space}
 use Rattle.row_entries.proofs.renewing.renew_row.Given.{Over}
@@ -32,7 +32,7 @@ goes g c =
 pub returns-in_err-leave_chosen-clause-runs : goal.returns-in_err-leave_chosen-clause-runs
 returns-in_err-leave_chosen-clause-runs g c =
     runs_in_space c.args.shape c.args.def.now c.requires.defined c.args.pages.now c.leave_chosen.new.pages (differing_chosen c.args.def.now c.args.was.now c.args.is.now) (LacksOrHasEntry c.args.def.now c.args.was.now c.args.is.now c.args.rid)
-    (HasRowOnly c.args.def.now c.args.was.now c.args.is.now c.args.rid) (store_fault_in store_part_of c.from_residual.result) (only_rules_out c.args.def.now c.args.was.now c.args.is.now c.args.rid) (goes g c)
+    (HasRowEntriesOnly c.args.def.now c.args.was.now c.args.is.now c.args.rid) (store_fault_in store_part_of c.from_residual.result) (only_rules_out c.args.def.now c.args.was.now c.args.is.now c.args.rid) (goes g c)
 
 pub returns-in_err-leave_chosen-clause-names : goal.returns-in_err-leave_chosen-clause-names
 returns-in_err-leave_chosen-clause-names g c damage is = (goes g c).cause.damaged damage is
@@ -83,7 +83,7 @@ comes g c =
 pub returns-clause-runs : goal.returns-clause-runs
 returns-clause-runs g c =
     runs_in_space c.args.shape c.args.def.now c.requires.defined c.args.pages.now c.enter_chosen.new.pages (differing_chosen c.args.def.now c.args.was.now c.args.is.now) (LacksOrHasEntry c.args.def.now c.args.was.now c.args.is.now c.args.rid)
-    (HasRowOnly c.args.def.now c.args.was.now c.args.is.now c.args.rid) (store_fault_in store_part_of c.enter_chosen.result) (only_rules_out c.args.def.now c.args.was.now c.args.is.now c.args.rid) (comes g c)
+    (HasRowEntriesOnly c.args.def.now c.args.was.now c.args.is.now c.args.rid) (store_fault_in store_part_of c.enter_chosen.result) (only_rules_out c.args.def.now c.args.was.now c.args.is.now c.args.rid) (comes g c)
 
 pub returns-clause-names : goal.returns-clause-names
 returns-clause-names g c damage is = (comes g c).cause.damaged damage is

@@ -1,7 +1,13 @@
 use Rattle.script_engine.proofs.AnsweringAnewLemmas.{answers_along}
+use Rattle.script_engine.proofs.RetryingLemmas.{anew_along}
 use Rattle.script_engine.proofs.damage.try_again.Goals as goal
 
 pub returns-in-Sound-clause-answers : goal.returns-in-Sound-clause-answers
 returns-in-Sound-clause-answers g c =
     answers_along g.P.Pages c.args.stmt.now c.args.pages.now c.check.new.pages c.try_reloaded.new.pages c.check.ensures.same c.try_reloaded.result c.args.tables.now c.try_reloaded.new.tables
     c.in_ok-damage.ensures.runs.works.steady.is_told c.try_reloaded.ensures.answers
+
+pub returns-in-Sound-clause-tries : goal.returns-in-Sound-clause-tries
+returns-in-Sound-clause-tries g c =
+    anew_along g.P.Pages c.args.stmt.now c.try_reloaded.result c.args.pages.now c.check.new.pages c.try_reloaded.new.pages c.args.tables.now c.try_reloaded.new.tables c.in_ok-damage.ensures.runs.works.steady c.check.ensures.same
+    (c.in_ok-damage.ensures.runs.cause.device.still (λ e. absurd (cc))) c.try_reloaded.ensures.tries

@@ -1,7 +1,7 @@
 use Rattle.std.proofs.Common.{refl, sym}
 use Rattle.mdc_ast.specs.declared.reply.Outcome.TheVariants as said
 use Rattle.script_engine.proofs.AnsweringAnewLemmas.{answer_tried, answer_unbuilt}
-use Rattle.script_engine.proofs.RetryingLemmas.{ready_read, served_read, unbroken_read}
+use Rattle.script_engine.proofs.RetryingLemmas.{ready_read, served_read, tried_read, unbroken_read}
 use Rattle.script_engine.proofs.damage.try_reloaded.Goals as goal
 
 pub returns-in_err-catalog-clause-unbroken : goal.returns-in_err-catalog-clause-unbroken
@@ -36,3 +36,9 @@ returns-in-Ok-Refused-clause-answers g c =
     c.load_catalog.new.pages c.try_statement.new.pages c.try_statement.new.tables (record c.try_statement.new.tables { catalog = c.replace-kept.result }) c.in-Ok-Refused.field-0 (said.Refused c.in-Ok-Refused.refusal)
     c.in_ok-catalog.ensures.runs c.in_ok-catalog.ensures.same c.in_ok-catalog.ensures.limits (c.in_ok-catalog.ensures.names, c.in_ok-catalog.ensures.index_names) (sym c.if-not-are_served.ensures)
     c.in-Ok-Refused.ensures.tries c.in-Ok-Refused.field-0-is (λ reply is. absurd (cc))
+
+pub returns-in-Ok-Done-clause-tries : goal.returns-in-Ok-Done-clause-tries
+returns-in-Ok-Done-clause-tries g c =
+    tried_read g.P.Pages c.args.stmt.now c.args.pages.now c.load_catalog.new.pages c.try_statement.new.pages c.args.tables.now (record c.forget.new.self { catalog = c.replace-kept.new.dest }) c.try_statement.new.tables
+    c.in_ok-catalog.catalog c.in-Ok-Done.field-0 c.in-Ok-Done.reply c.in_ok-catalog.ensures.runs c.in_ok-catalog.ensures.same c.in_ok-catalog.ensures.loads c.replace-kept.ensures.after c.forget.ensures.shape
+    c.in-Ok-Done.ensures.tries c.in-Ok-Done.field-0-is

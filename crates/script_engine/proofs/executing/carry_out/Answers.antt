@@ -12,6 +12,7 @@ returns g c =
       refused = λ refusal e. cc;
       full = tt;
       reads = λ e. refl;
+      catalog = λ e. refl;
       fetches = fetches_none g.P.Pages c.args.tables.now.shape c.args.tables.now.catalog c.args.pages.now c.args.bound;
       keeps = record { shape = refl; served = c.requires.served; kept = tt };
       runs = runs_none;

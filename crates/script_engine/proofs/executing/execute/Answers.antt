@@ -1,8 +1,8 @@
-use Rattle.std.proofs.Common.{subst}
+use Rattle.std.proofs.Common.{◌≡◌, false, subst, sym, true, ◌∙◌}
 use Rattle.mdc_ast.specs.declared.bound.Bound.TheVariants as bound
 use Rattle.store_api.proofs.RunsOverPagesLemmas.{runs_exit_as}
 use Rattle.extent_map.specs.Damages.{store_part_of}
-use Rattle.script_engine.proofs.ExecutingLemmas.{full_as_bound, may_execute, reads_as_bound, runs_wanting, steps_as_bound}
+use Rattle.script_engine.proofs.ExecutingLemmas.{full_as_bound, may_execute, reads_as_bound, runs_wanting, steps_as_bound, unbuilt_wanting}
 use Rattle.script_engine.specs.Fetching.{FetchesForQuery}
 use Rattle.script_engine.proofs.FetchesForQueryLemmas.{fetches_none}
 use Rattle.script_engine.proofs.executing.execute.Goals as goal
@@ -38,3 +38,17 @@ pub returns-in-Some-clause-fetches : goal.returns-in-Some-clause-fetches
 returns-in-Some-clause-fetches g c =
     let whole = rw c.in-Some.is at c.in_ok-whole.ensures.bound in
     subst (FetchesForQuery g.P.Pages c.args.tables.now.shape c.args.pages.now c.insert.new.pages c.args.tables.now.catalog) whole.is tt
+
+pub returns-in_err-whole-clause-unbuilt : goal.returns-in_err-whole-clause-unbuilt
+returns-in_err-whole-clause-unbuilt g c unbuilt = unbuilt_wanting c.from_residual.result c.in_err-whole.field-0.0 c.from_residual.ensures.1 c.in_err-whole.ensures.memory
+
+pub returns-in-Some-clause-unbuilt : goal.returns-in-Some-clause-unbuilt
+returns-in-Some-clause-unbuilt g c unbuilt =
+    let whole = rw c.in-Some.is at c.in_ok-whole.ensures.bound in
+    let wrong : true ≡ false = sym whole.built ∙ unbuilt in
+    absurd (cc)
+
+pub returns-in-Some-clause-catalog : goal.returns-in-Some-clause-catalog
+returns-in-Some-clause-catalog g c =
+    let whole = rw c.in-Some.is at c.in_ok-whole.ensures.bound in
+    reads_as_bound c.args.tables.now.catalog c.args.stmt.now (bound.Insert c.in-Some.whole.table c.in-Some.whole.rows) whole (λ e. absurd cc)

@@ -1,4 +1,5 @@
-use Rattle.std.proofs.Common.{◌∙◌, subst, sym}
+use Rattle.std.proofs.Common.{◌≡◌, ◌∙◌, ap, false, subst, sym, true}
+use Rattle.mdc_ast.specs.declared.reply.Outcome.TheVariants as said
 use Rattle.store_api.proofs.RunsOverPagesLemmas.{runs_memory, runs_none}
 use Rattle.script_engine.proofs.ExecutingLemmas.{full_as_bound, is_bound_on, may_execute, reads_as_bound, steps_as_bound, steps_not_built, steps_refused}
 use Rattle.script_engine.specs.Fetching.{FetchesForQuery}
@@ -54,3 +55,21 @@ returns-in-Err-Memory-clause-fetches g c = fetches_none g.P.Pages c.args.tables.
 pub returns-in-Ok-clause-fetches : goal.returns-in-Ok-clause-fetches
 returns-in-Ok-clause-fetches g c =
     subst (FetchesForQuery g.P.Pages c.args.tables.now.shape c.args.pages.now c.carry_out.new.pages c.args.tables.now.catalog) c.in-Ok.ensures.bound.1 c.carry_out.ensures.fetches
+
+pub returns-then-not-built-clause-unbuilt : goal.returns-then-not-built-clause-unbuilt
+returns-then-not-built-clause-unbuilt g c unbuilt = ap said.Refused c.not_built.ensures
+
+pub returns-in-Ok-clause-unbuilt : goal.returns-in-Ok-clause-unbuilt
+returns-in-Ok-clause-unbuilt g c unbuilt =
+    let wrong : true ≡ false = sym (sym c.built.ensures ∙ c.if-not-built.false) ∙ unbuilt in
+    absurd (cc)
+
+pub returns-in-Err-Refused-clause-unbuilt : goal.returns-in-Err-Refused-clause-unbuilt
+returns-in-Err-Refused-clause-unbuilt g c unbuilt =
+    let wrong : true ≡ false = sym (sym c.built.ensures ∙ c.if-not-built.false) ∙ unbuilt in
+    absurd (cc)
+
+pub returns-in-Ok-clause-catalog : goal.returns-in-Ok-clause-catalog
+returns-in-Ok-clause-catalog g c =
+    reads_as_bound c.args.tables.now.catalog c.args.stmt.now c.in-Ok.bound
+    (is_bound_on c.args.tables.now.catalog c.args.stmt.now c.in-Ok.bound (sym c.built.ensures ∙ c.if-not-built.false) c.in-Ok.ensures.bound) c.carry_out.ensures.catalog

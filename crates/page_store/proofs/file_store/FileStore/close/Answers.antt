@@ -1,6 +1,7 @@
 -- The host is handed back as it is.
 use Rattle.std.proofs.Common.{sym}
 use Rattle.page_store.proofs.Deciding.{each_left}
+use Rattle.page_store.proofs.Grown.{grown_closed}
 use Rattle.page_store.proofs.Wholes.{still_going, holds_base}
 use Rattle.page_store.proofs.file_store.FileStore.close.Goals as goal
 
@@ -16,3 +17,6 @@ returns-clause-base g c = λ ended.
 pub returns-clause-told : goal.returns-clause-told
 returns-clause-told g c =
     rw (← c.self.view_is) (sym (g.met.H.Host.lies_beside c.self.inside.host).0)
+
+pub returns-clause-grew : goal.returns-clause-grew
+returns-clause-grew g c = rw (← c.self.view_is) (grown_closed _ (g.H.Disk.file c.self.inside.host) c.self.inside.desk.halt c.self.invariant.grew)

@@ -1,10 +1,12 @@
 -- The host tells what it told before, and the desk has nothing on it.
-use Rattle.std.proofs.Common.{ap, subst, ◌∙◌}
+use Rattle.std.proofs.Common.{IsTrue, ap, arith, subst, sym, ◌∙◌}
 use Rattle.mdc_outside.specs.Disk.{File}
 use Rattle.page_file.proofs.LeavesLemmas.{one_file}
 use Rattle.page_store.specs.Opening.{StandsAs}
+use Rattle.page_store.proofs.Grown.{grown_at_opening}
 use Rattle.page_store.proofs.Openings.{shown_as_before, still_told, states_shape, leaves_base_since}
 use Rattle.page_store.proofs.Passing.{rests_kept}
+use Rattle.page_store.proofs.Wholes.{length-base_of}
 use Rattle.page_store.proofs.file_store.FileStore.open.Goals as goal
 
 pub returns-in-Ok-clause-just_opened : goal.returns-in-Ok-clause-just_opened
@@ -24,3 +26,18 @@ returns-in-Ok-clause-base_since g c = λ file is said.
 pub returns-in-Ok-clause-rests : goal.returns-in-Ok-clause-rests
 returns-in-Ok-clause-rests g c =
     rests_kept g.H.Disk.file g.H.Disk.beside g.H.Disk.attaches g.H.Disk.clock g.H.Disk.moment (record { host = c.lay_out.new.disk; desk = c.in-Ok.desk }) (g.met.H.Disk.only_now c.lay_out.new.disk) c.in-Ok.ensures.kept c.in-Ok.ensures.empty.halt
+
+pub invariant_of-result : goal.invariant_of-result
+invariant_of-result g c =
+    let opened = c.in-Ok.ensures in
+    record {
+      attached = subst IsTrue (sym opened.opens.attached) c.requires.attached;
+      kept = λ going. opened.kept;
+      grew = grown_at_opening g.O.Origin.first c.in-Ok.desk c.requires.origin opened.opens opened.writes (λ file is. (opened.served file is).0) opened.kept;
+    }
+
+pub returns-in-Ok-clause-limits : goal.returns-in-Ok-clause-limits
+returns-in-Ok-clause-limits g c =
+    let kept = c.in-Ok.ensures.kept in
+    let size = length-base_of (g.H.Disk.file c.lay_out.new.disk) c.in-Ok.desk c.in-Ok.ensures.empty.halt in
+    (omega (arith, size, kept.some), omega (arith, size, kept.count.0, kept.count.1))

@@ -19,9 +19,10 @@ admit-requires-clause-within g c = omega (arith, c.requires.within, held_pages g
 
 pub invariant_of-self-lent : goal.invariant_of-self-lent
 invariant_of-self-lent g c =
+    let going = still_going c.self.inside.host c.self.inside.desk c.args.self.now c.self.view_is c.requires.going in
     let attached : IsTrue (g.H.Disk.is_attached c.admit.new.disk) = search rules in λ _. (
-      (λ w. whole_again _ _ _ attached (kept_same _ c.admit.new.self (c.edit.follows.lender w) c.admit.ensures.still_kept (c.edit.follows.holds w).0 c.admit.ensures.bare.0 c.admit.ensures.bare.1)),
-      whole_again _ _ _ attached (kept_same _ c.admit.new.self c.edit.follows.lender-at-none c.admit.ensures.still_kept c.edit.follows.holds-at-none.0 c.admit.ensures.bare.0 c.admit.ensures.bare.1),
+      (λ w. whole_again _ _ _ _ c.self.inside.desk _ attached (kept_same _ c.admit.new.self (c.edit.follows.lender w) c.admit.ensures.still_kept (c.edit.follows.holds w).0 c.admit.ensures.bare.0 c.admit.ensures.bare.1) c.admit.ensures.same going c.self.invariant.grew),
+      whole_again _ _ _ _ c.self.inside.desk _ attached (kept_same _ c.admit.new.self c.edit.follows.lender-at-none c.admit.ensures.still_kept c.edit.follows.holds-at-none.0 c.admit.ensures.bare.0 c.admit.ensures.bare.1) c.admit.ensures.same going c.self.invariant.grew,
     )
 
 pub returns-in-Ok : goal.returns-in-Ok

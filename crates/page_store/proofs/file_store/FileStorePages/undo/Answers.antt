@@ -1,3 +1,4 @@
+use Rattle.std.proofs.Common.{refl}
 use Rattle.page_store.proofs.BesideLemmas.{same_beside}
 use Rattle.page_store.proofs.Passing.{stays}
 use Rattle.page_store.proofs.Wholes.{still_going, whole_again}
@@ -6,7 +7,7 @@ use Rattle.page_store.proofs.file_store.FileStorePages.undo.Goals as goal
 pub invariant_of-self : goal.invariant_of-self
 invariant_of-self g c =
     let going = still_going c.self.inside.host c.self.inside.desk c.args.self.now c.self.view_is c.requires.going in
-    whole_again _ _ c.undo.new.self c.self.invariant.attached (c.undo.ensures.kept _ (c.self.invariant.kept going))
+    whole_again _ _ _ _ c.self.inside.desk c.undo.new.self c.self.invariant.attached (c.undo.ensures.kept _ (c.self.invariant.kept going)) refl going c.self.invariant.grew
 
 pub returns-clause-undone : goal.returns-clause-undone
 returns-clause-undone g c =

@@ -1,4 +1,4 @@
-use Rattle.std.proofs.Common.{arith}
+use Rattle.std.proofs.Common.{arith, refl}
 use Rattle.page_store.proofs.BesideLemmas.{same_beside}
 use Rattle.page_store.proofs.Passing.{stays}
 use Rattle.page_store.proofs.Wholes.{still_going, held_pages, whole_again}
@@ -10,7 +10,7 @@ write-requires g c = omega (arith, c.requires.within, held_pages g.H.Disk.file c
 pub invariant_of-self : goal.invariant_of-self
 invariant_of-self g c =
     let going = still_going c.self.inside.host c.self.inside.desk c.args.self.now c.self.view_is c.requires.going in
-    whole_again _ _ c.write.new.self c.self.invariant.attached (c.write.ensures.kept _ (c.self.invariant.kept going))
+    whole_again _ _ _ _ c.self.inside.desk c.write.new.self c.self.invariant.attached (c.write.ensures.kept _ (c.self.invariant.kept going)) refl going c.self.invariant.grew
 
 pub returns-clause-ok : goal.returns-clause-ok
 returns-clause-ok g c =

@@ -1,11 +1,23 @@
+use Rattle.std.proofs.Common.{◌≡◌, None, rules}
 use Rattle.store_api.specs.Moments.{BaseOrWork}
-use Rattle.page_store.specs.Desk.{state_of}
+use Rattle.page_store.specs.Desk.{IsKept, state_of}
 use Rattle.page_store.specs.FileStore.{beside_of}
 use Rattle.page_store.proofs.BesideLemmas.{same_beside}
 use Rattle.page_store.proofs.FrontAgreesLemmas.{agrees_after, agrees_at_rest}
+use Rattle.page_store.proofs.Grown.{grown_by_commit}
 use Rattle.page_store.proofs.Passing.{passes, rests, commit_rests, commit_agrees, either_reopens, if_said}
 use Rattle.page_store.proofs.Wholes.{still_going}
 use Rattle.page_store.proofs.file_store.FileStoreStore.commit.Goals as goal
+
+pub invariant_of-self : goal.invariant_of-self
+invariant_of-self g c =
+    let going = still_going c.self.inside.host c.self.inside.desk c.args.self.now c.self.view_is c.requires.going in
+    let kept : c.commit.new.self.halt ≡ None → IsKept c.commit.new.self (g.H.Disk.file c.commit.new.disk) = search rules in
+    record {
+      attached = search rules;
+      kept = kept;
+      grew = grown_by_commit c.commit.result _ c.self.inside.desk c.commit.new.self (c.self.invariant.kept going) going (search rules) c.commit.ensures.base c.commit.ensures.halted kept c.commit.ensures.leaves c.commit.ensures.reach c.self.invariant.grew;
+    }
 
 pub returns-clause-ok : goal.returns-clause-ok
 returns-clause-ok g c = rw (← c.self.view_is, c.commit.ensures.leaves.beside, c.commit.ensures.leaves.listed, same_beside (g.H.Disk.attaches c.self.inside.host) c.commit.ensures.shape) (c.commit.ensures.ok _ _)

@@ -1,10 +1,10 @@
-use Rattle.std.proofs.Common.{arith}
+use Rattle.std.proofs.Common.{IsTrue, arith, rules}
 use Rattle.page_file.proofs.RunsLemmas.{runs_within}
 use Rattle.page_file.proofs.LeavesLemmas.{runs_leave}
 use Rattle.page_file.proofs.LeavesLemmas.{sound_image}
 use Rattle.page_store.proofs.BesideLemmas.{same_beside}
 use Rattle.page_store.proofs.Passing.{keeps_base}
-use Rattle.page_store.proofs.Wholes.{still_going, length-base_of}
+use Rattle.page_store.proofs.Wholes.{still_going, length-base_of, whole_again}
 use Rattle.page_store.proofs.file_store.FileStoreStore.committed.Goals as goal
 
 pub committed-requires-clause-within : goal.committed-requires-clause-within
@@ -12,6 +12,12 @@ committed-requires-clause-within g c =
     let going = still_going c.self.inside.host c.self.inside.desk c.args.self.now c.self.view_is c.requires.going in
     let within = rw (← c.self.view_is) at c.requires.within in
     omega (arith, within, length-base_of (g.H.Disk.file c.self.inside.host) c.self.inside.desk going)
+
+pub invariant_of-self : goal.invariant_of-self
+invariant_of-self g c =
+    let going = still_going c.self.inside.host c.self.inside.desk c.args.self.now c.self.view_is c.requires.going in
+    let attached : IsTrue (g.H.Disk.is_attached c.committed.new.disk) = search rules in
+    whole_again _ _ _ _ c.self.inside.desk c.committed.new.self attached c.committed.ensures.still_kept c.committed.ensures.same going c.self.invariant.grew
 
 pub returns-clause-ok : goal.returns-clause-ok
 returns-clause-ok g c = rw (← c.self.view_is, c.committed.ensures.runs.beside, c.committed.ensures.runs.listed, same_beside (g.H.Disk.attaches c.self.inside.host) c.committed.ensures.shape) (c.committed.ensures.ok _ _)

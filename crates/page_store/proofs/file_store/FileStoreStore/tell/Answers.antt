@@ -11,7 +11,7 @@ pub invariant_of-self : goal.invariant_of-self
 invariant_of-self g c =
     let going = still_going c.self.inside.host c.self.inside.desk c.args.self.now c.self.view_is c.requires in
     let kept = c.self.invariant.kept going in
-    rw (c.say.ensures.file, c.say.ensures.attached) (whole_again _ _ _ c.self.invariant.attached (kept_with _ c.self.inside.desk None c.self.inside.desk.cache kept kept.clean (λ none. absurd (cc))))
+    rw (c.say.ensures.file, c.say.ensures.attached) (whole_again _ _ _ _ c.self.inside.desk _ c.self.invariant.attached (kept_with _ c.self.inside.desk None c.self.inside.desk.cache kept kept.clean (λ none. absurd (cc))) refl going c.self.invariant.grew)
 
 pub returns-clause-ok : goal.returns-clause-ok
 returns-clause-ok g c =

@@ -1,6 +1,6 @@
 use Rattle.std.proofs.Common.{Err, ap}
 use Rattle.store_api.proofs.WorksLemmas.{rests_steady}
-use Rattle.script_engine.proofs.OpeningLemmas.{exact_read, opened_may, opened_ready, opened_rests}
+use Rattle.script_engine.proofs.OpeningLemmas.{exact_read, opened_going, opened_may, opened_ready, opened_rests}
 use Rattle.script_engine.proofs.engine.Engine.open.Goals as goal
 
 pub returns-in-Ok-clause-may : goal.returns-in-Ok-clause-may
@@ -26,3 +26,8 @@ returns-in-Ok-clause-rests g c =
 
 pub returns-in-Err-clause-rests : goal.returns-in-Err-clause-rests
 returns-in-Err-clause-rests g c = rests_steady (g.met.S.Pages.earlier c.load_exactly.new.pages) c.requires.going c.in-Err.ensures.loads.reads.steady
+
+pub returns-in-Ok-clause-opened : goal.returns-in-Ok-clause-opened
+returns-in-Ok-clause-opened g c same =
+    opened_going g.S.Pages c.args.shape c.args.store c.load_exactly.new.pages c.engine_on.result c.in-Ok.catalog c.in-Ok.ensures.loads.reads c.engine_on.ensures.is c.engine_on.ensures.catalog c.in-Ok.ensures.loads.limits
+    c.in-Ok.ensures.loads.names c.requires.going c.requires.unmarked same

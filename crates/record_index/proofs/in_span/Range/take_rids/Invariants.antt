@@ -1,5 +1,0 @@
-use Rattle.record_index.proofs.RangesLemmas.{IsTaking}
-use Rattle.record_index.proofs.in_span.Range.take_rids.Given as goal
-
-abbrev pub invariant-loop-i : goal.invariant-loop-i
-invariant-loop-i g l = IsTaking l.self l.leaf l.i l.initial.numbers.items l.numbers.items l.initial.entries l.entries
