@@ -1,0 +1,15 @@
+pub mod CellBlocksLemmas
+pub mod DatabaseItemsLemmas
+pub mod FullStatementsLemmas
+pub mod HalfTreesLemmas
+pub mod MadeTreesLemmas
+pub mod PutChangesLemmas
+pub mod SpaceCountsLemmas
+pub mod StaysTightLemmas
+pub mod TableCountsLemmas
+pub mod TightChainsLemmas
+pub mod TightDatabaseLemmas
+pub mod TightItemsLemmas
+pub mod TightSpotsLemmas
+pub mod TreePagesLemmas
+pub mod TreeSizesLemmas
