@@ -1,0 +1,17 @@
+pub mod BlockLeavingLemmas
+pub mod CellRowsLemmas
+pub mod ChosenBlocksLemmas
+pub mod FreeingLemmas
+pub mod HitStepsLemmas
+pub mod LeavingRowsLemmas
+pub mod ListedBlocksLemmas
+pub mod LookedTableLemmas
+pub mod LosingRowsLemmas
+pub mod NamedDimensionsLemmas
+pub mod RolledTableLemmas
+pub mod RollingBlockLemmas
+pub mod RollingCellLemmas
+pub mod RollingLoopLemmas
+pub mod RollingTableLemmas
+pub mod SoundRolledLemmas
+pub mod StandsForRolledLemmas
