@@ -6,4 +6,5 @@ pub mod MapFormLemmas
 pub mod MapLinesLemmas
 pub mod MapOrderLemmas
 pub mod MapRunsLemmas
+pub mod RisingEntriesLemmas
 pub mod WalkingLemmas

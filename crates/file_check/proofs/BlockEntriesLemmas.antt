@@ -1,5 +1,5 @@
 -- The block indexes of a table are judged by the first rows of its blocks and by how many entries they have.
-use Rattle.std.proofs.Common.{◌≡◌, ◌≢◌, ◌≤◌, ◌<◌, ◌+◌, ◌^◌, ◌∙◌, ℕ, zero, suc, List, [], ◌∷◌, ◌++◌, Option, false, true, Some, None, ap, arith, get_or, inl, inr, length, length-append, map, refl, remove, subst, sym, take}
+use Rattle.std.proofs.Common.{◌≡◌, ◌≢◌, ◌≤◌, ◌<◌, ◌+◌, ◌^◌, ◌∙◌, ℕ, suc, List, [], ◌∷◌, ◌++◌, Option, Some, None, ap, arith, get_or, inl, inr, length, length-append, map, refl, remove, subst, sym, take}
 use Rattle.std.specs.Prelude.{◌⊎◌, AllPairs, Contains, IsPermutation, flat_map, slice_get, zip}
 use Rattle.std.specs.List.{AllByRecursion}
 use Rattle.std.proofs.Math.Nat.{mod-eq_of_lt}
@@ -10,7 +10,7 @@ use Rattle.std.proofs.lemmas.List.Sorted.{Contains-permutation, IsPermutation-re
 use Rattle.std.proofs.lemmas.Option.{same_Some}
 use Rattle.byteorder.specs.Endian.{big_bytes, big_number}
 use Rattle.byteorder.specs.Numbers.{big_from-bytes}
-use Rattle.mdc_words.specs.ByteOrder.{Entry, below}
+use Rattle.mdc_words.specs.ByteOrder.{Entry}
 use Rattle.key_codec.specs.Keys.{key_bytes, width_of_parts}
 use Rattle.mdc_values.specs.declared.value.Value.{Value}
 use Rattle.mdc_ast.specs.declared.definition.KeyPart.{KeyPart}
@@ -22,13 +22,12 @@ use Rattle.store_api.specs.declared.pages.Pages.{Ghosts}
 use Rattle.store_api.specs.declared.shape.Shape.{Shape}
 use Rattle.store_api.proofs.RunsOverPagesLemmas.{runs_then, runs_wider}
 use Rattle.node_page.specs.Node.{number_within}
-use Rattle.entry_tree.specs.EntryBounds.{Climbs, Rises}
 use Rattle.entry_tree.specs.Forest.{Forest, leaf_entries}
 use Rattle.entry_tree.specs.HeldTrees.{BreaksTree}
-use Rattle.entry_tree.proofs.EntryBoundsLemmas.{below_itself, below_trans}
 use Rattle.entry_tree.proofs.LeafFromLemmas.{Fits-entries}
 use Rattle.block_map.specs.MapLines.{map_line, map_lines, used_blocks}
 use Rattle.block_map.proofs.MapLinesLemmas.{contains_cases, contains_more}
+use Rattle.block_map.proofs.RisingEntriesLemmas.{rising_differ}
 use Rattle.table_trees.specs.RowCells.{AreOfOneCell}
 use Rattle.table_trees.specs.TableTrees.{TreePlace, cell_parts, composite_place, place_of_tree}
 use Rattle.table_trees.specs.ToldPages.{HasTree, PageList}
@@ -130,29 +129,7 @@ same_block xs ys a b la lb e =
     let ends = same_ends xs ys (big_bytes 4 a) (big_bytes 4 b) fronts e in
     sym (mod-eq_of_lt la) ∙ sym (big_from-bytes 4 a []) ∙ ap (big_number 4) (ap (λ (zs : List ℕ). zs ++ []) ends) ∙ big_from-bytes 4 b [] ∙ mod-eq_of_lt lb
 
--- entries that rise lie above the one before them, and differ
-climbs_above : (x : Entry) (xs : List Entry) (z : Entry) → Climbs x None xs → Contains xs z → below x z ≡ true
-climbs_above x [] z climbs (k, low, at) = absurd (omega (arith, low))
-climbs_above x (y ∷ ys) z climbs there = elim (contains_cases z y ys there) [
-  | inl is ↦ subst (λ (e : Entry). below x e ≡ true) is climbs.0
-  | inr c ↦ below_trans x y z climbs.0 (climbs_above y ys z climbs.2 c)
-]
-
-rises_behind : (x : Entry) (xs : List Entry) → Climbs x None xs → Rises None None xs
-rises_behind x [] climbs = tt
-rises_behind x (y ∷ ys) climbs = (tt, tt, climbs.2)
-
-rising_differ : (xs : List Entry) → Rises None None xs → AllPairs (λ a b. a ≢ b) xs
-rising_differ [] rises i j d low high same = omega (arith, high)
-rising_differ (x ∷ xs) rises i zero d low high same = omega (arith, low)
-rising_differ (x ∷ xs) rises zero (suc j) d low high same =
-    let above : below x (get_or xs j d) ≡ true = climbs_above x xs (get_or xs j d) rises.2 (Contains-get_or xs j d (omega (arith, high))) in
-    let itself : below x x ≡ true = subst (λ (e : Entry). below x e ≡ true) (sym same) above in
-    let not : below x x ≡ false = below_itself x in
-    cc
-rising_differ (x ∷ xs) rises (suc i) (suc j) d low high same = rising_differ xs (rises_behind x xs rises.2) i j d (omega (arith, low)) (omega (arith, high)) same
-
--- so no entry stands twice in a tree
+-- no entry stands twice in a tree
 tree_differs : (pages : PageList) (at : TreePlace) (tree : Forest) → HasTree pages at tree → AllPairs (λ a b. a ≢ b) (leaf_entries tree)
 tree_differs pages at tree has = rising_differ (leaf_entries tree) (Fits-entries None None [] tree has.is_tree.fits)
 

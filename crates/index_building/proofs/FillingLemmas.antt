@@ -1,11 +1,10 @@
 -- The walk that enters rows in a record index, one after the other.
-use Rattle.std.proofs.Common.{◌≡◌, ◌<◌, ◌+◌, ◌∙◌, ℕ, zero, suc, List, [], ◌∷◌, ◌++◌, Option, None, Some, length, map, set, take, drop, get_or, refl, ap, arith, sym, subst, inl, inr}
+use Rattle.std.proofs.Common.{◌≡◌, ◌<◌, ◌+◌, ◌∙◌, ℕ, zero, suc, List, [], ◌∷◌, ◌++◌, Option, None, Some, length, map, set, get_or, refl, ap, arith, sym, subst, inl, inr}
 use Rattle.std.specs.Prelude.{Contains, IsTrue, slice_get}
 use Rattle.std.specs.List.{FoldsTo}
-use Rattle.std.proofs.Math.Seq.{take-suc}
 use Rattle.std.proofs.lemmas.List.{map-append}
 use Rattle.std.proofs.lemmas.List.Elements.{All-get_or}
-use Rattle.std.proofs.lemmas.Option.{same_Some, slice_get-get_or, slice_get_within}
+use Rattle.std.proofs.lemmas.Option.{same_Some, slice_get_within}
 use Rattle.mdc_words.specs.ByteOrder.{Entry}
 use Rattle.mdc_words.proofs.PlacesLemmas.{slice_get-set_same}
 use Rattle.mdc_ast.specs.declared.definition.IndexDef.{IndexDef}
@@ -31,8 +30,8 @@ use Rattle.table_trees.specs.TableTrees.{TreePlace, composite_place, dimension_p
 use Rattle.table_trees.specs.TreesBeside.{ChangesTrees, GrowsPages, HoldsTreeAt, IsSpaceOfTrees}
 use Rattle.table_trees.proofs.PageCountLemmas.{grows_pages_none, grows_pages_then}
 use Rattle.table_trees.proofs.SideBySideLemmas.{changes_none, changes_then, space_back, tree_among}
-use Rattle.table_trees.proofs.TreeListsLemmas.{beside_at, cut_at}
-use Rattle.block_rows.specs.HeldRows.{HasReadValues, HaveReadValues, placed_row}
+use Rattle.table_trees.proofs.TreeListsLemmas.{beside_at}
+use Rattle.block_rows.specs.HeldRows.{HasReadValues, HaveReadValues}
 use Rattle.block_rows.specs.declared.hit.Hit.{Hit}
 use Rattle.mdc_sound.specs.BlockRules.{IsSoundIndex}
 use Rattle.mdc_sound.specs.StandingTable.{NamesTablePart, roots_in}
@@ -207,18 +206,6 @@ module _ {S : Type 0} (g : Ghosts S) (shape : Shape) (before : SpaceNotes) (old 
     )
 
 -- ---- one of some rows
-
--- those before it, and those behind it
-pub cut_at_hit : (hits : List Hit) (n : ℕ) (hit : Hit) → n < length hits → hit ≡ get_or hits n hit
-    → map placed_row hits ≡ map placed_row (take n hits) ++ placed_row hit ∷ map placed_row (drop (suc n) hits)
-cut_at_hit hits n hit low is =
-    ap (map placed_row) (cut_at hits n hit (slice_get-get_or hits n hit low ∙ ap Some (sym is))) ∙ map-append placed_row (take n hits) (hit ∷ drop (suc n) hits)
-
-pub one_more_hit : (hits : List Hit) (n : ℕ) (hit : Hit) → n < length hits → hit ≡ get_or hits n hit → map placed_row (take n hits) ++ placed_row hit ∷ [] ≡ map placed_row (take (n + 1) hits)
-one_more_hit hits n hit low is =
-    let next : suc n ≡ n + 1 = omega arith in
-    sym (map-append placed_row (take n hits) (hit ∷ []))
-    ∙ (ap (λ x. map placed_row (take n hits ++ x ∷ [])) is ∙ (ap (map placed_row) (sym (take-suc hits n hit low)) ∙ ap (λ m. map placed_row (take m hits)) next))
 
 -- it has keys in the index
 pub keys_of_hit : (def : TableDef) (index : ℕ) (which : IndexDef) (hits : List Hit) (n : ℕ) (hit : Hit) → slice_get def.indexes index ≡ Some which → ArePartsOf def.columns which.parts → HaveReadValues def.columns hits

@@ -96,7 +96,7 @@ module _ {S : Type 0} {g : Ghosts S} (shape : Shape) (s : S) (def : TableDef) (o
       }
 
   -- no block is Used and Pending
-  not_both : (block : ℕ) → Contains (used_blocks forests.map) block → Contains (pending_blocks forests.map) block → ⊥
+  pub not_both : (block : ℕ) → Contains (used_blocks forests.map) block → Contains (pending_blocks forests.map) block → ⊥
   not_both block used pending =
       let line = used_line forests.map block used in
       let other = named_in_state 2 (leaf_entries forests.map) block pending in

@@ -1,12 +1,11 @@
 // Spans of one column under an AND as one span.
 ghost use Rattle.std.specs.Prelude.{◌≡◌, OnOk};
-ghost use Rattle.row_groups.specs.Values.{sql_order};
 ghost use Rattle.plan_chooser.specs.Narrowing as spec;
 
 use crate::{ColumnSpan, Source};
 use mdc_ast::{Cut, Span};
-use mdc_values::{List, Memory, Value, place};
-use std::cmp::Ordering;
+use mdc_values::{List, Memory};
+use row_groups::sql_order;
 
 /// Puts a span beside others of which all hold. One of the same column and source becomes what lies in both.
 pub(crate) fn narrow(spans: &mut List<ColumnSpan>, more: ColumnSpan) -> Result<(), Memory>
@@ -71,22 +70,9 @@ fn is_below(a: &Cut, b: &Cut) -> bool
     match (a, b) {
         (Cut::Last, _) | (_, Cut::First) => false,
         (Cut::First, _) | (_, Cut::Last) => true,
-        (Cut::Before(a), Cut::Before(b)) => order_of(a, b).is_lt(),
-        (Cut::Before(a), Cut::After(b)) => order_of(a, b).is_le(),
-        (Cut::After(a), Cut::Before(b)) => order_of(a, b).is_lt(),
-        (Cut::After(a), Cut::After(b)) => order_of(a, b).is_lt(),
-    }
-}
-
-/// SQL order. Where the kinds differ numbers come first, then texts, then days, and a null stands above all.
-fn order_of(a: &Value, b: &Value) -> Ordering
-    ensures { result ≡ sql_order a.now b.now }
-{
-    match (a, b) {
-        (Value::Int(_), Value::Text(_) | Value::Day(_)) => Ordering::Less,
-        (Value::Text(_), Value::Day(_)) => Ordering::Less,
-        (Value::Text(_), Value::Int(_)) => Ordering::Greater,
-        (Value::Day(_), Value::Int(_) | Value::Text(_)) => Ordering::Greater,
-        _ => place(a, b),
+        (Cut::Before(a), Cut::Before(b)) => sql_order(a, b).is_lt(),
+        (Cut::Before(a), Cut::After(b)) => sql_order(a, b).is_le(),
+        (Cut::After(a), Cut::Before(b)) => sql_order(a, b).is_lt(),
+        (Cut::After(a), Cut::After(b)) => sql_order(a, b).is_lt(),
     }
 }

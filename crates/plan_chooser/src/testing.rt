@@ -1,6 +1,5 @@
 // Covers of tests of a column.
 ghost use Rattle.std.specs.Prelude.{◌≡◌, ◌<◌, length, IfOk};
-ghost use Rattle.predicate.specs.Pushed as pushed;
 ghost use Rattle.mdc_ast.specs.declared.predicate.Test.TheVariants as column_test;
 ghost use Rattle.plan_chooser.specs.Rule as spec;
 
@@ -10,6 +9,7 @@ use crate::spans::{null_span, spans_of};
 use crate::{ColumnSpan, Cover, Source};
 use mdc_ast::{Atom, PlanMode, Right, Span, TableDef, Test};
 use mdc_values::{List, Memory, Op, Value};
+use predicate::op_if;
 use std::alloc::Global;
 
 /// The cover of a test with its own NOT, or of its negation.
@@ -145,24 +145,5 @@ fn is_unequal(op: Op) -> bool
     match op {
         Op::Unequal => true,
         Op::Equal | Op::Less | Op::AtMost | Op::Greater | Op::AtLeast => false,
-    }
-}
-
-fn op_if(negated: bool, op: Op) -> Op
-    ensures { result ≡ pushed.op_if negated op }
-{
-    if negated { opposite(op) } else { op }
-}
-
-fn opposite(op: Op) -> Op
-    ensures { result ≡ pushed.opposite op }
-{
-    match op {
-        Op::Equal => Op::Unequal,
-        Op::Unequal => Op::Equal,
-        Op::Less => Op::AtLeast,
-        Op::AtMost => Op::Greater,
-        Op::Greater => Op::AtMost,
-        Op::AtLeast => Op::Less,
     }
 }

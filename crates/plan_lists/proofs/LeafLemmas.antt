@@ -2,7 +2,6 @@
 use Rattle.std.proofs.Common.{◌≡◌, ◌≢◌, ◌<◌, ℕ, zero, suc, List, [], ◌∷◌, ◌++◌, Bool, true, false, refl, ap, arith, sym, ◌∙◌, subst, inl, inr, length}
 use Rattle.std.specs.Prelude.{◌||◌, Contains, IsTrue, Some, map, slice_get, slice_index_or, zip}
 use Rattle.std.proofs.Math.Bool.{or-false}
-use Rattle.std.proofs.lemmas.Bool.Decides.{nat_tests}
 use Rattle.std.proofs.lemmas.List.{length-map}
 use Rattle.std.proofs.lemmas.List.Elements.{Contains-append_left}
 use Rattle.std.proofs.lemmas.Option.{same_Some}
@@ -26,9 +25,8 @@ use Rattle.entry_tree.specs.EntryBounds.{IsEntryOf}
 use Rattle.entry_tree.specs.Forest.{Forest, leaf_entries}
 use Rattle.entry_tree.specs.declared.tree.Tree.{Tree}
 use Rattle.entry_tree.proofs.WidthsLemmas.{tree_wide}
-use Rattle.block_map.specs.MapLines.{map_line, pending_blocks, used_blocks}
-use Rattle.block_map.proofs.MapFormLemmas.{form_one}
-use Rattle.block_map.proofs.MapLinesLemmas.{contains_more, named_in_state}
+use Rattle.block_map.specs.MapLines.{pending_blocks, used_blocks}
+use Rattle.block_map.proofs.MapLinesLemmas.{contains_more}
 use Rattle.block_index.specs.Cells.{HaveKeys, entry_under, key_of_values}
 use Rattle.block_index.specs.PartRanges.{last_block}
 use Rattle.block_index.specs.Reading.{AreBlocksInSpan, AreKeyed, IsListed}
@@ -46,7 +44,6 @@ use Rattle.mdc_sound.proofs.BlockRulesLemmas.{each_of}
 use Rattle.mdc_sound.proofs.CellKeysLemmas.{dimension_key-same}
 use Rattle.mdc_sound.proofs.DefinitionTreesLemmas.{has_block_indexes}
 use Rattle.mdc_sound.proofs.ElementsLemmas.{contains_entry, each_in, entry_in, flat_contains, from_map, in_map}
-use Rattle.mdc_sound.proofs.MappedBlocksLemmas.{used_line}
 use Rattle.mdc_sound.proofs.SlotRowsLemmas.{slot_of_placed}
 use Rattle.record_index.specs.FoundRids.{FindsRids, IsRid}
 use Rattle.record_index.specs.RecordIndexes.{HaveKeysIn, parts_of_record_index, place_of_record_index}
@@ -55,7 +52,7 @@ use Rattle.record_index.proofs.IndexesLemmas.{has_indexes, index_parts, key_part
 use Rattle.record_index.proofs.KeysLemmas.{keys_of_fitting as record_keys_of_fitting}
 use Rattle.record_index.proofs.SoundRowsLemmas.{finds_within}
 use Rattle.live_rows.proofs.LookInTableLemmas.{look_breaks}
-use Rattle.live_rows.proofs.StandingTwinsLemmas.{index_there, index_tree, lies_in_used, map_has_form, zip_long}
+use Rattle.live_rows.proofs.StandingTwinsLemmas.{index_there, index_tree, lies_in_used, not_both, zip_long}
 use Rattle.row_entries.proofs.StandingRowsLemmas.{lie_apart}
 use Rattle.block_lists.specs.Lists.{holds, lists_block}
 use Rattle.block_lists.specs.Places.{has_number, has_rid}
@@ -132,15 +129,6 @@ module _ {S : Type 0} {g : Ghosts S} (shape : Shape) (s : S) (def : TableDef) (d
       | inl one ↦ one
       | inr apart ↦ elim apart [ inl forth ↦ absurd (forth same) | inr back ↦ absurd (back (sym same)) ]
     ]
-
-    -- no block is Used and Pending
-    not_both : (block : ℕ) → Contains (used_blocks forests.map) block → Contains (pending_blocks forests.map) block → ⊥
-    not_both block used pending =
-        let line = used_line forests.map block used in
-        let other = named_in_state 2 (leaf_entries forests.map) block pending in
-        let same = form_one forests.map line.entry other.entry (map_has_form shape s def owners forests st).form line.there other.there (line.block_is ∙ sym other.block_is) in
-        let two : (map_line other.entry).state ≡ 2 = grind (arith, nat_tests, other.state) in
-        omega (arith, ap (λ (x : Entry). (map_line x).state) same, line.used, two)
 
     -- ---- the index of a dimension
 
@@ -274,7 +262,7 @@ module _ {S : Type 0} {g : Ghosts S} (shape : Shape) (s : S) (def : TableDef) (d
             same_test (has_rid rids placed.rid) (lies placed)
             (λ h. elim (wanted.only placed.rid (rid_in rids placed.rid h)) [
               | inl row ↦ ap lies (sym (same_row row.placed placed row.there there row.at)) ∙ row.wanted
-              | inr pending ↦ absurd (not_both placed.rid.block (lies_in_used shape s def owners forests st placed there).used pending)
+              | inr pending ↦ absurd (not_both shape s def owners forests st placed.rid.block (lies_in_used shape s def owners forests st placed there).used pending)
             ])
             (λ h. in_rids rids placed.rid (wanted.all placed there h))
             ∙ ap (λ n. lies_in_span span (value_at placed.row.values n)) (sym column_is)
@@ -282,7 +270,7 @@ module _ {S : Type 0} {g : Ghosts S} (shape : Shape) (s : S) (def : TableDef) (d
         pub rids_of_rows : (rid : Rid) → has_rid rids rid ≡ true → Contains (used_blocks forests.map) rid.block → HasRowIn rows rid
         rids_of_rows rid h used = elim (wanted.only rid (rid_in rids rid h)) [
           | inl row ↦ (row.placed, row.there, row.at)
-          | inr pending ↦ absurd (not_both rid.block used pending)
+          | inr pending ↦ absurd (not_both shape s def owners forests st rid.block used pending)
         ]
 
   -- the damage of the index of a dimension is the table's

@@ -115,13 +115,15 @@ fn copy_of(alloc: Global, right: &Right) -> Result<Right, Memory>
     }
 }
 
-fn op_if(negated: bool, op: Op) -> Op
+/// A comparison, or the opposite one.
+pub fn op_if(negated: bool, op: Op) -> Op
     ensures { result ≡ op_if negated op }
 {
     if negated { opposite(op) } else { op }
 }
 
-fn opposite(op: Op) -> Op
+/// The comparison that is true of two values exactly where this one is false, where neither is null.
+pub fn opposite(op: Op) -> Op
     ensures { result ≡ opposite op }
 {
     match op {

@@ -11,5 +11,6 @@ mod judging;
 mod pushing;
 
 pub use combining::negated_if;
+pub use comparing::{op_if, opposite};
 pub use judging::{truth, truth_of_test};
 pub use pushing::push_not;

@@ -29,4 +29,5 @@ pub use groups::Groups;
 pub use keys::append_key;
 pub use laws::{named_columns_decide, order_is_one};
 pub use line::{Line, Shown};
+pub use values::sql_order;
 pub use whole::shown_lines;

@@ -60,7 +60,7 @@ fn size_of(value: &Value) -> usize
 }
 
 /// SQL order. Where the kinds differ numbers come first, then texts, then days, and a null stands above all.
-pub(crate) fn sql_order(a: &Value, b: &Value) -> Ordering
+pub fn sql_order(a: &Value, b: &Value) -> Ordering
     ensures { result ≡ sql_order a.now b.now }
 {
     match (a, b) {

@@ -137,7 +137,7 @@ none_twice-kept f p (x ∷ xs) none = elim (cases_Bool (p x)) [
 ]
 
 -- a number is in a list, or it isn't
-in_or_not : (x : ℕ) (xs : List ℕ) → Contains xs x ⊎ (Contains xs x → ⊥)
+pub in_or_not : (x : ℕ) (xs : List ℕ) → Contains xs x ⊎ (Contains xs x → ⊥)
 in_or_not x [] = inr (λ there. omega (arith, there.1))
 in_or_not x (y ∷ xs) = elim (cases_eq y x) [
   | inl same ↦ inl (0, omega arith, same)

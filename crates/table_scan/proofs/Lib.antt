@@ -1,5 +1,5 @@
 mod BlocksThatMayLemmas
-mod ChoosingLemmas
+pub mod ChoosingLemmas
 mod CopiedRowsLemmas
 mod CountingLemmas
 mod ListingLemmas

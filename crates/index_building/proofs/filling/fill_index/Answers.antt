@@ -5,7 +5,8 @@ use Rattle.entry_tree.proofs.ClaimsLemmas.{if_err_by}
 use Rattle.block_rows.specs.HeldRows.{placed_row}
 use Rattle.record_index.specs.RecordIndexes.{HaveKeysIn}
 use Rattle.record_index.proofs.IndexesLemmas.{parts_are}
-use Rattle.index_building.proofs.FillingLemmas.{IsFilling, cut_at_hit, fills_next, fills_up, filling_none, filling_runs, index_there, keys_of_hit, one_more_hit}
+use Rattle.block_rows.proofs.HitStepsLemmas.{cut_at_hit, one_more_hit}
+use Rattle.index_building.proofs.FillingLemmas.{IsFilling, fills_next, fills_up, filling_none, filling_runs, index_there, keys_of_hit}
 use Rattle.index_building.proofs.filling.fill_index.Goals as goal
 
 pub loop-hit-init : goal.loop-hit-init
