@@ -3,9 +3,7 @@ ghost use Rattle.std.specs.Prelude.{◌≡◌, ◌<◌, ◌+◌, length};
 ghost use Rattle.table_trees.specs.TableTrees.{place_of_tree};
 ghost use Rattle.record_index.specs.RecordIndexes.{HasRecordIndexes, HaveKeysIn, entry_in_record_index, key_in_record_index, parts_of_record_index, place_of_record_index};
 
-use crate::keys::row_key;
-use crate::places::{RID_BYTES, rid_number};
-use block_index::numbered;
+use crate::keys::{row_entry, row_key};
 use entry_tree::{Entry, Tree};
 use mdc_ast::TableDef;
 use mdc_values::{List, Rid, Value};
@@ -46,7 +44,7 @@ pub(crate) fn tree_and_entry(
     ensures entry { result.1 ≡ entry_in_record_index def.now index values.now rid }
     ensures width { length result.1 ≡ result.0.width }
 {
-    let (tree, key) = tree_and_key(alloc, def, index, values);
-    let entry = numbered(key.bytes(), RID_BYTES, rid_number(rid));
-    (tree, entry)
+    let index = usize::from(index);
+    let entry = row_entry(&def.columns, &def.indexes.at(index).parts, values, rid);
+    (record_tree(alloc, def, index), entry)
 }
