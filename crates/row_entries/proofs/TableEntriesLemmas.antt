@@ -1,8 +1,7 @@
 -- What a walk over the record indexes of a table makes of the table.
-use Rattle.std.proofs.Common.{◌≡◌, ◌<◌, ◌≤◌, ℕ, suc, List, [], ◌∷◌, ◌++◌, length, length-append, map, append-nil, refl, ap, arith, sym, ◌∙◌, subst, inl, inr, get_or}
-use Rattle.std.specs.Prelude.{Bool, OnOk, Option, Result, Ok, Err, sum_by, zip}
+use Rattle.std.proofs.Common.{◌≡◌, ◌<◌, ◌≤◌, ℕ, List, [], ◌∷◌, ◌++◌, length, length-append, map, append-nil, refl, ap, arith, sym, ◌∙◌, subst, inl, inr, get_or}
+use Rattle.std.specs.Prelude.{Bool, OnOk, Option, Result, Ok, Err, sum_by}
 use Rattle.std.specs.List.{AllZip}
-use Rattle.std.proofs.lemmas.Bool.{cases_lt}
 use Rattle.std.proofs.lemmas.Slice.Zip.{AllZip-long}
 use Rattle.mdc_values.specs.declared.rid.Rid.{Rid}
 use Rattle.mdc_ast.specs.TableLimits.{IsTableDef}
@@ -17,15 +16,13 @@ use Rattle.store_api.specs.declared.pages.Pages.{Ghosts}
 use Rattle.store_api.specs.declared.shape.Shape.{Shape}
 use Rattle.store_api.proofs.FrameLemmas.{touches_wider}
 use Rattle.store_api.proofs.RunsOverPagesLemmas.{runs_wider}
-use Rattle.extent_map.specs.Map.{HoldsMap}
-use Rattle.extent_map.specs.Owners.{IsUsedPage, owner_of}
+use Rattle.extent_map.specs.Owners.{owner_of}
 use Rattle.extent_map.specs.declared.kind.Kind.{Kind}
 use Rattle.extent_map.specs.declared.kind.Kind.TheVariants.{Free, Block, Index}
 use Rattle.extent_map.specs.declared.space_notes.SpaceNotes.{SpaceNotes}
-use Rattle.extent_map.proofs.UsedPagesLemmas.{no_space_page}
 use Rattle.entry_tree.specs.Forest.{Forest, times}
 use Rattle.block_index.specs.Listing.{GainsEntry, LosesEntry}
-use Rattle.table_trees.specs.TableTrees.{TreePlace, composite_place, dimension_place, dimension_places, map_place, record_places, rising_parts, tree_places}
+use Rattle.table_trees.specs.TableTrees.{TreePlace, composite_place, dimension_places, map_place, record_places, rising_parts, tree_places}
 use Rattle.table_trees.specs.TreesBeside.{ChangesTrees, GrowsPages, HoldsTreeAt, IsSpaceOfTrees, IsTreesOrMapPage, StandTrees}
 use Rattle.table_trees.proofs.SideBySideLemmas.{block_page_apart, part_changes, part_space, part_stands, part_trees_or_map, space_of_trees_or_map}
 use Rattle.mdc_sound.specs.BlockRules.{IsBlockIndexSound}
@@ -39,7 +36,9 @@ use Rattle.mdc_sound.proofs.StandingTableLemmas.{block_below, block_kept}
 use Rattle.mdc_sound.proofs.TableRowsLemmas.{KeepsBlockPages}
 use Rattle.mdc_sound.proofs.TableSpotsLemmas.{length-spots, spot_at}
 use Rattle.table_blocks.specs.BlockChanges.{IsSpotChange}
-use Rattle.table_blocks.proofs.OtherBlocksLemmas.{block_still, index_used, not_freed, spot_after}
+use Rattle.table_blocks.proofs.IndexStepLemmas.{count_dimensions}
+use Rattle.table_blocks.proofs.KeptExtentsLemmas.{grows_untouched, no_less, no_more}
+use Rattle.table_blocks.proofs.OtherBlocksLemmas.{block_still, spot_after}
 use Rattle.table_blocks.proofs.SpotChangesLemmas.{claims_change, returns_change}
 use Rattle.mdc_table.proofs.KeptBlocksLemmas.{keeps_in_trees}
 use Rattle.record_index.specs.OneIndex.{GainsOneEntry, LosesOneEntry}
@@ -72,42 +71,6 @@ only_rules_out def was is rid owners forests only n which t at there tree wrong 
   | inr has ↦ each_at (λ which t. LacksEntry def is rid which t) n (differing_chosen def was is) def.indexes forests.indexes which t only.lacks at there tree has
 ]
 
--- ---- claims and returns
-
-module _ {S : Type 0} {g : Ghosts S} (shape : Shape) (before noted : SpaceNotes) (old new : S) (owners owners_now : List Kind) (places : List TreePlace) (trees trees_now : List Forest)
-    (changes : ChangesTrees g shape before noted new places owners trees owners_now trees_now) where
-  -- where no page left the trees, no index extent became free
-  no_less : HoldsMap g shape old owners → ((p : ℕ) → sum_by (times p) trees ≤ sum_by (times p) trees_now) → (e used : ℕ) → owner_of owners e ≡ Index used → owner_of owners_now e ≡ Free → ⊥
-  no_less map more e used was now = not_freed shape owners owners_now e (index_used shape old owners e used map was) still now
-    where
-      still : (p : ℕ) → IsUsedPage shape owners p → IsUsedPage shape owners_now p
-      still p used = elim (cases_lt 0 (sum_by (times p) trees)) [
-        | inl some ↦ changes.stand.used p (omega (arith, some, more p))
-        | inr none ↦ changes.kept.others p used (omega (arith, none))
-      ]
-
-  -- where none came to them, no free extent became an index extent
-  no_more : StandTrees g shape old owners places trees → ((p : ℕ) → sum_by (times p) trees_now ≤ sum_by (times p) trees) → (e used : ℕ) → owner_of owners e ≡ Free → owner_of owners_now e ≡ Index used → ⊥
-  no_more stand fewer e used was now = not_freed shape owners_now owners e (index_used shape new owners_now e used changes.stand.map now) still was
-    where
-      still : (p : ℕ) → IsUsedPage shape owners_now p → IsUsedPage shape owners p
-      still p used = elim (changes.kept.used p used) [
-        | inl some ↦ stand.used p (omega (arith, some, fewer p))
-        | inr stayed ↦ stayed.0
-      ]
-
--- the page count, where no page came and page 0 isn't touched
-grows_untouched : {S : Type 0} {g : Ghosts S} (shape : Shape) (old new : S) (owners : List Kind) (places : List TreePlace) (trees : List Forest) → StandTrees g shape old owners places trees
-    → Touches g (IsTreesOrMapPage g shape old places) old new → length (g.state new).work ≡ length (g.state old).work → GrowsPages g shape old new
-grows_untouched shape old new owners places trees st touched count = record {
-  stated = record {
-    same = λ same bytes holds. touched.others 0 bytes (λ mine. elim (mine owners trees st) [ inl here ↦ no_space_page shape 0 (st.used 0 here).page (inl refl) | inr map ↦ omega (arith, map.0) ]) holds;
-    grown = λ more. absurd (omega (arith, more, count));
-    whole = λ more. absurd (omega (arith, more, count));
-  };
-  whole = λ is. record { extents = is.extents; within = is.within; count = count ∙ is.count };
-}
-
 -- no page left the trees
 more_pages : (def : TableDef) (row : Row) (rid : Rid) (chosen : List Bool) (trees after : List Forest) → MoveChosen GainsOneEntry (entry_of def row rid) chosen def.indexes trees after → (p : ℕ) → sum_by (times p) trees ≤ sum_by (times p) after
 more_pages def row rid chosen trees after moves p =
@@ -115,12 +78,6 @@ more_pages def row rid chosen trees after moves p =
     (moved_each GainsOneEntry (λ t u. times p t ≤ times p u) (entry_of def row rid) chosen def.indexes trees after (λ t. omega arith) (λ x t u gains. gains.pages p) moves)
 
 -- ---- a table and its record indexes
-
--- how many indexes of dimensions there are
-count_dimensions : (def : TableDef) (dims : List (List ℕ)) (roots : List ℕ) → length roots ≡ length dims → length (map (λ pair. dimension_place def pair.0 pair.1) (zip dims roots)) ≡ length dims
-count_dimensions def [] roots one_each = refl
-count_dimensions def (dim ∷ dims) [] one_each = absurd (omega (arith, one_each))
-count_dimensions def (dim ∷ dims) (root ∷ roots) one_each = ap suc (count_dimensions def dims roots (omega (arith, one_each)))
 
 -- the places of all other trees, and those trees
 abbrev front_places : TableDef → List TreePlace

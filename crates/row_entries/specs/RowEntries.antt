@@ -1,11 +1,10 @@
 -- What the entries of a row that come or go make of a table: its record indexes alone change.
-use Rattle.std.specs.Prelude.{◌≡◌, ◌⊎◌, ◌<◌, ◌≤◌, ℕ, Bool, List, sum_by}
+use Rattle.std.specs.Prelude.{◌≡◌, ◌≤◌, ℕ, Bool, List, sum_by}
 use Rattle.mdc_values.specs.declared.rid.Rid.{Rid}
 use Rattle.mdc_ast.specs.declared.definition.TableDef.{TableDef}
 use Rattle.mdc_ast.specs.declared.row.Row.{Row}
 use Rattle.store_api.specs.declared.pages.Pages.{Ghosts}
 use Rattle.store_api.specs.declared.shape.Shape.{Shape}
-use Rattle.extent_map.specs.Map.{IsMapPage}
 use Rattle.extent_map.specs.Owners.{owner_of}
 use Rattle.extent_map.specs.declared.kind.Kind.{Kind}
 use Rattle.extent_map.specs.declared.space_notes.SpaceNotes.{SpaceNotes}
@@ -13,8 +12,9 @@ use Rattle.entry_tree.specs.Forest.{Forest, times}
 use Rattle.table_trees.specs.TreesBeside.{table_of_block}
 use Rattle.block_index.specs.Listing.{GainsEntry, LosesEntry}
 use Rattle.mdc_sound.specs.Placing.{Spot, SpotsAfterClaims, SpotsAfterReturns}
-use Rattle.mdc_sound.specs.StandingTable.{ChangesTable, KeepsBlocksBut, StandsTable, TableForests, forests_in_order, pages_of, spots_of}
+use Rattle.mdc_sound.specs.StandingTable.{ChangesTable, KeepsBlocksBut, TableForests, pages_of, spots_of}
 use Rattle.mdc_sound.specs.TableRows.{rows_in_table}
+pub use Rattle.table_blocks.specs.BlockChanges.{IsTreeOrMapPageOfTable}
 use Rattle.row_entries.specs.ChosenIndexes.{HaveEntries, LackEntries, MoveChosen, all_chosen, differing_chosen, entry_of}
 
 -- ---- the table
@@ -72,15 +72,6 @@ pub record RenewsRow {S : Type 0} (g : Ghosts S) (shape : Shape) (before noted :
   pub mid : List Spot
   pub returns : SpotsAfterReturns (spots_of g shape old def owners forests) mid
   pub claims : SpotsAfterClaims mid (spots_of g shape new def owners_now (with_indexes forests indexes_now))
-
--- ---- pages
-
--- the pages that a call on the trees of a table may change where it claims nothing: those of the trees and of the extent map,
--- where the table was told to stand
-abbrev pub IsTreeOrMapPageOfTable : {S : Type 0} → Ghosts S → Shape → S → TableDef → ℕ → Type 0
-IsTreeOrMapPageOfTable g shape s def p =
-    (owners : List Kind) (forests : TableForests) → StandsTable g shape s def owners forests
-    → 0 < sum_by (times p) (forests_in_order forests) ⊎ IsMapPage shape p
 
 -- ---- what is expected
 

@@ -148,6 +148,28 @@ module _ (before after : Forest) (line : BlockRow) (small : line.block < 2 ^ 32)
   pub enters_entry : IsUnnamed before line.block → leaf_entries after ≡ with_entry (row_entry line) (leaf_entries before) → ChangesLine line.block before after
   enters_entry unnamed is = puts_line (leaf_entries before) is (λ x at. at) (λ x other at. at) unnamed (apart_of_pairs (leaf_entries before) form.once_each)
 
+-- or the line of the block goes, and none names it any more
+pub leaves_entry : (before after : Forest) (was : BlockRow) → was.block < 2 ^ 32 → AreMapEntries before → IsMapForm before → leaf_entries before ≡ with_entry (row_entry was) (leaf_entries after)
+    → ChangesLine was.block before after × IsUnnamed after was.block
+leaves_entry before after was small entries form were =
+    let apart = apart_without (row_entry was) (leaf_entries after) (subst AreApart were (apart_of_pairs (leaf_entries before) form.once_each)) in
+    let names : (map_line (row_entry was)).block ≡ was.block = row_block was small in
+    let back : (x : Entry) → IsEntryOf x (leaf_entries after) → IsEntryOf x (leaf_entries before) = λ x at. subst (IsEntryOf x) (sym were) (more_with x (row_entry was) (leaf_entries after) at) in (
+      record {
+        there = λ x other at. elim (with_cases x (row_entry was) (leaf_entries after) (subst (IsEntryOf x) were at)) [
+          | inl e ↦ absurd (other (ap (λ (v : Entry). (map_line v).block) e ∙ names))
+          | inr later ↦ later
+        ];
+        back = λ x other at. back x at;
+        entries = λ x at. entries x (back x at);
+        form = record {
+          states = each_line (λ l. l.state ≤ 2) (leaf_entries after) (λ x at. form_state before x form (back x at));
+          once_each = pairs_of_apart (leaf_entries after) apart.1;
+        };
+      },
+      λ x at same. apart.0 x at (same ∙ sym names),
+    )
+
 -- ---- what stays
 
 -- a block is named by an entry, or it has no state

@@ -1,10 +1,8 @@
 -- A free extent becomes a block of the table, which it takes into use.
-use Rattle.std.proofs.Common.{◌≡◌, ◌≢◌, ◌<◌, ◌⊎◌, ◌+◌, ◌-◌, ◌==◌, ℕ, List, [], ◌∷◌, Some, cond, length, max, inl, inr, refl, ap, sym, subst, ◌∙◌, arith, get_or-set_other, get_or-set_same}
-use Rattle.std.specs.Prelude.{AllPairs, Contains, IsTrue, Option, sum_by}
-use Rattle.std.specs.List.{AllByRecursion, AllZip}
-use Rattle.std.proofs.lemmas.Bool.{cases_eq, cases_lt, ne_eqb}
+use Rattle.std.proofs.Common.{◌≡◌, ◌≢◌, ◌<◌, ◌⊎◌, ◌+◌, ◌-◌, ℕ, List, Some, length, max, inl, inr, ap, sym, subst, ◌∙◌, arith, get_or-set_same}
+use Rattle.std.specs.Prelude.{IsTrue, Option, sum_by}
+use Rattle.std.proofs.lemmas.Bool.{cases_eq, cases_lt}
 use Rattle.mdc_values.specs.declared.value.Value.{Value}
-use Rattle.mdc_ast.specs.declared.definition.KeyPart.{KeyPart}
 use Rattle.mdc_ast.specs.declared.definition.TableDef.{TableDef}
 use Rattle.mdc_ast.specs.declared.row.Row.{Row}
 use Rattle.store_api.specs.Extents.{first_page_of, map_pages}
@@ -13,39 +11,29 @@ use Rattle.store_api.specs.declared.fault.Damage.{Damage}
 use Rattle.store_api.specs.declared.pages.Pages.{Ghosts}
 use Rattle.store_api.specs.declared.shape.Shape.{Shape}
 use Rattle.extent_map.specs.Damages.{BreaksSpace}
-use Rattle.extent_map.specs.Kinds.{is_unused_place, is_used_place}
+use Rattle.extent_map.specs.Kinds.{is_unused_place}
 use Rattle.extent_map.specs.Map.{HoldsMap, IsSpacePage, IsWholeCount, StatesGrowth}
 use Rattle.extent_map.specs.Owners.{AreRightNotes, IsUsedPage, extent_of, owner_of, place_in_extent, with_block}
 use Rattle.extent_map.specs.declared.kind.Kind.{Kind}
 use Rattle.extent_map.specs.declared.kind.Kind.TheVariants.{Free, Block, Index}
 use Rattle.extent_map.specs.declared.space_notes.SpaceNotes.{SpaceNotes}
 use Rattle.extent_map.proofs.ExtentsLemmas.{some_extents}
-use Rattle.extent_map.proofs.UsedPagesLemmas.{no_space_page, used-with_block}
-use Rattle.row_page.specs.RowPage.{IsRowPage, rows_of}
-use Rattle.entry_tree.specs.Forest.{Forest, times}
+use Rattle.extent_map.proofs.UsedPagesLemmas.{used-with_block}
+use Rattle.entry_tree.specs.Forest.{times}
 use Rattle.entry_tree.specs.Standing.{IsIdlePage}
 use Rattle.mdc_ast.specs.TableLimits.{IsTableDef}
-use Rattle.block_map.specs.MapLines.{MapLine, map_line, map_lines, mapped_state, used_blocks}
-use Rattle.table_trees.specs.TableTrees.{cell_parts, rising_parts, tree_places}
 use Rattle.table_trees.specs.TreesBeside.{table_of_block}
 use Rattle.table_trees.proofs.KeptOwnersLemmas.{idle_back}
 use Rattle.table_trees.proofs.PageCountLemmas.{grows_pages_then}
-use Rattle.table_trees.proofs.SideBySideLemmas.{stand_on}
-use Rattle.table_trees.specs.RowCells.{AreOfOneCell}
-use Rattle.mdc_ast.specs.FittingRows.{RowFits}
-use Rattle.mdc_sound.specs.Placing.{AfterClaims, Spot, spot_of_kind, spot_of_state}
-use Rattle.mdc_sound.specs.Placing.Spot.{OtherBlock, UsedBlock}
-use Rattle.mdc_sound.specs.StandingTable.{BreaksTable, ChangesTable, NamesTablePart, StandsTable, TableForests, forests_in_order, pages_of}
-use Rattle.mdc_sound.specs.TableRows.{PlacedRow, block_slots, rows_in_block}
-use Rattle.mdc_sound.proofs.BlockRulesLemmas.{named_owned}
-use Rattle.mdc_sound.proofs.StandingTableLemmas.{block_below, block_kept}
-use Rattle.mdc_sound.proofs.TableRowsLemmas.{KeepsBlockPages, block_slots-kept, rows_in_block-kept}
-use Rattle.table_blocks.specs.AroundBlock.{IsIndexAround, IsLineSound, IsOtherRow, StandsAround}
+use Rattle.mdc_sound.specs.Placing.{AfterClaims, Spot}
+use Rattle.mdc_sound.specs.Placing.Spot.{UsedBlock}
+use Rattle.mdc_sound.specs.StandingTable.{BreaksTable, ChangesTable, NamesTablePart, StandsTable, TableForests, forests_in_order}
 use Rattle.table_blocks.specs.BlockChanges.{BreaksAround, ChangesAround, IsSpaceAround, TurnsSpot, spot_in}
 use Rattle.table_blocks.specs.BlockNow.{IsUsedNow}
 use Rattle.table_blocks.specs.BlockSteps.{ClaimsBlock}
 use Rattle.table_blocks.proofs.AroundLemmas.{around_none, own_still}
 use Rattle.table_blocks.proofs.ClosingLemmas.{spot_of_used, spots_beside, stands_used}
+use Rattle.table_blocks.proofs.OwnerStepLemmas.{around_owner, block_unused, owner_here, owner_there, spot_stays, used_were}
 use Rattle.table_blocks.proofs.OpeningLemmas.{around_block, unlisted_now, unnamed_now}
 use Rattle.table_blocks.proofs.SpotChangesLemmas.{claims_change}
 
@@ -56,128 +44,24 @@ block_of_table Free t is = absurd cc
 block_of_table (Block table) t is = let same : table ≡ t = cc in ap Block same
 block_of_table (Index used) t is = absurd cc
 
-module _ (shape : Shape) (owners : List Kind) (block table : ℕ) (low : block < length owners) where
-  owner_here : (e : ℕ) → e ≡ block → owner_of (with_block owners block table) e ≡ Block table
-  owner_here e here = ap (owner_of (with_block owners block table)) here ∙ get_or-set_same owners block (Block table) Free low
-
-  owner_there : (e : ℕ) → e ≢ block → owner_of (with_block owners block table) e ≡ owner_of owners e
-  owner_there e other = get_or-set_other owners block e (Block table) Free other
-
-  -- a page that is used was so
-  used_were : (p : ℕ) → IsUsedPage shape (with_block owners block table) p → IsUsedPage shape owners p
-  used_were p used =
-      let other : extent_of shape p ≢ block = λ here.
-      (let no = subst (λ k. IsTrue (is_used_place (place_in_extent shape p) k)) (owner_here (extent_of shape p) here) used.used in absurd cc) in
-      record { page = used.page; used = subst (λ k. IsTrue (is_used_place (place_in_extent shape p) k)) (owner_there (extent_of shape p) other) used.used }
-
-  -- and so was one that is idle
-  idle_were : (p : ℕ) → IsIdlePage shape (with_block owners block table) p → IsIdlePage shape owners p
-  idle_were p idle = record {
-    page = idle.page;
-    idle = elim idle.idle [
-      | inl unused ↦
-          let other : extent_of shape p ≢ block = λ here.
-          (let no = subst (λ k. IsTrue (is_unused_place (place_in_extent shape p) k)) (owner_here (extent_of shape p) here) unused.unused in absurd cc) in
-          inl (record { page = idle.page; unused = subst (λ k. IsTrue (is_unused_place (place_in_extent shape p) k)) (owner_there (extent_of shape p) other) unused.unused })
-      | inr free ↦
-          let other : extent_of shape p ≢ block = λ here. (let no = sym (owner_here (extent_of shape p) here) ∙ free in absurd cc) in
-          inr (sym (owner_there (extent_of shape p) other) ∙ free)
-    ];
-  }
+-- an idle page was so
+idle_were : (shape : Shape) (owners : List Kind) (block table : ℕ) → block < length owners → (p : ℕ) → IsIdlePage shape (with_block owners block table) p → IsIdlePage shape owners p
+idle_were shape owners block table low p idle = record {
+  page = idle.page;
+  idle = elim idle.idle [
+    | inl unused ↦
+        let other : extent_of shape p ≢ block = λ here.
+        (let no = subst (λ k. IsTrue (is_unused_place (place_in_extent shape p) k)) (owner_here owners block (Block table) (extent_of shape p) here low) unused.unused in absurd cc) in
+        inl (record { page = idle.page; unused = subst (λ k. IsTrue (is_unused_place (place_in_extent shape p) k)) (owner_there owners block (Block table) (extent_of shape p) other) unused.unused })
+    | inr free ↦
+        let other : extent_of shape p ≢ block = λ here. (let no = sym (owner_here owners block (Block table) (extent_of shape p) here low) ∙ free in absurd cc) in
+        inr (sym (owner_there owners block (Block table) (extent_of shape p) other) ∙ free)
+  ];
+}
 
 -- ---- a claim
 
 module _ {S : Type 0} {g : Ghosts S} (shape : Shape) (before mid_notes : SpaceNotes) (old mid : S) (def : TableDef) (block : ℕ) (owners : List Kind) (forests : TableForests) (defined : IsTableDef def.number def) (st : StandsTable g shape old def owners forests) where
-  -- what stays of the other blocks where the map and page 0 alone were touched
-  module _ (touched : Touches g (IsSpacePage shape) old mid) where
-    keeps : (e : ℕ) → owner_of owners e ≡ Block def.number → KeepsBlockPages shape (pages_of g old) (pages_of g mid) e
-    keeps e is =
-        block_kept (IsSpacePage shape) shape old mid owners def.number e st.trees.map st.told touched (λ p of space. no_space_page shape p of.page space)
-        (omega (arith, block_below owners e def.number is, st.trees.map.count)) is
-
-    rows_still : (e : ℕ) → owner_of owners e ≡ Block def.number → rows_in_block shape (pages_of g mid) def e ≡ rows_in_block shape (pages_of g old) def e
-    rows_still e is = rows_in_block-kept shape (pages_of g old) (pages_of g mid) def e (keeps e is)
-
-    line_kept : (line : MapLine) → line.block ≢ block → IsLineSound shape (pages_of g old) owners def line → IsLineSound shape (pages_of g mid) (with_block owners block def.number) def line
-    line_kept line other was =
-        let stays = keeps line.block was.mapped.owned in
-        let rows = rows_still line.block was.mapped.owned in
-        record {
-          mapped = record {
-            state = was.mapped.state;
-            within = was.mapped.within;
-            owned = get_or-set_other owners block line.block (Block def.number) Free other ∙ was.mapped.owned;
-          };
-          used_count = record {
-            some_row = was.used_count.some_row;
-            counted = λ used. was.used_count.counted used ∙ sym (ap length rows);
-          };
-          idle_count = was.idle_count;
-          rows = λ used. record {
-            forms = λ j low.
-                subst (λ page. IsRowPage def.columns page (rows_of def.columns page)) (sym (stays.each j low)) ((was.rows used).forms j low);
-            rows = subst (AllByRecursion (λ (placed : PlacedRow). RowFits def placed.row)) (sym rows) (was.rows used).rows;
-          };
-          cell = λ used. subst (AllPairs (λ (a b : PlacedRow). AreOfOneCell def a.row.values b.row.values)) (sym rows) (was.cell used);
-        }
-
-    rows_of_used : (e : ℕ) → Contains (used_blocks forests.map) e → rows_in_block shape (pages_of g mid) def e ≡ rows_in_block shape (pages_of g old) def e
-    rows_of_used e used = rows_still e (named_owned shape owners def forests.map 1 e st.map used).1
-
-    row_now : (placed : PlacedRow) → IsOtherRow shape (pages_of g old) def forests.map block placed → IsOtherRow shape (pages_of g mid) def forests.map block placed
-    row_now placed is = record { used = is.used; other = is.other; there = subst (λ (rows : List PlacedRow). Contains rows placed) (sym (rows_of_used placed.rid.block is.used)) is.there }
-
-    row_was : (placed : PlacedRow) → IsOtherRow shape (pages_of g mid) def forests.map block placed → IsOtherRow shape (pages_of g old) def forests.map block placed
-    row_was placed is = record { used = is.used; other = is.other; there = subst (λ (rows : List PlacedRow). Contains rows placed) (rows_of_used placed.rid.block is.used) is.there }
-
-    index_kept : (parts : List KeyPart) (index : Forest) → IsIndexAround shape (pages_of g old) def forests.map parts block index → IsIndexAround shape (pages_of g mid) def forests.map parts block index
-    index_kept parts index was = record {
-      has = λ placed is. was.has placed (row_was placed is);
-      only = λ y there other. let one = was.only y there other in (one.0, row_now one.0 one.1, one.2);
-    }
-
-    dims_kept : (dims : List (List ℕ)) (indexes : List Forest) → AllZip (λ dim index. IsIndexAround shape (pages_of g old) def forests.map (rising_parts dim) block index) dims indexes
-        → AllZip (λ dim index. IsIndexAround shape (pages_of g mid) def forests.map (rising_parts dim) block index) dims indexes
-    dims_kept [] [] was = tt
-    dims_kept [] (index ∷ indexes) was = absurd was
-    dims_kept (dim ∷ dims) [] was = absurd was
-    dims_kept (dim ∷ dims) (index ∷ indexes) was = (index_kept (rising_parts dim) index was.0, dims_kept dims indexes was.1)
-
-    kind_spot : (e : ℕ) (kind : Kind) → owner_of owners e ≡ kind → spot_of_kind shape (pages_of g mid) def forests.map e kind ≡ spot_of_kind shape (pages_of g old) def forests.map e kind
-    kind_spot e Free is = refl
-    kind_spot e (Index used) is = refl
-    kind_spot e (Block t) is = elim (cases_eq t def.number) [
-      | inl same ↦
-          let slots = block_slots-kept shape (pages_of g old) (pages_of g mid) def e (keeps e (is ∙ ap Block same)) in
-          ap (λ s. cond (t == def.number) (spot_of_state (mapped_state e (map_lines forests.map)) s) OtherBlock) slots
-      | inr other ↦
-          ap (λ test. cond test (spot_of_state (mapped_state e (map_lines forests.map)) (block_slots shape (pages_of g mid) def e)) OtherBlock) (ne_eqb t def.number other)
-          ∙ sym (ap (λ test. cond test (spot_of_state (mapped_state e (map_lines forests.map)) (block_slots shape (pages_of g old) def e)) OtherBlock) (ne_eqb t def.number other))
-    ]
-
-    spot_still : (e : ℕ) → e ≢ block → spot_in g shape mid def (with_block owners block def.number) forests e ≡ spot_in g shape old def owners forests e
-    spot_still e other =
-        ap (spot_of_kind shape (pages_of g mid) def forests.map e) (get_or-set_other owners block e (Block def.number) Free other) ∙ kind_spot e (owner_of owners e) refl
-
-    claim_around : owner_of owners block ≡ Free → HoldsMap g shape mid (with_block owners block def.number) → (g.state mid).is_told ≡ (g.state old).is_told
-        → StandsAround g shape mid def (with_block owners block def.number) forests block
-    claim_around free map told =
-        let was = around_block shape old def owners forests defined st block in
-        record {
-          told = told ∙ st.told;
-          trees = stand_on (IsSpacePage shape) shape old mid owners (with_block owners block def.number) (tree_places def) (forests_in_order forests) st.trees map
-              (λ p used. used-with_block shape owners block def.number p free used) touched told
-              (λ p l space. let used = st.trees.used p l in no_space_page shape p used.page space);
-          map = record {
-            entries = was.map.entries;
-            form = was.map.form;
-            others = λ x there other. line_kept (map_line x) other (was.map.others x there other);
-            all_named = λ e other low is. was.map.all_named e other low (sym (get_or-set_other owners block e (Block def.number) Free other) ∙ is);
-          };
-          composite = index_kept (cell_parts def) forests.composite was.composite;
-          dims = dims_kept def.dims forests.dims was.dims;
-        }
-
   whole_claimed : length (g.state mid).work ≡ max (length (g.state old).work) (first_page_of shape.extents shape.extent_pages (block + 1)) → block < shape.extents
       → IsWholeCount g shape old → IsWholeCount g shape mid
   whole_claimed count low is = elim (cases_lt (length (g.state old).work) (first_page_of shape.extents shape.extent_pages (block + 1))) [
@@ -190,14 +74,14 @@ module _ {S : Type 0} {g : Ghosts S} (shape : Shape) (before mid_notes : SpaceNo
       → Touches g (IsSpacePage shape) old mid → (g.state mid).is_told ≡ (g.state old).is_told → ClaimsBlock g shape before mid_notes old mid def block owners forests
   claims_block low free map notes stated count touched told = record {
     free = free;
-    stands = claim_around touched free map told;
+    stands = around_owner shape old mid def block (Block def.number) owners forests (around_block shape old def owners forests defined st block) touched map (λ p used. used-with_block shape owners block def.number p free used) told;
     own = record {
       within = low;
       owned = get_or-set_same owners block (Block def.number) Free (omega (arith, low, st.trees.map.count));
     };
     unnamed = unnamed_now shape old def owners forests defined st block free;
     unlisted = unlisted_now shape old def owners forests defined st block free;
-    spots = spot_still touched;
+    spots = spot_stays shape old mid def block (Block def.number) owners forests (around_block shape old def owners forests defined st block) touched;
     longer = omega (arith, count);
     grows = record { stated = stated; whole = whole_claimed count low };
     notes = notes;
@@ -212,13 +96,13 @@ module _ {S : Type 0} {g : Ghosts S} (shape : Shape) (before mid_notes : SpaceNo
     other_block : (e t : ℕ) → t ≢ def.number → owner_of owners e ≡ Block t → owner_of (with_block owners block def.number) e ≡ Block t
     other_block e t other is = elim (cases_eq e block) [
       | inl here ↦ (let wrong = sym is ∙ (ap (owner_of owners) here ∙ claims.free) in absurd (cc))
-      | inr there ↦ owner_there shape owners block def.number below e there ∙ is
+      | inr there ↦ owner_there owners block (Block def.number) e there ∙ is
     ]
 
     other_block_was : (e t : ℕ) → t ≢ def.number → owner_of (with_block owners block def.number) e ≡ Block t → owner_of owners e ≡ Block t
     other_block_was e t other is = elim (cases_eq e block) [
-      | inl here ↦ (let same : Block t ≡ Block def.number = sym is ∙ owner_here shape owners block def.number below e here in let number : t ≡ def.number = cc in absurd (other number))
-      | inr there ↦ sym (owner_there shape owners block def.number below e there) ∙ is
+      | inl here ↦ (let same : Block t ≡ Block def.number = sym is ∙ owner_here owners block (Block def.number) e here below in let number : t ≡ def.number = cc in absurd (other number))
+      | inr there ↦ sym (owner_there owners block (Block def.number) e there) ∙ is
     ]
 
     -- used and idle pages
@@ -226,7 +110,7 @@ module _ {S : Type 0} {g : Ghosts S} (shape : Shape) (before mid_notes : SpaceNo
     used_now p used = used-with_block shape owners block def.number p claims.free used
 
     used_was : (p : ℕ) → IsUsedPage shape (with_block owners block def.number) p → IsUsedPage shape owners p
-    used_was p used = used_were shape owners block def.number below p used
+    used_was p used = used_were owners block (Block def.number) shape below (block_unused def.number) p used
 
     idle_was : (p : ℕ) → IsIdlePage shape (with_block owners block def.number) p → IsIdlePage shape owners p
     idle_was p idle = idle_were shape owners block def.number below p idle

@@ -49,7 +49,7 @@ use Rattle.mdc_sound.proofs.MappedBlocksLemmas.{entry_rows, small_block}
 use Rattle.mdc_sound.proofs.SlotRowsLemmas.{few_rows, length-rows_from_slot, placed_in_slot, slot_of_placed, some_row}
 use Rattle.table_blocks.specs.AroundBlock.{IsIndexAround, IsLineSound, StandsAround}
 use Rattle.table_blocks.specs.BlockChanges.{ChangesAround, IsSpotChange, TurnsSpot, spot_in}
-use Rattle.table_blocks.specs.BlockNow.{IsListedIn, IsOwnBlock, IsReleasedNow, IsUnlistedIn, IsUsedNow, released_line, released_spot}
+use Rattle.table_blocks.specs.BlockNow.{IsListedIn, IsOwnBlock, IsReleasedNow, IsUnlisted, IsUnlistedIn, IsUnnamed, IsUsedNow, released_line, released_spot}
 
 -- ---- states
 
@@ -162,10 +162,10 @@ module _ (shape : Shape) (pages : PageList) (def : TableDef) (map_tree : Forest)
 
 -- ---- the table
 
--- a block is sound: so are its line in the block map and what the block indexes say of it
+-- a block is sound: so are its line in the block map, which it has where it is one of the table, and what the block indexes say of it
 record IsBlockSound (shape : Shape) (pages : PageList) (owners : List Kind) (def : TableDef) (forests : TableForests) (block : ℕ) : Type 0 where
   pub line : (x : Entry) → IsEntryOf x (leaf_entries forests.map) → (map_line x).block ≡ block → IsLineSound shape pages owners def (map_line x)
-  pub named : Contains (mapped_blocks forests.map) block
+  pub named : owner_of owners block ≡ Block def.number → Contains (mapped_blocks forests.map) block
   pub composite : IsIndexHere shape pages def forests.map block (cell_parts def) forests.composite
   pub dims : AllZip (λ dim index. IsIndexHere shape pages def forests.map block (rising_parts dim) index) def.dims forests.dims
 
@@ -179,7 +179,7 @@ module _ {S : Type 0} {g : Ghosts S} (shape : Shape) (s : S) (def : TableDef) (o
       lines = each_line (IsMapLineSound shape owners def) (leaf_entries forests.map) (λ x there. (line x there).mapped);
       once_each = st.map.form.once_each;
       all_named = λ e low owned. elim (cases_eq e block) [
-        | inl same ↦ subst (Contains (mapped_blocks forests.map)) (sym same) sound.named
+        | inl same ↦ subst (Contains (mapped_blocks forests.map)) (sym same) (sound.named (ap (owner_of owners) (sym same) ∙ owned))
         | inr other ↦ st.map.all_named e other low owned
       ];
     };
@@ -207,7 +207,7 @@ module _ {S : Type 0} {g : Ghosts S} (shape : Shape) (s : S) (def : TableDef) (o
       is_used x test = grind (arith, nat_tests)
 
   -- the entry of a block is that of its row
-  row_of_block : (line : BlockRow) (x : Entry) (block : ℕ) → StandsAround g shape s def owners forests block → block < shape.extents → HasRow line forests.map → line.block ≡ block
+  pub row_of_block : (line : BlockRow) (x : Entry) (block : ℕ) → StandsAround g shape s def owners forests block → block < shape.extents → HasRow line forests.map → line.block ≡ block
       → IsEntryOf x (leaf_entries forests.map) → (map_line x).block ≡ block → row_entry line ≡ x
   row_of_block line x block st low there is there_too same =
       let small : line.block < 2 ^ 32 = subst (λ b. b < 2 ^ 32) (sym is) (small_block shape block low) in
@@ -266,7 +266,7 @@ module _ {S : Type 0} {g : Ghosts S} (shape : Shape) (s : S) (def : TableDef) (o
             rows = λ used. subst (AreBlockRowsSound shape (pages_of g s) def) (sym same) rows_sound;
             cell = λ used. subst (IsOfOneCell shape (pages_of g s) def) (sym same) cell_sound;
           };
-      named = subst (Contains (mapped_blocks forests.map)) (row_block its_line (small_block shape block now.own.within)) (contains_block (leaf_entries forests.map) (row_entry its_line) now.line);
+      named = λ owned. subst (Contains (mapped_blocks forests.map)) (row_block its_line (small_block shape block now.own.within)) (contains_block (leaf_entries forests.map) (row_entry its_line) now.line);
       composite = listed_here shape (pages_of g s) def forests.map block values slots is_used now.rows.slots_are now.cell.some (cell_parts def) forests.composite
           (λ row there. cell_key-same def row.values values (now.cell.one_cell row there)) now.listed.composite;
       dims = dims_listed shape (pages_of g s) def forests.map block values slots is_used now.rows.slots_are now.cell.some def.dims forests.dims
@@ -298,12 +298,25 @@ module _ {S : Type 0} {g : Ghosts S} (shape : Shape) (s : S) (def : TableDef) (o
             rows = λ used. absurd (not_used given idle (sym state_is ∙ used));
             cell = λ used. absurd (not_used given idle (sym state_is ∙ used));
           };
-      named =
+      named = λ owned.
           subst (Contains (mapped_blocks forests.map)) (row_block (released_line given block) (small_block shape block now.own.within))
           (contains_block (leaf_entries forests.map) (row_entry (released_line given block)) now.line);
       composite = unlisted_here shape (pages_of g s) def forests.map block unused (cell_parts def) forests.composite now.unlisted.composite;
       dims = dims_unlisted shape (pages_of g s) def forests.map block unused def.dims forests.dims now.unlisted.dims;
     }
+
+  -- ---- an extent that is no block any more
+
+  pub stands_without : (block : ℕ) → owner_of owners block ≡ Free → IsUnnamed forests.map block → IsUnlisted def forests block → StandsAround g shape s def owners forests block → StandsTable g shape s def owners forests
+  stands_without block free unnamed unlisted st = stands_sound block st (record {
+    line = λ x there same. absurd (unnamed x there same);
+    named = λ owned. let wrong = sym owned ∙ free in absurd cc;
+    composite = unlisted_here shape (pages_of g s) def forests.map block unused (cell_parts def) forests.composite unlisted.composite;
+    dims = dims_unlisted shape (pages_of g s) def forests.map block unused def.dims forests.dims unlisted.dims;
+  })
+    where
+      unused : Contains (used_blocks forests.map) block → ⊥
+      unused used = let named = named_in_state 1 (leaf_entries forests.map) block used in unnamed named.entry named.there named.block_is
 
 module _ {S : Type 0} {g : Ghosts S} (shape : Shape) (s : S) (def : TableDef) (owners : List Kind) (forests : TableForests) (defined : IsTableDef def.number def) where
   pub stands_used : (block : ℕ) (values : List Value) (slots : List (Option Row)) → StandsAround g shape s def owners forests block → IsUsedNow g shape s def owners forests block values slots

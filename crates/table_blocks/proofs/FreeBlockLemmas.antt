@@ -1,7 +1,6 @@
 -- A Free block comes into use: its line first, and then its rows and its entries in the block indexes.
 use Rattle.std.proofs.Common.{◌≡◌, ◌<◌, ℕ, List, length, refl, ap, sym, ◌∙◌, subst, inl, inr}
 use Rattle.std.specs.Prelude.{Contains, Option, Some, None, replicate, slice_set}
-use Rattle.std.specs.List.{AllZip}
 use Rattle.mdc_ast.specs.declared.definition.TableDef.{TableDef}
 use Rattle.mdc_ast.specs.declared.row.Row.{Row}
 use Rattle.store_api.specs.RunsOverPages.{RunsOverPages}
@@ -25,19 +24,19 @@ use Rattle.block_map.specs.Counting.{used_row}
 use Rattle.block_map.specs.MapChanges.{ChangesRowTo}
 use Rattle.block_map.specs.MapLines.{free_blocks}
 use Rattle.block_map.specs.declared.row.BlockRow.{BlockRow}
-use Rattle.table_trees.specs.TableTrees.{cell_parts, rising_parts}
 use Rattle.mdc_ast.specs.FittingRows.{RowFits}
 use Rattle.mdc_sound.specs.Placing.{AfterClaims, block_slot_count}
 use Rattle.mdc_sound.specs.StandingTable.{BreaksExpected, IsSpaceOfBlock, MeetsNoFree, StandsTable, TableForests}
 use Rattle.mdc_sound.proofs.ChangedRowsLemmas.{some_slots}
 use Rattle.table_blocks.specs.AroundBlock.{StandsAround}
 use Rattle.table_blocks.specs.BlockChanges.{BreaksAround, IsSpaceAround}
-use Rattle.table_blocks.specs.BlockNow.{IsOwnBlock, IsUnlisted, IsUnlistedIn, IsUsedNow, free_line}
+use Rattle.table_blocks.specs.BlockNow.{IsOwnBlock, IsUnlisted, IsUsedNow, free_line}
 use Rattle.table_blocks.specs.BlockSteps.{BeginsBlock, FillsBegun, HasFreeBlock, MovesLine, StepsTo}
 use Rattle.table_blocks.proofs.BegunSlotsLemmas.{begun_cell, begun_count}
 use Rattle.table_blocks.proofs.AroundLemmas.{around_then, breaks_of_table, own_still, runs_around_then, some_notes}
 use Rattle.table_blocks.proofs.ClosingLemmas.{turns_used}
 use Rattle.table_blocks.proofs.LineStepLemmas.{breaks_replacing, map_around, page_of_map, replaces_line}
+use Rattle.table_blocks.proofs.ListedCellsLemmas.{unlisted_still}
 use Rattle.table_blocks.proofs.OpeningLemmas.{around_block, free_now, own_of_line}
 use Rattle.table_blocks.proofs.SpotChangesLemmas.{claims_change}
 
@@ -85,12 +84,6 @@ module _ {S : Type 0} {g : Ghosts S} (shape : Shape) (old : S) (def : TableDef) 
         (changes forests.map one.held st.map.form) run.touches run.works.steady.is_told count in
         moved.0
 
-    unlisted_still : (noted : SpaceNotes) (owners : List Kind) (forests : TableForests) (moves : MovesLine g AfterClaims shape noted noted old mid def block line owners forests) → IsUnlisted def forests block → IsUnlisted def moves.forests_now block
-    unlisted_still noted owners forests moves unlisted = record {
-      composite = subst (IsUnlistedIn def (cell_parts def) block) (sym moves.composite) unlisted.composite;
-      dims = subst (AllZip (λ dim index. IsUnlistedIn def (rising_parts dim) block index) def.dims) (sym moves.dims) unlisted.dims;
-    }
-
     -- what the block is expected to be
     abbrev Expected : List Kind → TableForests → Type 0
     Expected owners forests = HasRow (free_line block) forests.map × IsUnlisted def forests block
@@ -99,7 +92,7 @@ module _ {S : Type 0} {g : Ghosts S} (shape : Shape) (old : S) (def : TableDef) 
         → StepsTo g AfterClaims shape noted noted old mid def block Expected (λ owners forests. IsUnlisted def forests block) owners forests
     steps noted owners forests st own =
         let moves = takes_line noted owners forests st own in
-        record { owners_now = moves.owners_now; forests_now = moves.forests_now; changes = moves.changes; expects = λ expected. unlisted_still noted owners forests moves expected.1 }
+        record { owners_now = moves.owners_now; forests_now = moves.forests_now; changes = moves.changes; expects = λ expected. unlisted_still def forests moves.forests_now block moves.composite moves.dims expected.1 }
 
     first_run : RunsOverPages g (IsSpaceAround g shape old def block) (IsSpaceAround g shape old def block) (BreaksAround g shape old def block Expected) old mid None
     first_run =
@@ -136,7 +129,7 @@ module _ {S : Type 0} {g : Ghosts S} (shape : Shape) (old : S) (def : TableDef) 
               (subst (λ (l : BlockRow). HasRow l moves.forests_now.map) (is ∙ ap (used_row block) (sym counted)) moves.line_there);
           rows = fill.rows;
           cell = begun_cell def (block_slot_count shape def) row some fits;
-          listed = fill.listed (unlisted_still noted owners forests moves now.unlisted);
+          listed = fill.listed (unlisted_still def forests moves.forests_now block moves.composite moves.dims now.unlisted);
         } in
         record {
           owners_now = fill.owners_now;

@@ -1,5 +1,5 @@
 -- The block comes into the block indexes, or leaves them.
-use Rattle.std.proofs.Common.{◌≡◌, ◌<◌, ◌≤◌, ◌^◌, ℕ, List, ◌∷◌, length, [], ap, arith, inl, inr, map, refl, subst, suc, sym, zero, ◌++◌, ◌+◌, ◌/◌, ◌∙◌}
+use Rattle.std.proofs.Common.{◌≡◌, ◌<◌, ◌≤◌, ◌^◌, ℕ, List, ◌∷◌, length, [], ap, arith, inl, inr, map, refl, subst, suc, sym, zero, ◌++◌, ◌+◌, ◌∙◌}
 use Rattle.std.specs.Prelude.{sum_by, Contains, Some, slice_get, zip}
 use Rattle.mdc_values.specs.declared.value.Value.{Value}
 use Rattle.mdc_ast.specs.declared.definition.TableDef.{TableDef}
@@ -7,7 +7,7 @@ use Rattle.mdc_ast.specs.declared.row.Cell.{Cell}
 use Rattle.store_api.specs.Frame.{Touches}
 use Rattle.store_api.specs.declared.fault.Damage.{Damage}
 use Rattle.store_api.specs.declared.pages.Pages.{Ghosts}
-use Rattle.extent_map.specs.Owners.{AreRightNotes, IsUsedPage, extent_of, owner_of}
+use Rattle.extent_map.specs.Owners.{AreRightNotes, owner_of}
 use Rattle.extent_map.specs.declared.kind.Kind.{Kind}
 use Rattle.entry_tree.specs.Forest.{times, Forest, leaf_entries}
 use Rattle.table_trees.specs.RowCells.{cell_places}
@@ -26,10 +26,8 @@ use Rattle.std.specs.List.{AllByRecursion, AllZip}
 use Rattle.std.proofs.lemmas.Slice.Zip.{AllZip-long}
 use Rattle.extent_map.specs.declared.kind.Kind.TheVariants.{Block, Free, Index}
 use Rattle.entry_tree.specs.Pruning.{BreaksAtReturn}
-use Rattle.extent_map.specs.Damages.{BreaksSpace}
 use Rattle.mdc_words.specs.ByteOrder.{Entry}
 use Rattle.mdc_sound.specs.Placing.Spot.{FreeExtent, IndexExtent}
-use Rattle.extent_map.specs.Map.{HoldsMap, HoldsMapPage}
 use Rattle.extent_map.specs.declared.space_notes.SpaceNotes.{SpaceNotes}
 use Rattle.entry_tree.specs.EntryBounds.{IsEntryOf}
 use Rattle.table_blocks.proofs.IndexEntriesLemmas.{IsKeyedDimension, around_gained, around_lost, at_dimension, keyed_dimensions, listed_in, move_each, moves_both, not_yet, unlisted_in}
@@ -42,15 +40,13 @@ use Rattle.mdc_sound.specs.BlockRules.{block_in_entry}
 use Rattle.table_blocks.proofs.BlockEntriesLemmas.{block_in_keyed}
 use Rattle.table_trees.proofs.SideBySideLemmas.{block_page_apart, part_changes, part_space, part_stands, part_trees_or_map, space_of_trees_or_map, tree_among}
 use Rattle.extent_map.proofs.DamagesLemmas.{breaks_space_never}
-use Rattle.std.proofs.lemmas.Bool.{cases_lt}
 use Rattle.block_index.proofs.CellsLemmas.{cell_entries-row}
 use Rattle.table_blocks.proofs.SpotChangesLemmas.{claims_change, returns_change}
 use Rattle.block_map.proofs.MapLinesLemmas.{contains_more}
-use Rattle.extent_map.proofs.ExtentsLemmas.{extent_below}
-use Rattle.table_blocks.proofs.OtherBlocksLemmas.{index_used, map_still, not_freed, other_row_now, other_row_small, other_row_was, rows_held_still, spot_after}
+use Rattle.table_blocks.proofs.OtherBlocksLemmas.{map_still, other_row_now, other_row_small, other_row_was, rows_held_still, spot_after}
+use Rattle.table_blocks.proofs.KeptExtentsLemmas.{grows_untouched, no_less, no_more}
+use Rattle.table_blocks.proofs.LineStepLemmas.{map_page_told, names_space, names_use}
 use Rattle.store_api.specs.declared.shape.Shape.{Shape}
-use Rattle.extent_map.proofs.UsedPagesLemmas.{no_space_page}
-use Rattle.extent_map.proofs.HoldsMapLemmas.{on_map}
 use Rattle.std.proofs.lemmas.Option.{same_Some}
 use Rattle.table_trees.proofs.TreeListsLemmas.{times-parts}
 use Rattle.store_api.proofs.FrameLemmas.{touches_wider}
@@ -58,7 +54,7 @@ use Rattle.store_api.proofs.FrameLemmas.{touches_wider}
 -- ---- lists of places
 
 -- how many indexes of dimensions there are
-count_dimensions : (def : TableDef) (dims : List (List ℕ)) (roots : List ℕ) → length roots ≡ length dims → length (map (λ pair. dimension_place def pair.0 pair.1) (zip dims roots)) ≡ length dims
+pub count_dimensions : (def : TableDef) (dims : List (List ℕ)) (roots : List ℕ) → length roots ≡ length dims → length (map (λ pair. dimension_place def pair.0 pair.1) (zip dims roots)) ≡ length dims
 count_dimensions def [] roots one_each = refl
 count_dimensions def (dim ∷ dims) [] one_each = absurd (omega (arith, one_each))
 count_dimensions def (dim ∷ dims) (root ∷ roots) one_each = ap suc (count_dimensions def dims roots (omega (arith, one_each)))
@@ -85,65 +81,16 @@ module _ (def : TableDef) (n : ℕ) (tree : Tree) (at : slice_get (block_index_p
   index_named : damage.page ≡ tree.root → damage.rule ≡ 10 → NamesTablePart shape def damage
   index_named page rule = NamesTablePart.block_index rule (subst (Contains (roots_in (block_index_places def))) (sym page) (root_there (block_index_places def) n (place_of_tree tree) at))
 
-  space_named : {S : Type 0} (g : Ghosts S) (s : S) → BreaksSpace g shape s damage → NamesTablePart shape def damage
-  space_named g s (inl count) = NamesTablePart.count count.rule count.page
-  space_named g s (inr (i, page)) = NamesTablePart.map_page page.rule (omega (arith, page.page), omega (arith, page.page, page.on_map))
-
 -- what is named where a page is given back
 return_named : {S : Type 0} {g : Ghosts S} (def : TableDef) (shape : Shape) (old mid : S) (tree : Tree) (damage : Damage)
     → BreaksAtReturn g shape (λ owners. (t : Forest) × StandsTree g shape mid tree owners t) damage → NamesTablePart shape def damage
-return_named def shape old mid tree damage at_return = elim at_return.breaks [
-  | inl space ↦ elim space [
-    | inl count ↦ NamesTablePart.count count.rule count.page
-    | inr page ↦ NamesTablePart.map_page page.1.rule (omega (arith, page.1.page), omega (arith, page.1.page, page.1.on_map))
-  ]
-  | inr unused ↦ NamesTablePart.tree_page unused.rule
-]
+return_named def shape old mid tree damage at_return = names_use shape at_return.mid at_return.page damage at_return.breaks
 
--- the page of the map that says what a page is
-map_page_told : {S : Type 0} {g : Ghosts S} {shape : Shape} {s : S} {owners : List Kind} {p : ℕ} → HoldsMap g shape s owners → IsUsedPage shape owners p → HoldsMapPage g shape s owners (extent_of shape p / 512)
-map_page_told {shape = shape} {p = p} map used = map.pages (extent_of shape p / 512) (on_map shape.extents (extent_of shape p) (extent_below shape p used.page))
-
--- ---- claims and returns
+-- ---- the block in the indexes
 
 -- the entries of the block under the values of a row
 abbrev all_entries : TableDef → List Value → ℕ → List Entry
 all_entries def values block = block_entry def.columns (cell_parts def) values block ∷ map (λ dim. block_entry def.columns (rising_parts dim) values block) def.dims
-
-module _ {S : Type 0} {g : Ghosts S} (shape : Shape) (before noted : SpaceNotes) (old new : S) (owners owners_now : List Kind) (places : List TreePlace) (trees trees_now : List Forest) (changes : ChangesTrees g shape before noted new places owners trees owners_now trees_now) where
-  -- where no page left the trees, no index extent became free
-  no_less : HoldsMap g shape old owners → ((p : ℕ) → sum_by (times p) trees ≤ sum_by (times p) trees_now) → (e used : ℕ) → owner_of owners e ≡ Index used → owner_of owners_now e ≡ Free → ⊥
-  no_less map more e used was now = not_freed shape owners owners_now e (index_used shape old owners e used map was) still now
-    where
-      still : (p : ℕ) → IsUsedPage shape owners p → IsUsedPage shape owners_now p
-      still p used = elim (cases_lt 0 (sum_by (times p) trees)) [
-        | inl some ↦ changes.stand.used p (omega (arith, some, more p))
-        | inr none ↦ changes.kept.others p used (omega (arith, none))
-      ]
-
-  -- where none came to them, no free extent became an index extent
-  no_more : StandTrees g shape old owners places trees → ((p : ℕ) → sum_by (times p) trees_now ≤ sum_by (times p) trees) → (e used : ℕ) → owner_of owners e ≡ Free → owner_of owners_now e ≡ Index used → ⊥
-  no_more stand fewer e used was now = not_freed shape owners_now owners e (index_used shape new owners_now e used changes.stand.map now) still was
-    where
-      still : (p : ℕ) → IsUsedPage shape owners_now p → IsUsedPage shape owners p
-      still p used = elim (changes.kept.used p used) [
-        | inl some ↦ stand.used p (omega (arith, some, fewer p))
-        | inr stayed ↦ stayed.0
-      ]
-
--- the page count, where no page came and page 0 isn't touched
-grows_untouched : {S : Type 0} {g : Ghosts S} (shape : Shape) (old new : S) (owners : List Kind) (places : List TreePlace) (trees : List Forest) → StandTrees g shape old owners places trees
-    → Touches g (IsTreesOrMapPage g shape old places) old new → length (g.state new).work ≡ length (g.state old).work → GrowsPages g shape old new
-grows_untouched shape old new owners places trees st touched count = record {
-  stated = record {
-    same = λ same bytes holds. touched.others 0 bytes (λ mine. elim (mine owners trees st) [ inl here ↦ no_space_page shape 0 (st.used 0 here).page (inl refl) | inr map ↦ omega (arith, map.0) ]) holds;
-    grown = λ more. absurd (omega (arith, more, count));
-    whole = λ more. absurd (omega (arith, more, count));
-  };
-  whole = λ is. record { extents = is.extents; within = is.within; count = count ∙ is.count };
-}
-
--- ---- the block in the indexes
 
 module _ (def : TableDef) (values : List Value) (block : ℕ) (small : block < 2 ^ 32) (has : HasBlockIndexes def) (keys : HaveKeys def.columns (cell_places def) values) where
   -- what is known of the columns of an index
@@ -227,10 +174,10 @@ module _ {S : Type 0} {g : Ghosts S} (def : TableDef) (cell : Cell) (values : Li
         (omega (arith, block_below owners e def.number is, st.trees.map.count)) is
 
     other_now : (placed : PlacedRow) → IsOtherRow shape (pages_of g old) def forests.map block placed → IsOtherRow shape (pages_of g new) def forests.map block placed
-    other_now = other_row_now shape (pages_of g old) (pages_of g new) def owners owners_now forests.map block (λ e low is. blocks_kept e is) changes.kept.blocks st.map
+    other_now = other_row_now shape (pages_of g old) (pages_of g new) def owners owners_now forests.map block (λ e low is. blocks_kept e is) (λ e other. changes.kept.blocks e) st.map
 
     other_was : (placed : PlacedRow) → IsOtherRow shape (pages_of g new) def forests.map block placed → IsOtherRow shape (pages_of g old) def forests.map block placed
-    other_was = other_row_was shape (pages_of g old) (pages_of g new) def owners owners_now forests.map block (λ e low is. blocks_kept e is) changes.kept.blocks st.map
+    other_was = other_row_was shape (pages_of g old) (pages_of g new) def owners owners_now forests.map block (λ e low is. blocks_kept e is) (λ e other. changes.kept.blocks e) st.map
 
     abbrev AroundOld : List ℕ → Forest → Type 0
     AroundOld dim index = IsIndexAround shape (pages_of g old) def forests.map (rising_parts dim) block index
@@ -261,7 +208,7 @@ module _ {S : Type 0} {g : Ghosts S} (def : TableDef) (cell : Cell) (values : Li
           stands = record {
             told = told ∙ st.told;
             trees = whole_changes.stand;
-            map = map_still shape (pages_of g old) (pages_of g new) def owners owners_now forests.map block (λ e low is. blocks_kept e is) changes.kept.blocks st.map;
+            map = map_still shape (pages_of g old) (pages_of g new) def owners owners_now forests.map block (λ e low is. blocks_kept e is) (λ e other. changes.kept.blocks e) st.map;
             composite = composite;
             dims = dims;
           };
@@ -378,7 +325,7 @@ module _ {S : Type 0} {g : Ghosts S} (def : TableDef) (cell : Cell) (values : Li
     names = elim breaks.breaks [
       | inl tree_or_map ↦ elim tree_or_map [
         | inl standing ↦ tree_named def breaks.comes.n breaks.tree breaks.comes.place shape damage standing.page standing.rule
-        | inr space ↦ space_named def breaks.comes.n breaks.tree breaks.comes.place shape damage g breaks.mid space
+        | inr space ↦ names_space shape breaks.mid damage space
       ]
       | inr index ↦ index_named def breaks.comes.n breaks.tree breaks.comes.place shape damage index.page index.rule
     ];

@@ -27,7 +27,7 @@ use Rattle.mdc_sound.specs.BlockRules.{IsBlockPageSound}
 use Rattle.table_trees.specs.RowCells.{AreOfOneCell}
 use Rattle.table_trees.specs.ToldPages.{PageList}
 use Rattle.mdc_ast.specs.FittingRows.{RowFits}
-use Rattle.mdc_sound.specs.Placing.{AfterClaims, Spot, spot_of_kind, spot_of_state}
+use Rattle.mdc_sound.specs.Placing.{AfterClaims, AfterReturns, Spot, spot_of_kind, spot_of_state}
 use Rattle.mdc_sound.specs.Placing.Spot.{OtherBlock}
 use Rattle.mdc_sound.specs.StandingTable.{TableForests, forests_in_order, pages_of}
 use Rattle.mdc_sound.specs.TableRows.{PlacedRow, block_slots}
@@ -39,7 +39,7 @@ use Rattle.table_blocks.specs.BlockChanges.{ChangesAround, IsSpotChange, spot_in
 use Rattle.table_blocks.specs.BlockNow.{IsOwnBlock}
 use Rattle.table_blocks.proofs.ChangedLinesLemmas.{ChangesLine, mapped_there, state_back, state_kept, state_there}
 use Rattle.table_blocks.proofs.OtherBlocksLemmas.{block_still}
-use Rattle.table_blocks.proofs.SpotChangesLemmas.{claims_change}
+use Rattle.table_blocks.proofs.SpotChangesLemmas.{claims_change, returns_change}
 
 -- ---- owners
 
@@ -225,6 +225,30 @@ module _ {S : Type 0} {g : Ghosts S} (shape : Shape) (before noted : SpaceNotes)
     trees = trees;
     records = refl;
     spots = λ e other. spot_claimed e (owner_of owners e) (owner_of owners_now e) other refl refl (free e);
+    longer = longer;
+    grows = grows;
+  }
+
+  spot_returned : (e : ℕ) (was now : Kind) → e ≢ block → owner_of owners e ≡ was → owner_of owners_now e ≡ now → ((used : ℕ) → was ≡ Free → now ≡ Index used → ⊥)
+      → AfterReturns (spot_of_kind shape (pages_of g old) def forests.map e was) (spot_of_kind shape (pages_of g new) def map_now e now)
+  spot_returned e Free Free other is is_now none = refl
+  spot_returned e Free (Index used) other is is_now none = absurd (none used refl refl)
+  spot_returned e Free (Block t) other is is_now none = let wrong = sym is ∙ was_block e t is_now in absurd cc
+  spot_returned e (Index used) Free other is is_now none = tt
+  spot_returned e (Index used) (Index more) other is is_now none = refl
+  spot_returned e (Index used) (Block t) other is is_now none = let wrong = sym is ∙ was_block e t is_now in absurd cc
+  spot_returned e (Block t) now other is is_now none =
+      let was = spot_of_kind shape (pages_of g old) def forests.map e (Block t) in
+      subst (λ k. AfterReturns was (spot_of_kind shape (pages_of g new) def map_now e k)) (sym (still e t is) ∙ is_now)
+      (subst (AfterReturns was) (sym (spot_of_block e t other is)) (returns_change.stays was))
+
+  pub moves_returned : ((e used : ℕ) → owner_of owners e ≡ Free → owner_of owners_now e ≡ Index used → ⊥) → length (g.state old).work ≤ length (g.state new).work → GrowsPages g shape old new
+      → ChangesAround g AfterReturns shape before noted old new def block owners forests owners_now forests_now
+  moves_returned none longer grows = record {
+    stands = stands_around_now;
+    trees = trees;
+    records = refl;
+    spots = λ e other. spot_returned e (owner_of owners e) (owner_of owners_now e) other refl refl (none e);
     longer = longer;
     grows = grows;
   }

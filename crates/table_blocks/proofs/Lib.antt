@@ -25,6 +25,7 @@ pub mod ReleasingSpaceLemmas
 pub mod IndexEntriesLemmas
 pub mod IndexStepLemmas
 pub mod KeptAroundLemmas
+pub mod KeptExtentsLemmas
 pub mod LastRowLemmas
 pub mod LastRowSpaceLemmas
 pub mod LineStepLemmas
@@ -36,6 +37,10 @@ pub mod NewBlockSpaceLemmas
 pub mod OpeningLemmas
 pub mod OtherBlocksLemmas
 pub mod OverwritingLemmas
+pub mod OwnerStepLemmas
+pub mod ReclaimingLemmas
+pub mod ReclaimingSpaceLemmas
+pub mod ReleasedRunsLemmas
 pub mod SeatsLemmas
 pub mod SeenSlotsLemmas
 pub mod SpotChangesLemmas

@@ -12,7 +12,7 @@ use Rattle.block_index.specs.Cells.{dimension_entries, entry_under, key_of_value
 use Rattle.block_index.proofs.CellsLemmas.{dimension_entries-row, key_of_values-row}
 use Rattle.table_trees.specs.RowCells.{AreOfOneCell}
 use Rattle.mdc_sound.specs.StandingTable.{TableForests}
-use Rattle.table_blocks.specs.BlockNow.{IsListedInEach, IsListedIn}
+use Rattle.table_blocks.specs.BlockNow.{IsListedInEach, IsListedIn, IsUnlisted, IsUnlistedIn}
 
 listed_under : (def : TableDef) (parts : List KeyPart) (a b : List Value) (block : ℕ) (index : Forest) → block_entry def.columns parts a block ≡ block_entry def.columns parts b block
     → IsListedIn def parts a block index → IsListedIn def parts b block index
@@ -48,4 +48,10 @@ pub listed_still : (def : TableDef) (forests forests_now : TableForests) (values
 listed_still def forests forests_now values block composite dims listed = record {
   composite = subst (λ (index : Forest). IsListedIn def (cell_parts def) values block index) (sym composite) listed.composite;
   dims = subst (λ (indexes : List Forest). AllZip (λ dim index. IsListedIn def (rising_parts dim) values block index) def.dims indexes) (sym dims) listed.dims;
+}
+
+pub unlisted_still : (def : TableDef) (forests forests_now : TableForests) (block : ℕ) → forests_now.composite ≡ forests.composite → forests_now.dims ≡ forests.dims → IsUnlisted def forests block → IsUnlisted def forests_now block
+unlisted_still def forests forests_now block composite dims unlisted = record {
+  composite = subst (λ (index : Forest). IsUnlistedIn def (cell_parts def) block index) (sym composite) unlisted.composite;
+  dims = subst (λ (indexes : List Forest). AllZip (λ dim index. IsUnlistedIn def (rising_parts dim) block index) def.dims indexes) (sym dims) unlisted.dims;
 }

@@ -1,6 +1,5 @@
 -- A claimed block comes into the block map and gets its first row: what the calls that follow each other say together.
 use Rattle.std.proofs.Common.{◌≡◌, ◌<◌, ◌+◌, ℕ, List, length, max, inl, inr, ap, sym, subst, ◌∙◌}
-use Rattle.std.specs.List.{AllZip}
 use Rattle.std.specs.Prelude.{Option, Some, None, replicate, slice_set}
 use Rattle.mdc_ast.specs.declared.definition.TableDef.{TableDef}
 use Rattle.mdc_ast.specs.declared.row.Row.{Row}
@@ -28,19 +27,19 @@ use Rattle.block_map.specs.Counting.{used_row}
 use Rattle.block_map.specs.MapChanges.{BreaksEntering}
 use Rattle.block_map.specs.MapRows.{row_entry}
 use Rattle.block_map.specs.declared.row.BlockRow.{BlockRow}
-use Rattle.table_trees.specs.TableTrees.{cell_parts, rising_parts}
 use Rattle.mdc_ast.specs.FittingRows.{RowFits}
 use Rattle.mdc_sound.specs.Placing.{AfterClaims, block_slot_count}
 use Rattle.mdc_sound.specs.StandingTable.{BreaksTable, IsTreeSpaceOfTable, MeetsNoFree, StandsTable, TableForests}
 use Rattle.mdc_sound.proofs.ChangedRowsLemmas.{some_slots}
 use Rattle.table_blocks.specs.AroundBlock.{StandsAround}
 use Rattle.table_blocks.specs.BlockChanges.{BreaksAround, IsSpaceAround}
-use Rattle.table_blocks.specs.BlockNow.{IsOwnBlock, IsUnlisted, IsUnlistedIn, IsUnnamed, IsUsedNow}
+use Rattle.table_blocks.specs.BlockNow.{IsOwnBlock, IsUnlisted, IsUnnamed, IsUsedNow}
 use Rattle.table_blocks.specs.BlockSteps.{BeginsBlock, ClaimsBlock, FillsBegun, MovesLine}
 use Rattle.table_blocks.proofs.BegunSlotsLemmas.{begun_cell, begun_count}
 use Rattle.table_blocks.proofs.AroundLemmas.{around_then, own_still}
 use Rattle.table_blocks.proofs.ClaimStepLemmas.{breaks_claiming, breaks_since_claim, claims_block, space_since_change, space_since_claim, turns_claimed}
 use Rattle.table_blocks.proofs.LineStepLemmas.{breaks_entering, enters_line, map_around, space_of_map}
+use Rattle.table_blocks.proofs.ListedCellsLemmas.{unlisted_still}
 use Rattle.table_blocks.proofs.SpotChangesLemmas.{claims_change}
 
 -- An extent was claimed as a block of the table, and this is its line.
@@ -128,11 +127,7 @@ module _ {S : Type 0} {g : Ghosts S} {shape : Shape} {before mid_notes : SpaceNo
     unlisted_then : (owners : List Kind) (forests : TableForests) (st : StandsTable g shape old def owners forests) → IsUnlisted def (where_entered owners forests st).forests_now block
     unlisted_then owners forests st =
         let moves = where_entered owners forests st in
-        let was = (is.claims owners forests st).unlisted in
-        record {
-          composite = subst (λ (index : Forest). IsUnlistedIn def (cell_parts def) block index) (sym moves.composite) was.composite;
-          dims = subst (λ (indexes : List Forest). AllZip (λ dim index. IsUnlistedIn def (rising_parts dim) block index) def.dims indexes) (sym moves.dims) was.dims;
-        }
+        unlisted_still def forests moves.forests_now block moves.composite moves.dims (is.claims owners forests st).unlisted
 
     pub fill_run : {new : S} {fault : Option StoreFault}
         → RunsOverPages g (IsSpaceAround g shape two def block) (IsSpaceAround g shape two def block) (BreaksAround g shape two def block (λ owners forests. IsUnlisted def forests block)) two new fault

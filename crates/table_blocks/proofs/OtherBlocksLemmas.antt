@@ -49,16 +49,16 @@ block_still one other t same is = block_of_table one t (same ∙ ap table_of_blo
 
 module _ (shape : Shape) (old new : PageList) (def : TableDef) (owners owners_now : List Kind) (map_tree : Forest) (block : ℕ)
     (kept : (e : ℕ) → e < shape.extents → owner_of owners e ≡ Block def.number → KeepsBlockPages shape old new e)
-    (blocks : (e : ℕ) → table_of_block (owner_of owners_now e) ≡ table_of_block (owner_of owners e)) (around : IsMapAround shape old owners def map_tree block) where
-  line_still : (line : MapLine) → IsLineSound shape old owners def line → IsLineSound shape new owners_now def line
-  line_still line was =
+    (blocks : (e : ℕ) → e ≢ block → table_of_block (owner_of owners_now e) ≡ table_of_block (owner_of owners e)) (around : IsMapAround shape old owners def map_tree block) where
+  line_still : (line : MapLine) → line.block ≢ block → IsLineSound shape old owners def line → IsLineSound shape new owners_now def line
+  line_still line other was =
       let stays : KeepsBlockPages shape old new line.block = kept line.block was.mapped.within was.mapped.owned in
       let same : rows_in_block shape new def line.block ≡ rows_in_block shape old def line.block = rows_in_block-kept shape old new def line.block stays in
       record {
         mapped = record {
           state = was.mapped.state;
           within = was.mapped.within;
-          owned = block_still (owner_of owners_now line.block) (owner_of owners line.block) def.number (blocks line.block) was.mapped.owned;
+          owned = block_still (owner_of owners_now line.block) (owner_of owners line.block) def.number (blocks line.block other) was.mapped.owned;
         };
         used_count = record { some_row = was.used_count.some_row; counted = λ used. was.used_count.counted used ∙ sym (ap length same) };
         idle_count = was.idle_count;
@@ -73,9 +73,9 @@ module _ (shape : Shape) (old new : PageList) (def : TableDef) (owners owners_no
   map_still = record {
     entries = around.entries;
     form = around.form;
-    others = λ x there other. line_still (map_line x) (around.others x there other);
+    others = λ x there other. line_still (map_line x) other (around.others x there other);
     all_named = λ e other low is.
-        around.all_named e other low (block_still (owner_of owners e) (owner_of owners_now e) def.number (sym (blocks e)) is);
+        around.all_named e other low (block_still (owner_of owners e) (owner_of owners_now e) def.number (sym (blocks e other)) is);
   }
 
   -- a Used block is one of the table

@@ -1,7 +1,6 @@
 -- A block is released: its line in the block map first, and then its entries in the block indexes.
 use Rattle.std.proofs.Common.{◌≡◌, ◌≢◌, ◌<◌, ◌^◌, ℕ, List, ◌∷◌, arith, length, refl, subst, sum_by, sym}
 use Rattle.std.specs.Prelude.{None, Option}
-use Rattle.std.specs.List.{AllZip}
 use Rattle.mdc_values.specs.declared.value.Value.{Value}
 use Rattle.mdc_ast.specs.TableLimits.{IsTableDef}
 use Rattle.mdc_ast.specs.declared.definition.TableDef.{TableDef}
@@ -24,19 +23,20 @@ use Rattle.block_map.specs.declared.row.BlockRow.{BlockRow}
 use Rattle.block_map.specs.declared.state.BlockState.{BlockState}
 use Rattle.block_map.specs.declared.state.BlockState.TheVariants.{Used}
 use Rattle.block_index.specs.Listing.{BreaksUnlisting, UnlistsBlock}
-use Rattle.table_trees.specs.TableTrees.{HasBlockIndexes, block_index_places, cell_parts, rising_parts}
+use Rattle.table_trees.specs.TableTrees.{HasBlockIndexes, block_index_places}
 use Rattle.table_trees.specs.TreesBeside.{IsTreesOrMapPage, StandTrees}
 use Rattle.mdc_sound.specs.Placing.{AfterReturns}
 use Rattle.mdc_sound.specs.StandingTable.{StandsTable, TableForests, forests_in_order}
 use Rattle.mdc_sound.proofs.DefinitionTreesLemmas.{has_block_indexes}
 use Rattle.table_blocks.specs.AroundBlock.{StandsAround}
 use Rattle.table_blocks.specs.BlockChanges.{BreaksAround, IsPlaceAround}
-use Rattle.table_blocks.specs.BlockNow.{IsKeyedCell, IsListedInEach, IsListedIn, IsListedUnder, IsOwnBlock, released_line}
+use Rattle.table_blocks.specs.BlockNow.{IsKeyedCell, IsListedUnder, IsOwnBlock, released_line}
 use Rattle.table_blocks.specs.BlockSteps.{ExpectsReleasing, MovesLine, ReleasesBlock, TurnsReleased}
 use Rattle.table_blocks.proofs.AroundLemmas.{around_then, own_still, runs_place_then}
 use Rattle.table_blocks.proofs.ClosingLemmas.{spot_of_released, turns_released}
 use Rattle.table_blocks.proofs.IndexStepLemmas.{breaks_unlisting, indexes_around, names_unlisting, place_of_indexes, unlists_entries}
 use Rattle.table_blocks.proofs.LineStepLemmas.{breaks_replacing, map_around, place_of_map, replaces_line}
+use Rattle.table_blocks.proofs.ListedCellsLemmas.{listed_still}
 use Rattle.table_blocks.proofs.OpeningLemmas.{around_block, own_of_small}
 use Rattle.table_blocks.proofs.SpotChangesLemmas.{returns_change}
 
@@ -77,13 +77,6 @@ module _ {S : Type 0} {g : Ghosts S} where
           replaces_line tree def root width returns_change shape noted old mid line.block line (released_line given line.block) owners forests st own refl refl (there forests.map held) (changes forests.map held st.map.form) first.touches
           first.works.steady.is_told count
 
-      listed_still : (owners : List Kind) (forests : TableForests) (moves : MovesLine g AfterReturns shape noted noted old mid def line.block (released_line given line.block) owners forests) (values : List Value)
-          → IsListedInEach def forests values line.block → IsListedInEach def moves.forests_now values line.block
-      listed_still owners forests moves values listed = record {
-        composite = subst (IsListedIn def (cell_parts def) values line.block) (sym moves.composite) listed.composite;
-        dims = subst (AllZip (λ dim index. IsListedIn def (rising_parts dim) values line.block index) def.dims) (sym moves.dims) listed.dims;
-      }
-
       module _ (small : line.block < 2 ^ 32) (idle : given ≢ Used) (now : SpaceNotes) (new : S)
           (unlists : (owners : List Kind) (trees : List Forest) → StandTrees g shape mid owners (block_index_places def) trees → UnlistsBlock g shape noted now new def cell.values line.block owners trees)
           (count_now : length (g.state new).work ≡ length (g.state mid).work) (touched : Touches g (IsTreesOrMapPage g shape mid (block_index_places def)) mid new)
@@ -92,7 +85,8 @@ module _ {S : Type 0} {g : Ghosts S} where
             → ReleasesBlock g shape noted now old new def line.block given values owners forests
         releases_block owners forests values st own is =
             let has = has_block_indexes def.number def defined in
-            let m = (moves_line owners forests st own).0 in
+            let moved = moves_line owners forests st own in
+            let m = moved.0 in
             let own_mid = own_still shape noted noted old mid def line.block owners m.owners_now forests m.forests_now m.changes own in
             let stand = indexes_around def line.block has shape mid m.owners_now m.forests_now m.changes.stands in
             let u = unlists_entries def cell values line.block small has is.cell_is is.keys shape noted now mid new m.owners_now m.forests_now m.changes.stands own_mid
@@ -106,7 +100,8 @@ module _ {S : Type 0} {g : Ghosts S} where
               line = line_now;
               spot = spot_of_released shape new def u.0.owners_now u.0.forests_now defined given idle line.block both.stands
                   (own_still shape noted now old new def line.block owners u.0.owners_now forests u.0.forests_now both own) line_now;
-              unlisted = λ listed. u.1 (listed_still owners forests m values listed);
+              pages = λ p some. omega (arith, u.2 p some, moved.2 p);
+              unlisted = λ listed. u.1 (listed_still def forests m.forests_now values line.block m.composite m.dims listed);
             }
 
         pub turns_block : (owners : List Kind) (forests : TableForests) → StandsTable g shape old def owners forests → ExpectsReleasing def line cell owners forests
@@ -122,6 +117,8 @@ module _ {S : Type 0} {g : Ghosts S} where
                 line = released.line;
                 unlisted = released.unlisted expects.listed.listed;
               });
+              owned = released.changes.trees.kept.blocks;
+              pages = released.pages;
             }
 
       pub runs_released : line.block < 2 ^ 32 → (new : S) (fault : Option StoreFault)
@@ -139,7 +136,7 @@ module _ {S : Type 0} {g : Ghosts S} where
               expects = λ expects. record {
                 values = expects.listed.values;
                 of_cell = expects.listed.of_cell;
-                listed = listed_still owners forests m.0 expects.listed.values expects.listed.listed;
+                listed = listed_still def forests m.0.forests_now expects.listed.values line.block m.0.composite m.0.dims expects.listed.listed;
               };
             },
             λ p l. omega (arith, l, m.2 p),

@@ -14,7 +14,7 @@ use Rattle.entry_tree.specs.Standing.{IsIdlePage}
 use Rattle.table_trees.specs.TableTrees.{tree_places}
 use Rattle.table_trees.specs.TreesBeside.{ChangesTrees, GrowsPages}
 use Rattle.mdc_sound.specs.Placing.{Spot, spot_of_kind}
-use Rattle.mdc_sound.specs.StandingTable.{ChangesTable, IsPageOfBlock, NamesTablePart, TableForests, forests_in_order, pages_of, spots_of}
+use Rattle.mdc_sound.specs.StandingTable.{ChangesTable, IsPageOfBlock, NamesTablePart, StandsTable, TableForests, forests_in_order, pages_of, spots_of}
 use Rattle.table_blocks.specs.AroundBlock.{StandsAround}
 use Rattle.table_blocks.specs.BlockNow.{IsOwnBlock}
 
@@ -58,6 +58,13 @@ abbrev pub IsPlaceAround : {S : Type 0} → Ghosts S → Shape → S → TableDe
 IsPlaceAround g shape s def block p =
     (owners : List Kind) (forests : TableForests) → StandsAround g shape s def owners forests block → IsOwnBlock shape owners def block
     → 0 < sum_by (times p) (forests_in_order forests) ⊎ (IsPageOfBlock shape block p ⊎ IsMapPage shape p)
+
+-- the pages that a call on the trees of a table may change and bring to hand where it claims nothing: those of the trees and of the
+-- extent map, where the table was told to stand
+abbrev pub IsTreeOrMapPageOfTable : {S : Type 0} → Ghosts S → Shape → S → TableDef → ℕ → Type 0
+IsTreeOrMapPageOfTable g shape s def p =
+    (owners : List Kind) (forests : TableForests) → StandsTable g shape s def owners forests
+    → 0 < sum_by (times p) (forests_in_order forests) ⊎ IsMapPage shape p
 
 -- What they may name: a part of the table, where it wasn't told to stand but for the block, which was as the call expects it.
 pub record BreaksAround {S : Type 0} (g : Ghosts S) (shape : Shape) (s : S) (def : TableDef) (block : ℕ) (Expected : List Kind → TableForests → Type 0) (damage : Damage) : Type 0 where

@@ -1,5 +1,5 @@
 -- What each call on one block says, in the words of a table that stands around it and of one that stands.
-use Rattle.std.specs.Prelude.{◌≡◌, ◌≢◌, ◌≤◌, ℕ, List, [], ◌∷◌, Contains, Option, Some, None, length, replicate, slice_index_or, slice_set}
+use Rattle.std.specs.Prelude.{◌≡◌, ◌≢◌, ◌≤◌, ◌<◌, ℕ, List, [], ◌∷◌, Contains, Option, Some, None, length, replicate, slice_index_or, slice_set, sum_by}
 use Rattle.mdc_values.specs.declared.rid.Rid.{Rid}
 use Rattle.mdc_values.specs.declared.value.Value.{Value}
 use Rattle.mdc_ast.specs.declared.definition.TableDef.{TableDef}
@@ -11,6 +11,7 @@ use Rattle.extent_map.specs.Owners.{AreRightNotes, HasNoFree, IsLowestFree, owne
 use Rattle.extent_map.specs.declared.kind.Kind.{Kind}
 use Rattle.extent_map.specs.declared.kind.Kind.TheVariants.{Free}
 use Rattle.extent_map.specs.declared.space_notes.SpaceNotes.{SpaceNotes}
+use Rattle.entry_tree.specs.Forest.{times}
 use Rattle.block_map.specs.BlockMaps.{HasRow}
 use Rattle.block_map.specs.MapLines.{free_blocks}
 use Rattle.block_map.specs.MapRows.{row_entry}
@@ -19,18 +20,18 @@ use Rattle.block_map.specs.declared.state.BlockState.{BlockState}
 use Rattle.block_index.specs.Cells.{index_listings}
 use Rattle.table_trees.specs.RowCells.{AreOfOneCell}
 use Rattle.table_trees.specs.SpaceChanges.{RunsFull, SpaceChange, removed_entries}
-use Rattle.table_trees.specs.SpaceChanges.SpaceChange.{AmendEntry, ClaimBlock}
+use Rattle.table_trees.specs.SpaceChanges.SpaceChange.{AmendEntry, ClaimBlock, GiveBlock, RemoveEntry}
 use Rattle.table_trees.specs.TableTrees.{map_place}
 use Rattle.table_trees.specs.ToldPages.{PageList}
-use Rattle.table_trees.specs.TreesBeside.{GrowsPages}
+use Rattle.table_trees.specs.TreesBeside.{GrowsPages, table_of_block}
 use Rattle.mdc_sound.specs.Placing.{AfterClaims, AfterReturns, HasRoomFor, IsEmptySlot, IsLowestAt, IsRowAt, Spot, begun_with, block_slot_count, left_with}
 use Rattle.mdc_sound.specs.Placing.Spot.{FreeExtent, OtherBlock, UsedBlock}
 use Rattle.mdc_sound.specs.RunningFull.{block_changes}
-use Rattle.mdc_sound.specs.StandingTable.{TableForests, pages_of, spots_of}
+use Rattle.mdc_sound.specs.StandingTable.{TableForests, forests_in_order, pages_of, spots_of}
 use Rattle.block_rows.specs.HeldRows.{HoldsRows}
 use Rattle.table_blocks.specs.AroundBlock.{StandsAround}
 use Rattle.table_blocks.specs.BlockChanges.{ChangesAround, SameSpot, TurnsSpot, spot_in}
-use Rattle.table_blocks.specs.BlockNow.{IsListedInEach, IsListedUnder, IsOwnBlock, IsUnlisted, IsUnnamed, released_line, released_spot}
+use Rattle.table_blocks.specs.BlockNow.{IsListedInEach, IsListedUnder, IsOwnBlock, IsUnlisted, IsUnnamed, free_line, released_line, released_spot}
 
 -- ---- a block that comes into use
 
@@ -107,7 +108,7 @@ pub record EmptiesSlot {S : Type 0} (g : Ghosts S) (shape : Shape) (before noted
 -- ---- a block that is released
 
 -- The block has this state in the block map, without rows, and is what the state says to the table. None of its entries under the
--- cell of these values is left in a block index.
+-- cell of these values is left in a block index. No page came to the trees.
 pub record ReleasesBlock {S : Type 0} (g : Ghosts S) (shape : Shape) (before noted : SpaceNotes) (old new : S) (def : TableDef) (block : ℕ) (given : BlockState) (values : List Value)
     (owners : List Kind) (forests : TableForests) : Type 0 where
   pub owners_now : List Kind
@@ -116,12 +117,16 @@ pub record ReleasesBlock {S : Type 0} (g : Ghosts S) (shape : Shape) (before not
   pub line : HasRow (released_line given block) forests_now.map
   pub spot : spot_in g shape new def owners_now forests_now block ≡ released_spot given
   pub unlisted : IsListedInEach def forests values block → IsUnlisted def forests_now block
+  pub pages : (p : ℕ) → 0 < sum_by (times p) (forests_in_order forests_now) → 0 < sum_by (times p) (forests_in_order forests)
 
--- A block of a table that stood was released, and the table stands; after that trees may have given extents back.
+-- A block of a table that stood was released, and the table stands; after that trees may have given extents back. Each extent is a
+-- block of the table that it was of, and no page came to the trees.
 pub record TurnsReleased {S : Type 0} (g : Ghosts S) (shape : Shape) (before noted : SpaceNotes) (old new : S) (def : TableDef) (block : ℕ) (given : BlockState) (owners : List Kind) (forests : TableForests) : Type 0 where
   pub owners_now : List Kind
   pub forests_now : TableForests
   pub turns : TurnsSpot g AfterReturns shape before noted old new def block (released_spot given) owners forests owners_now forests_now
+  pub owned : (e : ℕ) → table_of_block (owner_of owners_now e) ≡ table_of_block (owner_of owners e)
+  pub pages : (p : ℕ) → 0 < sum_by (times p) (forests_in_order forests_now) → 0 < sum_by (times p) (forests_in_order forests)
 
 -- what releasing a block expects: it has this line, and is listed under this cell
 pub record ExpectsReleasing (def : TableDef) (line : BlockRow) (cell : Cell) (owners : List Kind) (forests : TableForests) : Type 0 where
@@ -137,7 +142,34 @@ abbrev pub released_changes : TableDef → Cell → BlockState → BlockRow → 
 released_changes def cell given line =
     AmendEntry (map_place def) (row_entry line) (row_entry (released_line given line.block)) ∷ removed_entries (index_listings def cell.values line.block)
 
+-- ---- a block that is given back
+
+-- A Free block of a table that stood is a free extent, and the table stands; trees may have given extents back too. Each other extent
+-- is a block of the table that it was of, no page came to the trees, and the block indexes have the trees that they had.
+pub record ReclaimsBlock {S : Type 0} (g : Ghosts S) (shape : Shape) (before noted : SpaceNotes) (old new : S) (def : TableDef) (block : ℕ) (owners : List Kind) (forests : TableForests) : Type 0 where
+  pub owners_now : List Kind
+  pub forests_now : TableForests
+  pub turns : TurnsSpot g AfterReturns shape before noted old new def block FreeExtent owners forests owners_now forests_now
+  pub owned : (e : ℕ) → e ≢ block → table_of_block (owner_of owners_now e) ≡ table_of_block (owner_of owners e)
+  pub pages : (p : ℕ) → 0 < sum_by (times p) (forests_in_order forests_now) → 0 < sum_by (times p) (forests_in_order forests)
+  pub composite : forests_now.composite ≡ forests.composite
+  pub dims : forests_now.dims ≡ forests.dims
+
+-- the changes of space of giving it back: its line goes, and its extent is free
+abbrev pub reclaimed_changes : TableDef → ℕ → List SpaceChange
+reclaimed_changes def block = RemoveEntry (map_place def) (row_entry (free_line block)) ∷ GiveBlock def.number block ∷ []
+
 -- ---- steps midway
+
+-- The block map names the block no more, and nothing else changed; trees may have given extents back, and no page came to them.
+pub record UnnamesBlock {S : Type 0} (g : Ghosts S) (shape : Shape) (before noted : SpaceNotes) (old new : S) (def : TableDef) (block : ℕ) (owners : List Kind) (forests : TableForests) : Type 0 where
+  pub owners_now : List Kind
+  pub forests_now : TableForests
+  pub changes : ChangesAround g AfterReturns shape before noted old new def block owners forests owners_now forests_now
+  pub unnamed : IsUnnamed forests_now.map block
+  pub composite : forests_now.composite ≡ forests.composite
+  pub dims : forests_now.dims ≡ forests.dims
+  pub pages : (p : ℕ) → 0 < sum_by (times p) (forests_in_order forests_now) → 0 < sum_by (times p) (forests_in_order forests)
 
 -- The block's line in the block map became this one, and nothing else changed; trees may have taken or given back extents.
 pub record MovesLine {S : Type 0} (g : Ghosts S) (After : Spot → Spot → Type 0) (shape : Shape) (before noted : SpaceNotes) (old new : S) (def : TableDef) (block : ℕ) (line : BlockRow) (owners : List Kind) (forests : TableForests) : Type 0 where

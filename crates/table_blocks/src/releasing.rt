@@ -7,9 +7,9 @@ ghost use Rattle.extent_map.specs.declared.kind.Kind.{Kind};
 ghost use Rattle.mdc_ast.specs.TableLimits.{IsTableDef};
 ghost use Rattle.block_index.specs.Cells.{FitsCell};
 ghost use Rattle.table_trees.specs.SpaceChanges.{MakesChanges};
-ghost use Rattle.mdc_sound.specs.StandingTable.{StandsTable, TableForests, pages_of};
+ghost use Rattle.mdc_sound.specs.StandingTable.{BreaksExpected, StandsTable, TableForests, pages_of};
 ghost use Rattle.table_blocks.specs.AroundBlock.{StandsAround};
-ghost use Rattle.table_blocks.specs.BlockChanges.{BreaksAround, IsPlaceAround};
+ghost use Rattle.table_blocks.specs.BlockChanges.{BreaksAround, IsPlaceAround, IsTreeOrMapPageOfTable};
 ghost use Rattle.table_blocks.specs.BlockNow.{IsKeyedCell, IsOwnBlock};
 ghost use Rattle.table_blocks.specs.BlockSteps.{ExpectsReleasing, ReleasesBlock, TurnsReleased, released_changes};
 
@@ -45,6 +45,8 @@ pub fn release_block<P: Pages>(
     ensures makes { OnOk result ((owners : List Kind) (forests : TableForests) → StandsAround P.Pages shape pages.old def.now owners forests line.block → IsOwnBlock shape owners def.now line.block
         → MakesChanges shape (pages_of P.Pages pages.old) (released_changes def.now cell.now state line) (pages_of P.Pages pages.new)) }
     ensures count { length (P.state pages.new).work ≡ length (P.state pages.old).work }
+    ensures runs_of_table { RunsOverPages P.Pages (IsTreeOrMapPageOfTable P.Pages shape pages.old def.now) (IsTreeOrMapPageOfTable P.Pages shape pages.old def.now)
+        (BreaksExpected P.Pages shape pages.old def.now (ExpectsReleasing def.now line cell.now)) pages.old pages.new (fault_of result) }
     ensures runs { RunsOverPages P.Pages (IsPlaceAround P.Pages shape pages.old def.now line.block) (IsPlaceAround P.Pages shape pages.old def.now line.block)
         (BreaksAround P.Pages shape pages.old def.now line.block (ExpectsReleasing def.now line cell.now)) pages.old pages.new (fault_of result) }
 {
