@@ -15,9 +15,10 @@ use Rattle.extent_map.specs.declared.space_notes.SpaceNotes.{SpaceNotes}
 use Rattle.table_trees.specs.RowCells.{AreOfOneCell}
 use Rattle.table_trees.specs.TreesBeside.{table_of_block}
 use Rattle.mdc_sound.specs.Placing.{ChangesRow, Spot, SpotsAfterClaims, SpotsAfterReturns}
-use Rattle.mdc_sound.specs.StandingTable.{IsReadyTable, RoomNote, StandsTable, TableForests, pages_of, spots_of}
+use Rattle.mdc_sound.specs.StandingTable.{IsReadyTable, KeepsBlocksBut, RoomNote, StandsTable, TableForests, pages_of, spots_of}
 use Rattle.table_blocks.proofs.SpotChangesLemmas.{claims_change, returns_change}
 use Rattle.cell_change.specs.RowChanges.{ChangesOneRow, DeletesRow, InsertsRow, MakesOneChange, TurnsEntries, rows_now}
+use Rattle.cell_change.proofs.KeptOthersLemmas.{keeps_then}
 use Rattle.cell_change.proofs.TableStepsLemmas.{changes_table_then, takes_no_block}
 
 -- ---- what Full states
@@ -38,20 +39,21 @@ same_returns (spot ∷ spots) = (returns_change.stays spot, same_returns spots)
 
 -- ---- taken out, and then put
 
-module _ {S : Type 0} (g : Ghosts S) (shape : Shape) {before mid : SpaceNotes} {room_mid : Entry → RoomNote} (old middle : S) (def : TableDef) (row : Row) (rid : Rid) (owners : List Kind) (forests : TableForests)
-    (deletes : DeletesRow g shape before mid room_mid old middle def row rid owners forests) where
+module _ {S : Type 0} (g : Ghosts S) (shape : Shape) {before mid : SpaceNotes} {room_of room_mid : Entry → RoomNote} (old middle : S) (def : TableDef) (row : Row) (rid : Rid) (owners : List Kind) (forests : TableForests)
+    (deletes : DeletesRow g shape before mid room_of room_mid old middle def row rid owners forests) where
   -- the table is ready once the row is out
-  pub ready_then : {room_of : Entry → RoomNote} → IsReadyTable g shape before room_of old def owners forests → IsReadyTable g shape mid room_mid middle def deletes.owners_now deletes.forests_now
-  ready_then ready = record { stands = deletes.changes.stands; notes = deletes.changes.notes ready.notes; rooms = deletes.rooms }
+  pub ready_then : IsReadyTable g shape before room_of old def owners forests → IsReadyTable g shape mid room_mid middle def deletes.owners_now deletes.forests_now
+  ready_then ready = record { stands = deletes.changes.stands; notes = deletes.changes.notes ready.notes; rooms = deletes.rooms ready }
 
   -- and no block was given up
-  pub deleted_no_block : StandsTable g shape old def owners forests → (e : ℕ) → table_of_block (owner_of deletes.owners_now e) ≡ None → table_of_block (owner_of owners e) ≡ None
+  deleted_no_block : StandsTable g shape old def owners forests → (e : ℕ) → table_of_block (owner_of deletes.owners_now e) ≡ None → table_of_block (owner_of owners e) ≡ None
   deleted_no_block st = takes_no_block g shape old middle def owners forests st deletes.owners_now deletes.forests_now deletes.mid row rid deletes.takes deletes.returns
 
   pub moves : {noted : SpaceNotes} {room_now : Entry → RoomNote} (new : S) (other : Row) (to : Rid) → (inserts : InsertsRow g shape mid noted room_now middle new def other to deletes.owners_now deletes.forests_now)
       → StandsTable g shape old def owners forests → (AreOfOneCell def row.values other.values → ⊥) → length (pages_of g old) ≤ length (pages_of g middle) → length (pages_of g middle) ≤ length (pages_of g new)
-      → MakesOneChange g shape old new def row other rid owners forests (spots_of g shape new def inserts.owners_now inserts.forests_now) → ChangesOneRow g shape before noted room_now old new def row other rid to owners forests
-  moves new other to inserts st apart longer still_longer space = record {
+      → MakesOneChange g shape old new def row other rid owners forests (spots_of g shape new def inserts.owners_now inserts.forests_now)
+      → KeepsBlocksBut g shape old middle def owners (λ block. block ≡ rid.block) → ChangesOneRow g shape before noted room_now old new def row other rid to owners forests
+  moves new other to inserts st apart longer still_longer space stay = record {
     owners_now = inserts.owners_now;
     forests_now = inserts.forests_now;
     changes = changes_table_then g shape old middle def owners forests deletes.owners_now deletes.forests_now deletes.changes new inserts.owners_now inserts.forests_now inserts.changes (deleted_no_block st) longer still_longer;
@@ -64,4 +66,5 @@ module _ {S : Type 0} (g : Ghosts S) (shape : Shape) {before mid : SpaceNotes} {
     were = deletes.rows;
     are = inserts.rows;
     space = space;
+    blocks = keeps_then deletes.changes (deleted_no_block st) stay inserts.blocks;
   }

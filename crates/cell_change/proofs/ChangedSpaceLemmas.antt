@@ -1,6 +1,6 @@
 -- The changes of space of a row that moves, and when a row that is inserted or moves runs full.
 use Rattle.std.proofs.Common.{List, [], ◌∷◌, ◌++◌, refl, arith}
-use Rattle.std.specs.Prelude.{IfOk, Option, Result, Ok, Err, slice_index_or}
+use Rattle.std.specs.Prelude.{IfOk, OnOk, Result, Ok, Err, slice_index_or}
 use Rattle.mdc_words.specs.ByteOrder.{Entry}
 use Rattle.mdc_values.specs.declared.rid.Rid.{Rid}
 use Rattle.mdc_ast.specs.declared.definition.TableDef.{TableDef}
@@ -24,6 +24,11 @@ use Rattle.row_entries.specs.SoundEntries.{placed_at}
 use Rattle.cell_change.specs.ExpectedTables.{PutRunsFull}
 use Rattle.cell_change.specs.RowChanges.{DeletesRow, InsertsRow, MakesOneChange, TurnsRowBy}
 use Rattle.cell_change.proofs.ChangedRowLemmas.{same_claims}
+
+-- what three facts say together where there is a value
+pub on_ok_each : {X E P Q R All : Type 0} (result : Result X E) → (P → Q → R → All) → OnOk result P → OnOk result Q → OnOk result R → OnOk result All
+on_ok_each (Ok x) all p q r = all p q r
+on_ok_each (Err fault) all p q r = tt
 
 -- what two facts say together of a value that there is
 pub if_ok_both : {X E : Type 0} (result : Result X E) (P Q R : X → Type 0) → ((x : X) → P x → Q x → R x) → IfOk result P → IfOk result Q → IfOk result R
@@ -59,26 +64,29 @@ module _ {S : Type 0} (g : Ghosts S) (shape : Shape) (s : S) (def : TableDef) (o
 
 -- ---- a row that is taken out, and then put
 
-module _ {S : Type 0} (g : Ghosts S) (shape : Shape) {before mid : SpaceNotes} {room_mid : Entry → RoomNote} (old middle : S) (def : TableDef) (row other : Row) (rid : Rid) (owners : List Kind) (forests : TableForests)
-    (deletes : DeletesRow g shape before mid room_mid old middle def row rid owners forests) (apart : AreOfOneCell def row.values other.values → ⊥)
-    (slots : List (Option Row)) (lies : IsRowAt (spots_of g shape old def owners forests) rid row slots)
-    (out : MakesChanges shape (pages_of g old) (taking_changes def row rid (count_rows slots)) (pages_of g middle)) where
+module _ {S : Type 0} (g : Ghosts S) (shape : Shape) {before mid : SpaceNotes} {room_of room_mid : Entry → RoomNote} (old middle : S) (def : TableDef) (row other : Row) (rid : Rid) (owners : List Kind) (forests : TableForests)
+    (deletes : DeletesRow g shape before mid room_of room_mid old middle def row rid owners forests) (apart : AreOfOneCell def row.values other.values → ⊥) where
+  abbrev lies : IsRowAt (spots_of g shape old def owners forests) rid row deletes.takes.slots
+  lies = deletes.takes.lies
+
   -- the spots once it is out
   abbrev pub free : List Spot
   free = spots_of g shape middle def deletes.owners_now deletes.forests_now
 
   -- what is taken out
   abbrev pub taking : List SpaceChange
-  taking = taking_changes def row rid (count_rows slots)
+  taking = taking_changes def row rid (count_rows deletes.takes.slots)
+
+  out : MakesChanges shape (pages_of g old) taking (pages_of g middle)
+  out = deletes.makes deletes.takes.slots lies
 
   pub moves_makes : {noted : SpaceNotes} {room_now : Entry → RoomNote} (new : S) (to : Rid) (inserts : InsertsRow g shape mid noted room_now middle new def other to deletes.owners_now deletes.forests_now)
-      → MakesChanges shape (pages_of g middle) (putting_changes def other to (slice_index_or free to.block OtherBlock)) (pages_of g new)
       → MakesOneChange g shape old new def row other rid owners forests (spots_of g shape new def inserts.owners_now inserts.forests_now)
-  moves_makes new to inserts then =
+  moves_makes new to inserts =
       let putting = putting_changes def other to (slice_index_or free to.block OtherBlock) in
       record {
         changes = taking ++ putting;
-        makes = changes_then shape (pages_of g old) (pages_of g middle) (pages_of g new) taking putting out then;
+        makes = changes_then shape (pages_of g old) (pages_of g middle) (pages_of g new) taking putting out inserts.makes;
         turns = TurnsRowBy.moves free apart lies deletes.takes deletes.returns inserts.puts inserts.claims;
       }
 

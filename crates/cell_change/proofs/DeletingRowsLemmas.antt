@@ -20,9 +20,13 @@ use Rattle.extent_map.specs.declared.kind.Kind.{Kind}
 use Rattle.extent_map.specs.declared.space_notes.SpaceNotes.{SpaceNotes}
 use Rattle.entry_tree.specs.Forest.{Forest, times}
 use Rattle.block_index.specs.Listing.{LosesEntry}
+use Rattle.row_page.specs.RowPage.{count_rows}
+use Rattle.table_trees.specs.SpaceChanges.{MakesChanges, removed_entries}
 use Rattle.table_trees.specs.TreesBeside.{table_of_block}
+use Rattle.table_trees.proofs.SpaceChainsLemmas.{changes_then}
 use Rattle.mdc_sound.specs.Placing.{IsRowAt, Spot}
-use Rattle.mdc_sound.specs.StandingTable.{BreaksExpected, ChangesTable, IsBlockPageOf, IsReadyTable, IsTableOrMapPage, KeepsBlocksBut, RoomNote, StandsTable, TableForests, TakesRowOut, forests_in_order, pages_of, spots_of}
+use Rattle.mdc_sound.specs.RunningFull.{left_changes, row_listings}
+use Rattle.mdc_sound.specs.StandingTable.{AreRightRooms, BreaksExpected, IsBlockPageOf, IsReadyTable, IsTableOrMapPage, KeepsBlocksBut, RoomNote, StandsTable, TableForests, TakesRowOut, forests_in_order, pages_of, spots_of}
 use Rattle.mdc_sound.specs.TableRows.{PlacedRow}
 use Rattle.mdc_sound.proofs.ChangedRowsLemmas.{rows_after_taking}
 use Rattle.row_entries.specs.ChosenIndexes.{MoveChosen, all_chosen, entry_of}
@@ -35,30 +39,19 @@ use Rattle.mdc_table.specs.AnyPlace.{TakesOutAnywhere}
 use Rattle.mdc_table.proofs.KeptBlocksLemmas.{keeps_in_trees}
 use Rattle.mdc_table.proofs.KeptRoomsLemmas.{rooms_forgotten}
 use Rattle.cell_change.specs.ExpectedTables.{WithSoundIndexes}
-use Rattle.cell_change.specs.RowChanges.{DeletesAnywhere, DeletesRow, rows_now}
+use Rattle.cell_change.specs.RowChanges.{DeletesRow, rows_now}
 use Rattle.cell_change.proofs.KeptOthersLemmas.{block_of_table, keeps_as, keeps_then}
+use Rattle.cell_change.proofs.OneTableLemmas.{expected_there}
 use Rattle.cell_change.proofs.SpotStepsLemmas.{returned_behind, returns_leave, returns_then, rooms_on, row_on, spots_without, takes_before}
 use Rattle.cell_change.proofs.TableStepsLemmas.{changes_table_then}
 
--- ---- a row that is taken out, with right notes and with none
+-- ---- a row that is taken out, with no notes
 
 -- no cell is noted
 abbrev no_notes : Entry → RoomNote
 no_notes key = no_note
 
 module _ {S : Type 0} (g : Ghosts S) (shape : Shape) {before noted : SpaceNotes} (old new : S) (def : TableDef) (owners : List Kind) (forests : TableForests) (row : Row) (rid : Rid) where
-  -- what right notes promise of it, without them
-  abbrev out_anywhere : {room_of : Entry → RoomNote} → TakesRowOut g shape before noted room_of old new def owners forests row rid → TakesOutAnywhere g shape before noted old new def owners forests row rid
-  out_anywhere takes = record {
-    owners_now = takes.owners_now;
-    forests_now = takes.forests_now;
-    changes = takes.changes;
-    records = takes.records;
-    mid = takes.mid;
-    takes = takes.takes;
-    returns = takes.returns;
-  }
-
   -- where no cell is noted, the notes are right
   abbrev noted_nowhere : TakesOutAnywhere g shape before noted old new def owners forests row rid → TakesRowOut g shape before noted no_notes old new def owners forests row rid
   noted_nowhere takes = record {
@@ -125,48 +118,39 @@ module _ {S : Type 0} (g : Ghosts S) (shape : Shape) {before mid : SpaceNotes} (
   pub left_stays : {new : S} {May : ℕ → Type 0} → KeepsBlocksBut g shape middle new def leaves.owners_now May → KeepsBlocksBut g shape old new def owners May
   left_stays stay = keeps_as (keeps_then leaves.table.changes no_block leaves.table.blocks stay) (λ block may. elim may [ inl wrong ↦ absurd wrong | inr is ↦ is ])
 
-  left_changes_on : {noted : SpaceNotes} (new : S) (owners_now : List Kind) (forests_now : TableForests) → ChangesTable g shape mid noted middle new def leaves.owners_now forests_mid owners_now forests_now
-      → length (pages_of g old) ≤ length (pages_of g middle) → length (pages_of g middle) ≤ length (pages_of g new) → ChangesTable g shape before noted old new def owners forests owners_now forests_now
-  left_changes_on new owners_now forests_now changes longer still_longer =
-      changes_table_then g shape old middle def owners forests leaves.owners_now forests_mid leaves.table.changes new owners_now forests_now changes no_block longer still_longer
+  module _ {noted : SpaceNotes} {room_of room_now : Entry → RoomNote} (new : S)
+      (takes : (owners_mid : List Kind) (trees : TableForests) → IsReadyTable g shape mid room_of middle def owners_mid trees → HasThisRow g shape middle def rid row owners_mid trees
+      → TakesRowOut g shape mid noted room_now middle new def owners_mid trees row rid) where
+    -- where the notes of the rooms were right they are, whatever is taken out
+    right_rooms : HasThisRow g shape old def rid row owners forests → (owners_now : List Kind) (forests_now : TableForests) → StandsTable g shape new def owners_now forests_now
+        → IsReadyTable g shape before room_of old def owners forests → AreRightRooms def room_now (spots_of g shape new def owners_now forests_now)
+    right_rooms has owners_now forests_now now ready =
+        let out = takes leaves.owners_now forests_mid (ready_left ready) (this_left has) in
+        expected_there g shape new def out.owners_now owners_now out.forests_now forests_now out.changes.stands now (λ owners forests. AreRightRooms def room_now (spots_of g shape new def owners forests)) out.rooms
 
-  -- whatever the notes say
-  pub deletes_anywhere : {noted : SpaceNotes} (new : S) → TakesOutAnywhere g shape mid noted middle new def leaves.owners_now forests_mid row rid
-      → length (pages_of g old) ≤ length (pages_of g middle) → length (pages_of g middle) ≤ length (pages_of g new) → DeletesAnywhere g shape before noted old new def row rid owners forests
-  deletes_anywhere new takes longer still_longer =
-      let first = takes_before spots_old spots_mid takes.mid rid row leaves.returns takes.takes in
-      let left = spots_without spots_old rid takes.takes.slots in
-      let spots_new = spots_of g shape new def takes.owners_now takes.forests_now in
-      let now = rows_now g shape new def takes.forests_now in
-      record {
-        owners_now = takes.owners_now;
-        forests_now = takes.forests_now;
-        changes = left_changes_on new takes.owners_now takes.forests_now takes.changes longer still_longer;
-        entries = subst (λ (after : List Forest). MoveChosen LosesEntry (entry_of def row rid) (all_chosen def) def.indexes forests.indexes after) (sym takes.records) leaves.lose;
-        mid = left;
-        takes = first;
-        returns = returns_then left takes.mid spots_new (returned_behind spots_old spots_mid takes.mid rid row leaves.returns takes.takes) takes.returns;
-        rows = subst (λ (were : List PlacedRow). IsPermutation (placed_at rid row ∷ now) were) leaves.table.rows
-            (rows_after_taking g shape no_notes middle new def leaves.owners_now forests_mid leaves.table.changes.stands row rid (noted_nowhere g shape middle new def leaves.owners_now forests_mid row rid takes));
-      }
-
-  -- and where they are right
-  pub deletes : {noted : SpaceNotes} {room_of : Entry → RoomNote} (new : S) → TakesRowOut g shape mid noted room_of middle new def leaves.owners_now forests_mid row rid
-      → length (pages_of g old) ≤ length (pages_of g middle) → length (pages_of g middle) ≤ length (pages_of g new) → DeletesRow g shape before noted room_of old new def row rid owners forests
-  unfolding deletes_anywhere
-  deletes new takes longer still_longer =
-      let any = deletes_anywhere new (out_anywhere g shape middle new def leaves.owners_now forests_mid row rid takes) longer still_longer in
-      record {
-        owners_now = any.owners_now;
-        forests_now = any.forests_now;
-        changes = any.changes;
-        entries = any.entries;
-        rooms = takes.rooms;
-        mid = any.mid;
-        takes = any.takes;
-        returns = any.returns;
-        rows = any.rows;
-      }
+    pub deletes : HasThisRow g shape old def rid row owners forests → TakesOutAnywhere g shape mid noted middle new def leaves.owners_now forests_mid row rid
+        → MakesChanges shape (pages_of g old) (removed_entries (row_listings def row rid)) (pages_of g middle)
+        → ((slots : List (Option Row)) → IsRowAt spots_mid rid row slots → MakesChanges shape (pages_of g middle) (left_changes def row rid.block (count_rows slots)) (pages_of g new))
+        → length (pages_of g old) ≤ length (pages_of g middle) → length (pages_of g middle) ≤ length (pages_of g new) → DeletesRow g shape before noted room_of room_now old new def row rid owners forests
+    deletes has out left made longer still_longer =
+        let first = takes_before spots_old spots_mid out.mid rid row leaves.returns out.takes in
+        let without = spots_without spots_old rid out.takes.slots in
+        let spots_new = spots_of g shape new def out.owners_now out.forests_now in
+        let now = rows_now g shape new def out.forests_now in
+        record {
+          owners_now = out.owners_now;
+          forests_now = out.forests_now;
+          changes = changes_table_then g shape old middle def owners forests leaves.owners_now forests_mid leaves.table.changes new out.owners_now out.forests_now out.changes no_block longer still_longer;
+          entries = subst (λ (after : List Forest). MoveChosen LosesEntry (entry_of def row rid) (all_chosen def) def.indexes forests.indexes after) (sym out.records) leaves.lose;
+          rooms = right_rooms has out.owners_now out.forests_now out.changes.stands;
+          mid = without;
+          takes = first;
+          returns = returns_then without out.mid spots_new (returned_behind spots_old spots_mid out.mid rid row leaves.returns out.takes) out.returns;
+          rows = subst (λ (were : List PlacedRow). IsPermutation (placed_at rid row ∷ now) were) leaves.table.rows
+              (rows_after_taking g shape no_notes middle new def leaves.owners_now forests_mid leaves.table.changes.stands row rid (noted_nowhere g shape middle new def leaves.owners_now forests_mid row rid out));
+          makes = λ slots lies.
+              changes_then shape (pages_of g old) (pages_of g middle) (pages_of g new) (removed_entries (row_listings def row rid)) (left_changes def row rid.block (count_rows slots)) left (made slots (row_left slots lies));
+        }
 
 -- ---- where it couldn't leave the record indexes
 

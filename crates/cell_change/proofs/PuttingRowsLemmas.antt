@@ -17,9 +17,9 @@ use Rattle.extent_map.specs.declared.kind.Kind.{Kind}
 use Rattle.extent_map.specs.declared.space_notes.SpaceNotes.{SpaceNotes}
 use Rattle.entry_tree.specs.Forest.{Forest}
 use Rattle.block_index.specs.Listing.{GainsEntry}
-use Rattle.table_trees.specs.SpaceChanges.{MakesChanges, RunsFull, added_entries}
+use Rattle.table_trees.specs.SpaceChanges.{MakesChanges, RunsFull, SpaceChange, added_entries}
 use Rattle.table_trees.specs.TreesBeside.{table_of_block}
-use Rattle.table_trees.proofs.SpaceChainsLemmas.{full_before, full_then}
+use Rattle.table_trees.proofs.SpaceChainsLemmas.{changes_then, full_before, full_then}
 use Rattle.mdc_sound.specs.Placing.{Spot}
 use Rattle.mdc_sound.specs.Placing.Spot.{OtherBlock}
 use Rattle.mdc_sound.specs.RunningFull.{RowRunsFull, block_changes, row_listings}
@@ -45,6 +45,10 @@ module _ {S : Type 0} (g : Ghosts S) (shape : Shape) {before mid : SpaceNotes} {
   abbrev spots_mid : List Spot
   spots_mid = spots_of g shape middle def places.owners_now places.forests_now
 
+  -- what the row asks for where it is placed
+  abbrev placing : List SpaceChange
+  placing = block_changes def row rid.block (slice_index_or spots_old rid.block OtherBlock)
+
   no_block : (e : ℕ) → table_of_block (owner_of places.owners_now e) ≡ None → table_of_block (owner_of owners e) ≡ None
   no_block = puts_no_block g shape old middle def owners forests st places.owners_now places.forests_now places.mid row rid places.puts places.claims
 
@@ -54,8 +58,13 @@ module _ {S : Type 0} (g : Ghosts S) (shape : Shape) {before mid : SpaceNotes} {
   -- ---- both together
 
   module _ {noted : SpaceNotes} (new : S) (enters : EntersRow g shape mid noted middle new def row rid places.owners_now places.forests_now) where
-    pub inserts : length (pages_of g old) ≤ length (pages_of g middle) → length (pages_of g middle) ≤ length (pages_of g new) → InsertsRow g shape before noted room_of old new def row rid owners forests
-    inserts longer still_longer =
+    put_stays : KeepsBlocksBut g shape old middle def owners (λ block. block ≡ rid.block) → KeepsBlocksBut g shape old new def owners (λ block. block ≡ rid.block)
+    put_stays stay = keeps_as (keeps_then places.changes no_block stay enters.table.blocks) (λ block may. elim may [ inl same ↦ same | inr wrong ↦ absurd wrong ])
+
+    pub inserts : length (pages_of g old) ≤ length (pages_of g middle) → length (pages_of g middle) ≤ length (pages_of g new) → MakesChanges shape (pages_of g old) placing (pages_of g middle)
+        → MakesChanges shape (pages_of g middle) (added_entries (row_listings def row rid)) (pages_of g new) → KeepsBlocksBut g shape old middle def owners (λ block. block ≡ rid.block)
+        → InsertsRow g shape before noted room_of old new def row rid owners forests
+    inserts longer still_longer placed entered stay =
         let forests_now = with_indexes places.forests_now enters.indexes_now in
         let spots_new = spots_of g shape new def enters.owners_now forests_now in
         record {
@@ -68,10 +77,9 @@ module _ {S : Type 0} (g : Ghosts S) (shape : Shape) {before mid : SpaceNotes} {
           puts = places.puts;
           claims = claims_then places.mid spots_mid spots_new places.claims enters.claims;
           rows = subst (λ (now : List PlacedRow). IsPermutation (placed_at rid row ∷ rows_now g shape old def forests) now) (sym enters.table.rows) rows_placed;
+          makes = changes_then shape (pages_of g old) (pages_of g middle) (pages_of g new) placing (added_entries (row_listings def row rid)) placed entered;
+          blocks = put_stays stay;
         }
-
-    pub put_stays : KeepsBlocksBut g shape old middle def owners (λ block. block ≡ rid.block) → KeepsBlocksBut g shape old new def owners (λ block. block ≡ rid.block)
-    put_stays stay = keeps_as (keeps_then places.changes no_block stay enters.table.blocks) (λ block may. elim may [ inl same ↦ same | inr wrong ↦ absurd wrong ])
 
 -- ---- it runs full
 

@@ -66,8 +66,9 @@ module _ {S : Type 0} (g : Ghosts S) (shape : Shape) {noted : SpaceNotes} {room_
     turns = ChangesRow.stays over.slots cell over.lay (subst (λ (spots : List Spot). SpotsAfterReturns spots renews.mid) over.spots renews.returns)
 
     pub rewrites : length (pages_of g old) ≤ length (pages_of g middle) → length (pages_of g middle) ≤ length (pages_of g new) → IsSameSpace shape (pages_of g old) (pages_of g middle)
-        → MakesChanges shape (pages_of g middle) asked (pages_of g new) → ChangesOneRow g shape noted now room_of old new def row other rid rid owners forests
-    rewrites longer still_longer same makes =
+        → MakesChanges shape (pages_of g middle) asked (pages_of g new) → KeepsBlocksBut g shape old middle def owners (λ block. block ≡ rid.block)
+        → ChangesOneRow g shape noted now room_of old new def row other rid rid owners forests
+    rewrites longer still_longer same makes stay =
         let rows = rows_after_overwriting g shape room_of old middle def owners forests st row other rid over in
         let forests_now = with_indexes forests renews.indexes_now in
         record {
@@ -87,10 +88,8 @@ module _ {S : Type 0} (g : Ghosts S) (shape : Shape) {noted : SpaceNotes} {room_
             makes = changes_then shape (pages_of g old) (pages_of g middle) (pages_of g new) [] asked (no_changes shape (pages_of g old) (pages_of g middle) same) makes;
             turns = TurnsRowBy.stays cell turns renews.claims;
           };
+          blocks = keeps_as (keeps_then over.changes (λ e none. none) stay renews.table.blocks) (λ block may. elim may [ inl same ↦ inl same | inr wrong ↦ absurd wrong ]);
         }
-
-    pub rewritten_stays : KeepsBlocksBut g shape old middle def owners (λ block. block ≡ rid.block) → KeepsBlocksBut g shape old new def owners (λ block. block ≡ rid.block)
-    rewritten_stays stay = keeps_as (keeps_then over.changes (λ e none. none) stay renews.table.blocks) (λ block may. elim may [ inl same ↦ same | inr wrong ↦ absurd wrong ])
 
   -- ---- they run full
 

@@ -1,43 +1,27 @@
 -- What pages that are sound between two changes of rows say of the table at hand.
 use Rattle.std.proofs.Common.{◌≡◌, List, subst}
 use Rattle.std.specs.List.{AllZip}
-use Rattle.mdc_words.specs.ByteOrder.{Entry}
 use Rattle.mdc_values.specs.declared.rid.Rid.{Rid}
 use Rattle.mdc_ast.specs.declared.definition.TableDef.{TableDef}
 use Rattle.mdc_ast.specs.declared.row.Row.{Row}
 use Rattle.store_api.specs.declared.pages.Pages.{Ghosts}
 use Rattle.store_api.specs.declared.shape.Shape.{Shape}
 use Rattle.extent_map.specs.declared.kind.Kind.{Kind}
-use Rattle.extent_map.specs.declared.space_notes.SpaceNotes.{SpaceNotes}
 use Rattle.entry_tree.specs.Forest.{Forest}
 use Rattle.block_map.specs.MapLines.{pending_blocks}
 use Rattle.mdc_sound.specs.BlockRules.{AreRowNumbersSound, AreSoundIndexes, AreTableIndexesSound, IsSoundIndex}
 use Rattle.mdc_sound.specs.SoundDatabase.{IsSoundBetweenChanges, IsSoundWith, with_table_page}
-use Rattle.mdc_sound.specs.StandingTable.{HasRowAt, RoomNote, StandsTable, TableForests, forests_in_order, pages_of, view_of}
+use Rattle.mdc_sound.specs.StandingTable.{HasRowAt, StandsTable, TableForests, forests_in_order, pages_of, view_of}
 use Rattle.mdc_sound.specs.TableRows.{PlacedRow, rows_in_table}
 use Rattle.mdc_sound.specs.TableViews.{TableView, trees_of_table}
 use Rattle.mdc_sound.proofs.SoundDatabaseLemmas.{rows_with_table_page}
 use Rattle.mdc_sound.proofs.SpaceRulesLemmas.{there_at}
 use Rattle.mdc_sound.proofs.StandingTableLemmas.{forests_of, number_of_place, one_standing, stands_of_sound}
 use Rattle.table_blocks.specs.BlockSteps.{HasThisRow}
-use Rattle.cell_change.specs.RowChanges.{DeletesAnywhere, DeletesRow, rows_now}
+use Rattle.cell_change.specs.RowChanges.{rows_now}
 use Rattle.cell_change.proofs.OneTableLemmas.{expected_there}
 
 module _ {S : Type 0} (g : Ghosts S) where
-  -- what right notes promise of a row less, without them
-  abbrev pub deleted_anywhere : (shape : Shape) {before noted : SpaceNotes} {room_of : Entry → RoomNote} (old new : S) (def : TableDef) (row : Row) (rid : Rid) (owners : List Kind) (forests : TableForests)
-      → DeletesRow g shape before noted room_of old new def row rid owners forests → DeletesAnywhere g shape before noted old new def row rid owners forests
-  deleted_anywhere shape old new def row rid owners forests deletes = record {
-    owners_now = deletes.owners_now;
-    forests_now = deletes.forests_now;
-    changes = deletes.changes;
-    entries = deletes.entries;
-    mid = deletes.mid;
-    takes = deletes.takes;
-    returns = deletes.returns;
-    rows = deletes.rows;
-  }
-
   -- a row that is known lies in a place
   pub has_row : (shape : Shape) (s : S) (def : TableDef) (rid : Rid) (row : Row) (owners : List Kind) (forests : TableForests) → HasThisRow g shape s def rid row owners forests → HasRowAt g shape s def rid owners forests
   has_row shape s def rid row owners forests has = record { row = row; slots = has.slots; lies = has.lies }

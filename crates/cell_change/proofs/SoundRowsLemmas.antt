@@ -28,8 +28,8 @@ use Rattle.row_entries.specs.SoundEntries.{AreIndexesSound, StayPending, StayPen
 use Rattle.row_entries.proofs.PendingSpotsLemmas.{stay_claimed, stay_put, stay_returned, stay_taken}
 use Rattle.row_entries.proofs.SoundEntriesLemmas.{sound_coming, sound_giving_way, sound_going}
 use Rattle.row_entries.proofs.StandingRowsLemmas.{lie_apart, pending_by_spot}
-use Rattle.cell_change.specs.RowChanges.{ChangesOneRow, DeletesAnywhere, DeletesRow, InsertsRow, TurnsEntries, rows_now}
-use Rattle.cell_change.proofs.RowChangesLemmas.{deleted_anywhere, indexes_here, numbers_here}
+use Rattle.cell_change.specs.RowChanges.{ChangesOneRow, DeletesRow, InsertsRow, TurnsEntries, rows_now}
+use Rattle.cell_change.proofs.RowChangesLemmas.{indexes_here, numbers_here}
 use Rattle.cell_change.proofs.SpotStepsLemmas.{pending_turned}
 
 -- ---- a row that became another
@@ -80,7 +80,7 @@ module _ {S : Type 0} (g : Ghosts S) where
 
     -- ---- a row less
 
-    pub indexes_deleted : (row : Row) (rid : Rid) → (deletes : DeletesAnywhere g shape before noted old new def row rid owners forests) → AreTableIndexesSound shape (pages_of g old) (view_of def forests)
+    pub indexes_deleted : {room_of room_now : Entry → RoomNote} (row : Row) (rid : Rid) → (deletes : DeletesRow g shape before noted room_of room_now old new def row rid owners forests) → AreTableIndexesSound shape (pages_of g old) (view_of def forests)
         → AreTableIndexesSound shape (pages_of g new) (view_of def deletes.forests_now)
     indexes_deleted row rid deletes sound =
         let pending = pending_stay shape old new def owners forests st deletes.owners_now deletes.forests_now deletes.changes.stands
@@ -88,7 +88,7 @@ module _ {S : Type 0} (g : Ghosts S) where
         sound_going def row rid (rows_now g shape old def forests) (rows_now g shape new def deletes.forests_now) (pending_blocks forests.map) (pending_blocks deletes.forests_now.map) forests.indexes deletes.forests_now.indexes
         sound (lie_apart g shape old def owners forests st) deletes.entries deletes.rows pending
 
-    pub sound_deleted : {room_of : Entry → RoomNote} (row : Row) (rid : Rid) → DeletesRow g shape before noted room_of old new def row rid owners forests
+    pub sound_deleted : {room_of room_now : Entry → RoomNote} (row : Row) (rid : Rid) → DeletesRow g shape before noted room_of room_now old new def row rid owners forests
         → Touches g (IsTableSpace g shape old def) old new → length (pages_of g old) ≤ length (pages_of g new)
         → IsSoundBetweenChanges shape def (pages_of g old) → IsSoundBetweenChanges shape def (pages_of g new)
     sound_deleted row rid deletes touched longer between =
@@ -97,7 +97,7 @@ module _ {S : Type 0} (g : Ghosts S) where
         let first = placed_at rid row ∷ now in
         let numbers = numbers_in_order def were first (IsPermutation-sym first were deletes.rows) (numbers_here g shape old def owners forests between st) in
         between_with_definition g shape old new def owners deletes.owners_now forests deletes.forests_now between.sound st deletes.changes touched longer between.rule11 between.numbers between.other_keys
-        (indexes_deleted row rid (deleted_anywhere g shape old new def row rid owners forests deletes) (indexes_here g shape old def owners forests between st)) (numbers_without def (placed_at rid row) now numbers)
+        (indexes_deleted row rid deletes (indexes_here g shape old def owners forests between st)) (numbers_without def (placed_at rid row) now numbers)
 
     -- ---- a row that became another
 

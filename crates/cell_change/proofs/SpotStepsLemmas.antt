@@ -100,7 +100,7 @@ pub returns_then : (old mid new : List Spot) → SpotsAfterReturns old mid → S
 returns_then = zip_then AfterReturns returns_change.goes_on
 
 -- the same spot is set in both
-set_both : (After : Spot → Spot → Type 0) (xs ys : List Spot) (i : ℕ) (spot : Spot) → After spot spot → AllZip After xs ys → AllZip After (set xs i spot) (set ys i spot)
+pub set_both : (After : Spot → Spot → Type 0) (xs ys : List Spot) (i : ℕ) (spot : Spot) → After spot spot → AllZip After xs ys → AllZip After (set xs i spot) (set ys i spot)
 set_both After [] [] i spot same all = all
 set_both After [] (y ∷ ys) i spot same all = absurd all
 set_both After (x ∷ xs) [] i spot same all = absurd all

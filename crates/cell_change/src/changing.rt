@@ -1,19 +1,16 @@
 // A row becomes another.
-ghost use Rattle.std.specs.Prelude.{◌≡◌, ◌⊎◌, [], ◌∷◌, List, false, IsTrue, IfErr, IfOk, OnOk};
+ghost use Rattle.std.specs.Prelude.{◌≡◌, [], ◌∷◌, List, false, IsTrue, IfErr, IfOk, OnOk};
 ghost use Rattle.store_api.specs.Causes.{store_fault_in};
 ghost use Rattle.store_api.specs.RunsOverPages.{RunsOverPages};
 ghost use Rattle.extent_map.specs.Damages.{IfFull, store_part_of};
 ghost use Rattle.extent_map.specs.declared.kind.Kind.{Kind};
-ghost use Rattle.mdc_ast.specs.Database.{Database, changed_at};
 ghost use Rattle.mdc_ast.specs.TableLimits.{IsTableDef};
 ghost use Rattle.block_rows.specs.HeldRows.{HasReadValues};
 ghost use Rattle.block_rows.specs.SeenRows.{SeesSlot, SeesSomeRow};
 ghost use Rattle.mdc_ast.specs.FittingRows.{RowFits};
 ghost use Rattle.table_trees.specs.RowCells.{AreOfOneCell};
 ghost use Rattle.mdc_sound.specs.RunningFull.{UpdateRunsFull};
-ghost use Rattle.mdc_sound.specs.SoundDatabase.{IsSoundBetweenChanges, with_table_page};
-ghost use Rattle.mdc_sound.specs.StandingTable.{BreaksExpected, IsReadyTable, KeepsBlocksBut, StandsTable, TableForests, pages_of};
-ghost use Rattle.mdc_sound.specs.StandsForDatabase.{PagesStandFor, with_row};
+ghost use Rattle.mdc_sound.specs.StandingTable.{BreaksExpected, StandsTable, TableForests, pages_of};
 ghost use Rattle.row_entries.specs.SoundEntries.{placed_at};
 ghost use Rattle.free_space.specs.RoomNotes.{room_of};
 ghost use Rattle.mdc_table.specs.KnownBlocks.{IsExpectedSpace};
@@ -21,7 +18,7 @@ ghost use Rattle.table_blocks.specs.BlockSteps.{HasThisRow};
 ghost use Rattle.table_blocks.specs.SeenSlots.{IsMapApart};
 ghost use Rattle.cell_change.specs.ApartIndexes.{AreIndexesApart};
 ghost use Rattle.cell_change.specs.ExpectedTables.{WithSoundIndexes};
-ghost use Rattle.cell_change.specs.RowChanges.{ChangesOneRow};
+ghost use Rattle.cell_change.specs.RowChanges.{ChangesInDatabase, WhereReadyWithRow};
 
 use crate::deleting::delete_row;
 use crate::putting::put_row;
@@ -57,25 +54,15 @@ pub fn change_row<P: Pages>(
     requires fits { RowFits def.now is.now }
     requires number { is.now.number ≡ was.now.number }
     requires going { (P.state pages.old).ended ≡ false }
-    ensures changes { IfOk result (λ to. (owners : List Kind) (forests : TableForests) → IsReadyTable P.Pages shape notes.old (room_of rooms.old) pages.old def.now owners forests
-        → HasThisRow P.Pages shape pages.old def.now rid was.now owners forests
-        → ChangesOneRow P.Pages shape notes.old notes.new (room_of rooms.new) pages.old pages.new def.now was.now is.now rid to owners forests) }
+    ensures changes { IfOk result (λ to. WhereReadyWithRow P.Pages shape notes.old (room_of rooms.old) pages.old def.now rid was.now
+        (ChangesInDatabase P.Pages shape notes.old notes.new (room_of rooms.new) pages.old pages.new def.now was.now is.now rid to)) }
     ensures seen { OnOk result (IsTrue (P.state pages.old).is_told → IsMapApart P.Pages shape pages.old def.now rid.block → AreIndexesApart P.Pages shape pages.old def.now rid.block
         → SeesSomeRow (SeesSlot shape (pages_of P.Pages pages.old) def.now rid)) }
     ensures seen_kept { OnOk result (IsTrue (P.state pages.old).is_told → AreOfOneCell def.now was.now.values is.now.values → SeesSomeRow (SeesSlot shape (pages_of P.Pages pages.old) def.now rid)) }
     ensures seen_standing { OnOk result (IsMapApart P.Pages shape pages.old def.now rid.block → (owners : List Kind) (forests : TableForests) → StandsTable P.Pages shape pages.old def.now owners forests
         → SeesSomeRow (SeesSlot shape (pages_of P.Pages pages.old) def.now rid)) }
-    ensures stay { IfOk result (λ to. (owners : List Kind) (forests : TableForests) → IsReadyTable P.Pages shape notes.old (room_of rooms.old) pages.old def.now owners forests
-        → HasThisRow P.Pages shape pages.old def.now rid was.now owners forests → KeepsBlocksBut P.Pages shape pages.old pages.new def.now owners (λ block. (block ≡ rid.block) ⊎ (block ≡ to.block))) }
-    ensures sound { OnOk result ((owners : List Kind) (forests : TableForests) → IsReadyTable P.Pages shape notes.old (room_of rooms.old) pages.old def.now owners forests
-        → HasThisRow P.Pages shape pages.old def.now rid was.now owners forests
-        → IsSoundBetweenChanges shape def.now (pages_of P.Pages pages.old) → IsSoundBetweenChanges shape def.now (pages_of P.Pages pages.new)) }
-    ensures stands_for { OnOk result ((owners : List Kind) (forests : TableForests) → IsReadyTable P.Pages shape notes.old (room_of rooms.old) pages.old def.now owners forests
-        → HasThisRow P.Pages shape pages.old def.now rid was.now owners forests → IsSoundBetweenChanges shape def.now (pages_of P.Pages pages.old)
-        → (db : Database) → PagesStandFor shape (with_table_page def.now (pages_of P.Pages pages.old)) db
-        → PagesStandFor shape (with_table_page def.now (pages_of P.Pages pages.new)) (changed_at db def.now.number (with_row is.now))) }
-    ensures full { IfErr result (λ fault. IfFull fault (λ cap. (cap ≡ shape.extents) × ((owners : List Kind) (forests : TableForests) → IsReadyTable P.Pages shape notes.old (room_of rooms.old) pages.old def.now owners forests
-        → HasThisRow P.Pages shape pages.old def.now rid was.now owners forests → UpdateRunsFull shape (pages_of P.Pages pages.old) def.now ((placed_at rid was.now, is.now) ∷ [])))) }
+    ensures full { IfErr result (λ fault. IfFull fault (λ cap. (cap ≡ shape.extents) × WhereReadyWithRow P.Pages shape notes.old (room_of rooms.old) pages.old def.now rid was.now
+        (λ owners forests. UpdateRunsFull shape (pages_of P.Pages pages.old) def.now ((placed_at rid was.now, is.now) ∷ [])))) }
     ensures runs { RunsOverPages P.Pages (IsExpectedSpace P.Pages shape pages.old def.now (HasThisRow P.Pages shape pages.old def.now rid was.now)) (IsExpectedSpace P.Pages shape pages.old def.now (HasThisRow P.Pages shape pages.old def.now rid was.now))
         (BreaksExpected P.Pages shape pages.old def.now (WithSoundIndexes P.Pages shape pages.old def.now (HasThisRow P.Pages shape pages.old def.now rid was.now))) pages.old pages.new (store_fault_in store_part_of result) }
 {

@@ -1,21 +1,16 @@
 // A row less.
-ghost use Rattle.std.specs.Prelude.{◌≡◌, [], List, Option, false, length, IsTrue, OnOk};
+ghost use Rattle.std.specs.Prelude.{◌≡◌, [], List, false, length, IsTrue, OnOk};
 ghost use Rattle.store_api.specs.Causes.{fault_of};
 ghost use Rattle.store_api.specs.Frame.{Touches};
 ghost use Rattle.store_api.specs.RunsOverPages.{RunsOverPages};
 ghost use Rattle.extent_map.specs.declared.kind.Kind.{Kind};
 ghost use Rattle.mdc_ast.specs.declared.row.Row.{Row};
-ghost use Rattle.mdc_ast.specs.Database.{Database, changed_at};
-ghost use Rattle.row_page.specs.RowPage.{count_rows};
 ghost use Rattle.mdc_ast.specs.TableLimits.{IsTableDef};
 ghost use Rattle.table_trees.specs.SpaceChanges.{MakesChanges, removed_entries};
 ghost use Rattle.table_trees.specs.TableTrees.{record_places};
 ghost use Rattle.table_trees.specs.TreesBeside.{IsTreesOrMapPage};
-ghost use Rattle.mdc_sound.specs.Placing.{IsRowAt};
-ghost use Rattle.mdc_sound.specs.RunningFull.{row_listings, taking_changes};
-ghost use Rattle.mdc_sound.specs.SoundDatabase.{IsSoundBetweenChanges, with_table_page};
-ghost use Rattle.mdc_sound.specs.StandingTable.{BreaksExpected, IsReadyTable, IsTableOrMapPage, KeepsBlocksBut, StandsTable, TableForests, pages_of, spots_of};
-ghost use Rattle.mdc_sound.specs.StandsForDatabase.{PagesStandFor, without_row};
+ghost use Rattle.mdc_sound.specs.RunningFull.{row_listings};
+ghost use Rattle.mdc_sound.specs.StandingTable.{BreaksExpected, IsTableOrMapPage, KeepsBlocksBut, StandsTable, TableForests, pages_of};
 ghost use Rattle.block_rows.specs.HeldRows.{HasReadValues};
 ghost use Rattle.block_rows.specs.SeenRows.{SeesSomeRow};
 ghost use Rattle.row_entries.specs.RowEntries.{HasRowEntries, IsTreeOrMapPageOfTable, LeavesRow};
@@ -24,7 +19,7 @@ ghost use Rattle.table_blocks.specs.SeenSlots.{IsMapApart, SeesUsedSlot};
 ghost use Rattle.free_space.specs.RoomNotes.{room_of};
 ghost use Rattle.cell_change.specs.ApartIndexes.{AreIndexesApart};
 ghost use Rattle.cell_change.specs.ExpectedTables.{WithSoundIndexes};
-ghost use Rattle.cell_change.specs.RowChanges.{DeletesAnywhere, DeletesRow};
+ghost use Rattle.cell_change.specs.RowChanges.{DeletesFromDatabase, WhereStandsWithRow};
 
 use extent_map::SpaceNotes;
 use mdc_ast::{Row, TableDef};
@@ -50,25 +45,13 @@ pub fn delete_row<P: Pages>(
     requires defined { IsTableDef def.now.number def.now }
     requires row { HasReadValues def.now.columns row.now }
     requires going { (P.state pages.old).ended ≡ false }
-    ensures deletes { OnOk result ((owners : List Kind) (forests : TableForests) → IsReadyTable P.Pages shape notes.old (room_of rooms.old) pages.old def.now owners forests
-        → HasThisRow P.Pages shape pages.old def.now rid row.now owners forests → DeletesRow P.Pages shape notes.old notes.new (room_of rooms.new) pages.old pages.new def.now row.now rid owners forests) }
-    ensures makes { OnOk result ((owners : List Kind) (forests : TableForests) → IsReadyTable P.Pages shape notes.old (room_of rooms.old) pages.old def.now owners forests
-        → (slots : List (Option Row)) → IsRowAt (spots_of P.Pages shape pages.old def.now owners forests) rid row.now slots
-        → MakesChanges shape (pages_of P.Pages pages.old) (taking_changes def.now row.now rid (count_rows slots)) (pages_of P.Pages pages.new)) }
+    ensures deletes { OnOk result (WhereStandsWithRow P.Pages shape pages.old def.now rid row.now
+        (DeletesFromDatabase P.Pages shape notes.old notes.new (room_of rooms.old) (room_of rooms.new) pages.old pages.new def.now row.now rid)) }
     ensures seen { OnOk result (IsTrue (P.state pages.old).is_told → IsMapApart P.Pages shape pages.old def.now rid.block → AreIndexesApart P.Pages shape pages.old def.now rid.block
         → SeesSomeRow (SeesUsedSlot P.Pages shape pages.old def.now rid)) }
     ensures seen_standing { OnOk result (IsMapApart P.Pages shape pages.old def.now rid.block → (owners : List Kind) (forests : TableForests) → StandsTable P.Pages shape pages.old def.now owners forests
         → SeesSomeRow (SeesUsedSlot P.Pages shape pages.old def.now rid)) }
-    ensures leaves { OnOk result ((owners : List Kind) (forests : TableForests) → StandsTable P.Pages shape pages.old def.now owners forests
-        → HasThisRow P.Pages shape pages.old def.now rid row.now owners forests → DeletesAnywhere P.Pages shape notes.old notes.new pages.old pages.new def.now row.now rid owners forests) }
     ensures stay { (owners : List Kind) (forests : TableForests) → StandsTable P.Pages shape pages.old def.now owners forests → KeepsBlocksBut P.Pages shape pages.old pages.new def.now owners (λ block. block ≡ rid.block) }
-    ensures sound { OnOk result ((owners : List Kind) (forests : TableForests) → IsReadyTable P.Pages shape notes.old (room_of rooms.old) pages.old def.now owners forests
-        → HasThisRow P.Pages shape pages.old def.now rid row.now owners forests
-        → IsSoundBetweenChanges shape def.now (pages_of P.Pages pages.old) → IsSoundBetweenChanges shape def.now (pages_of P.Pages pages.new)) }
-    ensures stands_for { OnOk result ((owners : List Kind) (forests : TableForests) → IsReadyTable P.Pages shape notes.old (room_of rooms.old) pages.old def.now owners forests
-        → HasThisRow P.Pages shape pages.old def.now rid row.now owners forests → IsSoundBetweenChanges shape def.now (pages_of P.Pages pages.old)
-        → (db : Database) → PagesStandFor shape (with_table_page def.now (pages_of P.Pages pages.old)) db
-        → PagesStandFor shape (with_table_page def.now (pages_of P.Pages pages.new)) (changed_at db def.now.number (without_row row.now.number))) }
     ensures count { length (P.state pages.new).work ≡ length (P.state pages.old).work }
     ensures runs { RunsOverPages P.Pages (IsTableOrMapPage P.Pages shape pages.old def.now) (IsTableOrMapPage P.Pages shape pages.old def.now)
         (BreaksExpected P.Pages shape pages.old def.now (WithSoundIndexes P.Pages shape pages.old def.now (HasThisRow P.Pages shape pages.old def.now rid row.now))) pages.old pages.new (fault_of result) }

@@ -1,18 +1,14 @@
 // A row comes into a table.
-ghost use Rattle.std.specs.Prelude.{◌≡◌, List, false, slice_index_or, IfErr, IfOk};
+ghost use Rattle.std.specs.Prelude.{◌≡◌, false, IfErr, IfOk};
 ghost use Rattle.store_api.specs.Causes.{store_fault_in};
 ghost use Rattle.store_api.specs.RunsOverPages.{RunsOverPages};
 ghost use Rattle.extent_map.specs.Damages.{IfFull, store_part_of};
-ghost use Rattle.extent_map.specs.declared.kind.Kind.{Kind};
 ghost use Rattle.mdc_ast.specs.TableLimits.{IsTableDef};
-ghost use Rattle.table_trees.specs.SpaceChanges.{MakesChanges};
 ghost use Rattle.mdc_ast.specs.FittingRows.{RowFits};
-ghost use Rattle.mdc_sound.specs.Placing.Spot.{OtherBlock};
-ghost use Rattle.mdc_sound.specs.RunningFull.{putting_changes};
-ghost use Rattle.mdc_sound.specs.StandingTable.{BreaksExpected, IsReadyTable, IsTableSpace, KeepsBlocksBut, TableForests, pages_of, spots_of};
+ghost use Rattle.mdc_sound.specs.StandingTable.{BreaksExpected, IsTableSpace, pages_of, spots_of};
 ghost use Rattle.free_space.specs.RoomNotes.{room_of};
 ghost use Rattle.cell_change.specs.ExpectedTables.{HasSoundIndexes, PutRunsFull};
-ghost use Rattle.cell_change.specs.RowChanges.{InsertsRow};
+ghost use Rattle.cell_change.specs.RowChanges.{InsertsRow, WhereReady};
 
 use extent_map::{SpaceFault, SpaceNotes};
 use mdc_ast::{Row, TableDef};
@@ -37,14 +33,9 @@ pub(crate) fn put_row<P: Pages>(
     requires defined { IsTableDef def.now.number def.now }
     requires fits { RowFits def.now row.now }
     requires going { (P.state pages.old).ended ≡ false }
-    ensures inserts { IfOk result (λ rid. (owners : List Kind) (forests : TableForests) → IsReadyTable P.Pages shape notes.old (room_of rooms.old) pages.old def.now owners forests
-        → InsertsRow P.Pages shape notes.old notes.new (room_of rooms.new) pages.old pages.new def.now row.now rid owners forests) }
-    ensures makes { IfOk result (λ rid. (owners : List Kind) (forests : TableForests) → IsReadyTable P.Pages shape notes.old (room_of rooms.old) pages.old def.now owners forests
-        → MakesChanges shape (pages_of P.Pages pages.old) (putting_changes def.now row.now rid (slice_index_or (spots_of P.Pages shape pages.old def.now owners forests) rid.block OtherBlock)) (pages_of P.Pages pages.new)) }
-    ensures stay { IfOk result (λ rid. (owners : List Kind) (forests : TableForests) → IsReadyTable P.Pages shape notes.old (room_of rooms.old) pages.old def.now owners forests
-        → KeepsBlocksBut P.Pages shape pages.old pages.new def.now owners (λ block. block ≡ rid.block)) }
-    ensures full { IfErr result (λ fault. IfFull fault (λ cap. (cap ≡ shape.extents) × ((owners : List Kind) (forests : TableForests) → IsReadyTable P.Pages shape notes.old (room_of rooms.old) pages.old def.now owners forests
-        → PutRunsFull shape (pages_of P.Pages pages.old) def.now (spots_of P.Pages shape pages.old def.now owners forests) row.now))) }
+    ensures inserts { IfOk result (λ rid. WhereReady P.Pages shape notes.old (room_of rooms.old) pages.old def.now (InsertsRow P.Pages shape notes.old notes.new (room_of rooms.new) pages.old pages.new def.now row.now rid)) }
+    ensures full { IfErr result (λ fault. IfFull fault (λ cap. (cap ≡ shape.extents) × WhereReady P.Pages shape notes.old (room_of rooms.old) pages.old def.now
+        (λ owners forests. PutRunsFull shape (pages_of P.Pages pages.old) def.now (spots_of P.Pages shape pages.old def.now owners forests) row.now))) }
     ensures runs { RunsOverPages P.Pages (IsTableSpace P.Pages shape pages.old def.now) (IsTableSpace P.Pages shape pages.old def.now)
         (BreaksExpected P.Pages shape pages.old def.now (HasSoundIndexes P.Pages shape pages.old def.now)) pages.old pages.new (store_fault_in store_part_of result) }
 {

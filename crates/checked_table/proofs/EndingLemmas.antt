@@ -32,24 +32,21 @@ use Rattle.free_space.specs.declared.rooms.Rooms.{Rooms}
 use Rattle.mdc_table.specs.TableReading.{HasUsedBlock}
 use Rattle.cell_change.specs.ExpectedTables.{HasSoundIndexes, WithSoundIndexes}
 use Rattle.checked_table.specs.ExactDamage.{AnswersExactly, CountsAnswer, HasRowIfStanding, HasUsedIfStanding, IfStanding, JudgesFault}
+use Rattle.checked_table.specs.LeftPages.{LeavesPages, ReadsExactly}
 use Rattle.checked_table.specs.WholeChanges.{BeginsChange, ForgetsNotes, HasSamePages, IsWholeChange, UndoesChange}
 use Rattle.checked_table.proofs.ExactDamageLemmas.{answers_exactly, answers_none, full_handed_on}
 use Rattle.checked_table.proofs.SamePagesLemmas.{if_stood, ready_there, row_there, stands_there}
 
--- the pages are those that there were, no mark is open, and this is said of the damage that is answered
-pub record LeavesPages {S : Type 0} (g : Ghosts S) (Exact : Type 0) (old new : S) (answered : Option StoreFault) : Type 0 where
-  pub pages : HasSamePages g old new
-  pub unmarked : (g.state new).marked ≡ None
-  pub steady : Steady g old new
-  pub device : CountsFault (answered ≡ Some Device) (g.disk_faults old) (g.disk_faults new)
-  pub exact : Exact
-
 -- ---- a call that reads
+
+-- what is said of the damage, said only where more is so
+pub exact_where : {S Where Exact : Type 0} {g : Ghosts S} {old new : S} {answered : Option StoreFault} → LeavesPages g Exact old new answered → LeavesPages g (Where → Exact) old new answered
+exact_where left = record { pages = left.pages; unmarked = left.unmarked; steady = left.steady; device = left.device; exact = λ is. left.exact }
 
 module _ {S : Type 0} {g : Ghosts S} {Mine Kind : ℕ → Type 0} {old mid : S} where
   -- it met no fault
   pub read_well : {Breaks : Damage → Type 0} (shape : Shape) (def : TableDef) → RunsOverPages g Mine Kind Breaks old mid None → (g.state mid).work ≡ (g.state old).work → (g.state old).marked ≡ None
-      → LeavesPages g (AnswersExactly g shape def old None) old mid None
+      → ReadsExactly g shape def old mid None
   read_well shape def runs same unmarked = record {
     pages = record { told = runs.works.steady.is_told; same = same };
     unmarked = runs.works.marked ∙ unmarked;
@@ -69,7 +66,7 @@ module _ {S : Type 0} {g : Ghosts S} {Mine Kind : ℕ → Type 0} {old mid : S} 
     -- it met a fault, which was judged
     pub end_read : {shape : Shape} {def : TableDef} → RunsOverPages g Mine Kind (BreaksTable g shape old def) old mid met → (g.state mid).work ≡ (g.state old).work → (g.state new).work ≡ (g.state mid).work
         → (g.state new).marked ≡ None → Steady g mid new → CountsAnswer g mid new met answered → JudgesFault g shape def new met answered → IsTableDef def.number def → def.number < 16
-        → LeavesPages g (AnswersExactly g shape def old answered) old new answered
+        → ReadsExactly g shape def old new answered
     end_read {shape} {def} runs same work unmarked end counts judges defined low = read_back runs same work unmarked end counts
         (λ pages. answers_exactly g shape old new def met answered defined low pages (λ damage is owners forests st sound. (runs.cause.damaged damage is).broken owners forests st) judges)
 

@@ -1,11 +1,11 @@
 -- What calls made of a table, by states of a store whose pages are the same: the one that was marked, and the one that was kept.
-use Rattle.std.proofs.Common.{◌≡◌, ◌<◌, ◌∙◌, ℕ, List, ◌∷◌, Option, ap, length, subst, sym}
+use Rattle.std.proofs.Common.{◌≡◌, ◌<◌, ◌∙◌, ℕ, List, ◌∷◌, Option, ap, length, slice_index_or, subst, sym}
 use Rattle.std.specs.Prelude.{IsPermutation}
 use Rattle.mdc_words.specs.ByteOrder.{Entry}
 use Rattle.mdc_values.specs.declared.rid.Rid.{Rid}
 use Rattle.mdc_ast.specs.declared.definition.TableDef.{TableDef}
 use Rattle.mdc_ast.specs.declared.row.Row.{Row}
-use Rattle.mdc_ast.specs.Database.{Database}
+use Rattle.mdc_ast.specs.Database.{PlainTable}
 use Rattle.store_api.specs.StoreState.{page_at}
 use Rattle.store_api.specs.Frame.{HoldsPage}
 use Rattle.store_api.specs.declared.pages.Pages.{Ghosts}
@@ -15,18 +15,19 @@ use Rattle.extent_map.specs.Map.{root_stating}
 use Rattle.extent_map.specs.declared.kind.Kind.{Kind}
 use Rattle.extent_map.specs.declared.space_notes.SpaceNotes.{SpaceNotes}
 use Rattle.table_blocks.specs.BlockSteps.{HasThisRow}
+use Rattle.row_page.specs.RowPage.{count_rows}
 use Rattle.table_trees.specs.SpaceChanges.{MakesChanges}
 use Rattle.table_trees.specs.ToldPages.{PageList}
 use Rattle.table_trees.specs.TreesBeside.{GrowsPages}
 use Rattle.mdc_sound.specs.Placing.{ChangesRow, IsRowAt, PutsRow, SpotsAfterClaims, SpotsAfterReturns, TakesRow, block_slot_count, table_spots}
-use Rattle.mdc_sound.specs.SoundDatabase.{IsSoundBetweenChanges, with_table_page}
-use Rattle.mdc_sound.specs.StandingTable.{AreRightRooms, ChangesTable, IsReadyTable, KeepsBlocksBut, PlacesRow, RoomNote, StandsTable, TableForests, TakesRowOut, pages_of}
-use Rattle.mdc_sound.specs.StandsForDatabase.{PagesStandFor}
+use Rattle.mdc_sound.specs.Placing.Spot.{OtherBlock}
+use Rattle.mdc_sound.specs.RunningFull.{putting_changes, taking_changes}
+use Rattle.mdc_sound.specs.StandingTable.{AreRightRooms, ChangesTable, IsReadyTable, KeepsBlocksBut, PlacesRow, RoomNote, StandsTable, TableForests, TakesRowOut}
 use Rattle.mdc_sound.specs.TableRows.{rows_in_table}
 use Rattle.mdc_sound.proofs.StandingTableLemmas.{stands_same}
 use Rattle.mdc_table.specs.AnyPlace.{TakesOutAnywhere}
 use Rattle.mdc_table.proofs.PlacingRowsLemmas.{changes_along}
-use Rattle.cell_change.specs.RowChanges.{ChangesOneRow, DeletesRow, InsertsRow, TurnsRowBy, placed_at}
+use Rattle.cell_change.specs.RowChanges.{ChangesDatabase, ChangesInDatabase, ChangesOneRow, DeletesFromDatabase, DeletesRow, InsertsIntoDatabase, InsertsRow, TurnsRowBy, placed_at}
 use Rattle.checked_table.specs.WholeChanges.{HasSamePages}
 
 module _ {S : Type 0} {g : Ghosts S} {old new : S} where
@@ -60,15 +61,9 @@ module _ {S : Type 0} {g : Ghosts S} {old new : S} where
         → (owners : List Kind) (forests : TableForests) → StandsTable g shape old def owners forests → Is owners forests
     if_stood pages is owners forests st = is owners forests (stands_there pages st)
 
-    pub sound_there : HasSamePages g old new → IsSoundBetweenChanges shape def (pages_of g old) → IsSoundBetweenChanges shape def (pages_of g new)
-    sound_there pages sound = subst (λ (work : PageList). IsSoundBetweenChanges shape def work) (sym pages.same) sound
-
     -- where all went back, the blocks of the table are as they were
     pub stays_back : {owners : List Kind} {May : ℕ → Type 0} → (g.state new).work ≡ (g.state old).work → KeepsBlocksBut g shape old new def owners May
     stays_back same = record { stay = λ p of not. ap (λ (work : PageList). page_at work p) same }
-
-  pub stands_for_there : (shape : Shape) (def : TableDef) (db : Database) → HasSamePages g old new → PagesStandFor shape (with_table_page def (pages_of g old)) db → PagesStandFor shape (with_table_page def (pages_of g new)) db
-  stands_for_there shape def db pages is = subst (λ (work : PageList). PagesStandFor shape (with_table_page def work) db) (sym pages.same) is
 
 -- ---- what was made between a mark and its end
 
@@ -109,6 +104,9 @@ module _ {S : Type 0} {g : Ghosts S} {old marked mid new : S} (first : HasSamePa
 
   pub stays_between : {shape : Shape} {def : TableDef} {owners : List Kind} {May : ℕ → Type 0} → KeepsBlocksBut g shape marked mid def owners May → KeepsBlocksBut g shape old new def owners May
   stays_between keeps = record { stay = λ p of not. said_between (λ was is. page_at is p ≡ page_at was p) (keeps.stay p of not) }
+
+  database_between : {shape : Shape} {def now : TableDef} {changed : PlainTable → PlainTable} → ChangesDatabase shape (g.state marked).work (g.state mid).work def now changed → ChangesDatabase shape (g.state old).work (g.state new).work def now changed
+  database_between {shape} {def} {now} {changed} made = said_between (λ was is. ChangesDatabase shape was is def now changed) made
 
   rooms_kept : (shape : Shape) (def : TableDef) (rooms : Entry → RoomNote) (owners : List Kind) (forests : TableForests) → AreRightRooms def rooms (table_spots shape (g.state mid).work def owners forests.map)
       → AreRightRooms def rooms (table_spots shape (g.state new).work def owners forests.map)
@@ -153,7 +151,7 @@ module _ {S : Type 0} {g : Ghosts S} {old marked mid new : S} (first : HasSamePa
     }
 
     -- a row more, a row less, and one that became another
-    pub inserts_between : InsertsRow g shape before noted rooms marked mid def row rid owners forests → InsertsRow g shape before noted rooms old new def row rid owners forests
+    inserts_between : InsertsRow g shape before noted rooms marked mid def row rid owners forests → InsertsRow g shape before noted rooms old new def row rid owners forests
     inserts_between made = record {
       owners_now = made.owners_now;
       forests_now = made.forests_now;
@@ -164,22 +162,31 @@ module _ {S : Type 0} {g : Ghosts S} {old marked mid new : S} (first : HasSamePa
       puts = said_between (λ was is. PutsRow def (block_slot_count shape def) (table_spots shape was def owners forests.map) row made.mid rid) made.puts;
       claims = said_between (λ was is. SpotsAfterClaims made.mid (table_spots shape is def made.owners_now made.forests_now.map)) made.claims;
       rows = said_between (λ was is. IsPermutation (placed_at rid row ∷ rows_in_table shape was def forests.map) (rows_in_table shape is def made.forests_now.map)) made.rows;
+      makes = said_between (λ was is. MakesChanges shape was (putting_changes def row rid (slice_index_or (table_spots shape was def owners forests.map) rid.block OtherBlock)) is) made.makes;
+      blocks = stays_between made.blocks;
     }
 
-    pub deletes_between : DeletesRow g shape before noted rooms marked mid def row rid owners forests → DeletesRow g shape before noted rooms old new def row rid owners forests
-    deletes_between made = record {
+    pub inserted_between : InsertsIntoDatabase g shape before noted rooms marked mid def row rid owners forests → InsertsIntoDatabase g shape before noted rooms old new def row rid owners forests
+    inserted_between made = record { table = inserts_between made.table; database = database_between made.database }
+
+    deletes_between : {now : Entry → RoomNote} → DeletesRow g shape before noted rooms now marked mid def row rid owners forests → DeletesRow g shape before noted rooms now old new def row rid owners forests
+    deletes_between {now} made = record {
       owners_now = made.owners_now;
       forests_now = made.forests_now;
       changes = changes_between made.changes;
       entries = made.entries;
-      rooms = rooms_kept shape def rooms made.owners_now made.forests_now made.rooms;
+      rooms = λ ready. rooms_kept shape def now made.owners_now made.forests_now (made.rooms (ready_there first ready));
       mid = made.mid;
       takes = said_between (λ was is. TakesRow (table_spots shape was def owners forests.map) rid row made.mid) made.takes;
       returns = said_between (λ was is. SpotsAfterReturns made.mid (table_spots shape is def made.owners_now made.forests_now.map)) made.returns;
       rows = said_between (λ was is. IsPermutation (placed_at rid row ∷ rows_in_table shape is def made.forests_now.map) (rows_in_table shape was def forests.map)) made.rows;
+      makes = λ slots lies. said_between (λ was is. MakesChanges shape was (taking_changes def row rid (count_rows slots)) is) (made.makes slots (lies_there shape def owners forests first lies));
     }
 
-    pub turns_between : {other : Row} {to : Rid} → ChangesOneRow g shape before noted rooms marked mid def row other rid to owners forests → ChangesOneRow g shape before noted rooms old new def row other rid to owners forests
+    pub deleted_between : {now : Entry → RoomNote} → DeletesFromDatabase g shape before noted rooms now marked mid def row rid owners forests → DeletesFromDatabase g shape before noted rooms now old new def row rid owners forests
+    deleted_between made = record { table = deletes_between made.table; database = database_between made.database }
+
+    turns_between : {other : Row} {to : Rid} → ChangesOneRow g shape before noted rooms marked mid def row other rid to owners forests → ChangesOneRow g shape before noted rooms old new def row other rid to owners forests
     turns_between {other} {to} made = record {
       owners_now = made.owners_now;
       forests_now = made.forests_now;
@@ -197,4 +204,8 @@ module _ {S : Type 0} {g : Ghosts S} {old marked mid new : S} (first : HasSamePa
         makes = said_between (λ was is. MakesChanges shape was made.space.changes is) made.space.makes;
         turns = said_between (λ was is. TurnsRowBy def (block_slot_count shape def) (table_spots shape was def owners forests.map) rid row other (table_spots shape is def made.owners_now made.forests_now.map) made.space.changes) made.space.turns;
       };
+      blocks = stays_between made.blocks;
     }
+
+    pub changed_between : {other : Row} {to : Rid} → ChangesInDatabase g shape before noted rooms marked mid def row other rid to owners forests → ChangesInDatabase g shape before noted rooms old new def row other rid to owners forests
+    changed_between made = record { table = turns_between made.table; database = database_between made.database }

@@ -1,3 +1,4 @@
 pub mod ExactDamage
+pub mod LeftPages
 pub mod MissingPlaces
 pub mod WholeChanges

@@ -1,20 +1,16 @@
 // A row becomes another.
-ghost use Rattle.std.specs.Prelude.{◌≡◌, ◌<◌, ◌⊎◌, [], ◌∷◌, List, None, false, IfErr, IfOk, OnOk};
+ghost use Rattle.std.specs.Prelude.{◌≡◌, ◌<◌, [], ◌∷◌, None, false, IfErr, IfOk};
 ghost use Rattle.store_api.specs.Causes.{store_fault_in};
 ghost use Rattle.extent_map.specs.Damages.{IfFull, store_part_of};
-ghost use Rattle.extent_map.specs.declared.kind.Kind.{Kind};
-ghost use Rattle.mdc_ast.specs.Database.{Database, changed_at};
 ghost use Rattle.mdc_ast.specs.TableLimits.{IsTableDef};
 ghost use Rattle.block_rows.specs.HeldRows.{HasReadValues};
 ghost use Rattle.mdc_ast.specs.FittingRows.{RowFits};
 ghost use Rattle.mdc_sound.specs.RunningFull.{UpdateRunsFull};
-ghost use Rattle.mdc_sound.specs.SoundDatabase.{IsSoundBetweenChanges, with_table_page};
-ghost use Rattle.mdc_sound.specs.StandingTable.{IsReadyTable, KeepsBlocksBut, TableForests, pages_of};
-ghost use Rattle.mdc_sound.specs.StandsForDatabase.{PagesStandFor, with_row};
+ghost use Rattle.mdc_sound.specs.StandingTable.{pages_of};
 ghost use Rattle.free_space.specs.RoomNotes.{room_of};
 ghost use Rattle.mdc_table.specs.KnownBlocks.{IsExpectedSpace};
 ghost use Rattle.table_blocks.specs.BlockSteps.{HasThisRow};
-ghost use Rattle.cell_change.specs.RowChanges.{ChangesOneRow, placed_at};
+ghost use Rattle.cell_change.specs.RowChanges.{ChangesInDatabase, WhereReadyWithRow, placed_at};
 ghost use Rattle.checked_table.specs.ExactDamage.{AnswersExactly, HasRowIfStanding};
 ghost use Rattle.checked_table.specs.WholeChanges.{IsWholeChange};
 
@@ -49,20 +45,10 @@ pub fn change_row<P: Pages>(
     requires number { is.now.number ≡ was.now.number }
     requires going { (P.state pages.old).ended ≡ false }
     requires unmarked { (P.state pages.old).marked ≡ None }
-    ensures changes { IfOk result (λ to. (owners : List Kind) (forests : TableForests) → IsReadyTable P.Pages shape notes.old (room_of rooms.old) pages.old def.now owners forests
-        → HasThisRow P.Pages shape pages.old def.now rid was.now owners forests
-        → ChangesOneRow P.Pages shape notes.old notes.new (room_of rooms.new) pages.old pages.new def.now was.now is.now rid to owners forests) }
-    ensures stay { IfOk result (λ to. (owners : List Kind) (forests : TableForests) → IsReadyTable P.Pages shape notes.old (room_of rooms.old) pages.old def.now owners forests
-        → HasThisRow P.Pages shape pages.old def.now rid was.now owners forests → KeepsBlocksBut P.Pages shape pages.old pages.new def.now owners (λ block. (block ≡ rid.block) ⊎ (block ≡ to.block))) }
-    ensures sound { OnOk result ((owners : List Kind) (forests : TableForests) → IsReadyTable P.Pages shape notes.old (room_of rooms.old) pages.old def.now owners forests
-        → HasThisRow P.Pages shape pages.old def.now rid was.now owners forests
-        → IsSoundBetweenChanges shape def.now (pages_of P.Pages pages.old) → IsSoundBetweenChanges shape def.now (pages_of P.Pages pages.new)) }
-    ensures stands_for { OnOk result ((owners : List Kind) (forests : TableForests) → IsReadyTable P.Pages shape notes.old (room_of rooms.old) pages.old def.now owners forests
-        → HasThisRow P.Pages shape pages.old def.now rid was.now owners forests → IsSoundBetweenChanges shape def.now (pages_of P.Pages pages.old)
-        → (db : Database) → PagesStandFor shape (with_table_page def.now (pages_of P.Pages pages.old)) db
-        → PagesStandFor shape (with_table_page def.now (pages_of P.Pages pages.new)) (changed_at db def.now.number (with_row is.now))) }
-    ensures full { IfErr result (λ fault. IfFull fault (λ cap. (cap ≡ shape.extents) × ((owners : List Kind) (forests : TableForests) → IsReadyTable P.Pages shape notes.old (room_of rooms.old) pages.old def.now owners forests
-        → HasThisRow P.Pages shape pages.old def.now rid was.now owners forests → UpdateRunsFull shape (pages_of P.Pages pages.old) def.now ((placed_at rid was.now, is.now) ∷ [])))) }
+    ensures changes { IfOk result (λ to. WhereReadyWithRow P.Pages shape notes.old (room_of rooms.old) pages.old def.now rid was.now
+        (ChangesInDatabase P.Pages shape notes.old notes.new (room_of rooms.new) pages.old pages.new def.now was.now is.now rid to)) }
+    ensures full { IfErr result (λ fault. IfFull fault (λ cap. (cap ≡ shape.extents) × WhereReadyWithRow P.Pages shape notes.old (room_of rooms.old) pages.old def.now rid was.now
+        (λ owners forests. UpdateRunsFull shape (pages_of P.Pages pages.old) def.now ((placed_at rid was.now, is.now) ∷ [])))) }
     ensures exact { HasRowIfStanding P.Pages shape pages.old def.now rid was.now → AnswersExactly P.Pages shape def.now pages.old (store_fault_in store_part_of result) }
     ensures whole { IsWholeChange P.Pages (IsExpectedSpace P.Pages shape pages.old def.now (HasThisRow P.Pages shape pages.old def.now rid was.now)) notes.new rooms.new pages.old pages.new result (store_fault_in store_part_of result) }
 {

@@ -1,21 +1,13 @@
 // A row less.
-ghost use Rattle.std.specs.Prelude.{◌≡◌, ◌<◌, List, Option, None, false, length, OnOk};
+ghost use Rattle.std.specs.Prelude.{◌≡◌, ◌<◌, List, None, false, length, OnOk};
 ghost use Rattle.store_api.specs.Causes.{fault_of};
 ghost use Rattle.extent_map.specs.declared.kind.Kind.{Kind};
 ghost use Rattle.mdc_ast.specs.declared.row.Row.{Row};
-ghost use Rattle.mdc_ast.specs.Database.{Database, changed_at};
-ghost use Rattle.row_page.specs.RowPage.{count_rows};
 ghost use Rattle.mdc_ast.specs.TableLimits.{IsTableDef};
-ghost use Rattle.table_trees.specs.SpaceChanges.{MakesChanges};
-ghost use Rattle.mdc_sound.specs.Placing.{IsRowAt};
-ghost use Rattle.mdc_sound.specs.RunningFull.{taking_changes};
-ghost use Rattle.mdc_sound.specs.SoundDatabase.{IsSoundBetweenChanges, with_table_page};
-ghost use Rattle.mdc_sound.specs.StandingTable.{IsReadyTable, IsTableOrMapPage, KeepsBlocksBut, StandsTable, TableForests, pages_of, spots_of};
-ghost use Rattle.mdc_sound.specs.StandsForDatabase.{PagesStandFor, without_row};
+ghost use Rattle.mdc_sound.specs.StandingTable.{IsTableOrMapPage, KeepsBlocksBut, StandsTable, TableForests};
 ghost use Rattle.block_rows.specs.HeldRows.{HasReadValues};
-ghost use Rattle.table_blocks.specs.BlockSteps.{HasThisRow};
 ghost use Rattle.free_space.specs.RoomNotes.{room_of};
-ghost use Rattle.cell_change.specs.RowChanges.{DeletesRow};
+ghost use Rattle.cell_change.specs.RowChanges.{DeletesFromDatabase, WhereStandsWithRow};
 ghost use Rattle.checked_table.specs.ExactDamage.{AnswersExactly, HasRowIfStanding};
 ghost use Rattle.checked_table.specs.WholeChanges.{IsWholeChange};
 
@@ -44,19 +36,9 @@ pub fn delete_row<P: Pages>(
     requires row { HasReadValues def.now.columns row.now }
     requires going { (P.state pages.old).ended ≡ false }
     requires unmarked { (P.state pages.old).marked ≡ None }
-    ensures deletes { OnOk result ((owners : List Kind) (forests : TableForests) → IsReadyTable P.Pages shape notes.old (room_of rooms.old) pages.old def.now owners forests
-        → HasThisRow P.Pages shape pages.old def.now rid row.now owners forests → DeletesRow P.Pages shape notes.old notes.new (room_of rooms.new) pages.old pages.new def.now row.now rid owners forests) }
-    ensures makes { OnOk result ((owners : List Kind) (forests : TableForests) → IsReadyTable P.Pages shape notes.old (room_of rooms.old) pages.old def.now owners forests
-        → (slots : List (Option Row)) → IsRowAt (spots_of P.Pages shape pages.old def.now owners forests) rid row.now slots
-        → MakesChanges shape (pages_of P.Pages pages.old) (taking_changes def.now row.now rid (count_rows slots)) (pages_of P.Pages pages.new)) }
+    ensures deletes { OnOk result (WhereStandsWithRow P.Pages shape pages.old def.now rid row.now
+        (DeletesFromDatabase P.Pages shape notes.old notes.new (room_of rooms.old) (room_of rooms.new) pages.old pages.new def.now row.now rid)) }
     ensures stay { (owners : List Kind) (forests : TableForests) → StandsTable P.Pages shape pages.old def.now owners forests → KeepsBlocksBut P.Pages shape pages.old pages.new def.now owners (λ block. block ≡ rid.block) }
-    ensures sound { OnOk result ((owners : List Kind) (forests : TableForests) → IsReadyTable P.Pages shape notes.old (room_of rooms.old) pages.old def.now owners forests
-        → HasThisRow P.Pages shape pages.old def.now rid row.now owners forests
-        → IsSoundBetweenChanges shape def.now (pages_of P.Pages pages.old) → IsSoundBetweenChanges shape def.now (pages_of P.Pages pages.new)) }
-    ensures stands_for { OnOk result ((owners : List Kind) (forests : TableForests) → IsReadyTable P.Pages shape notes.old (room_of rooms.old) pages.old def.now owners forests
-        → HasThisRow P.Pages shape pages.old def.now rid row.now owners forests → IsSoundBetweenChanges shape def.now (pages_of P.Pages pages.old)
-        → (db : Database) → PagesStandFor shape (with_table_page def.now (pages_of P.Pages pages.old)) db
-        → PagesStandFor shape (with_table_page def.now (pages_of P.Pages pages.new)) (changed_at db def.now.number (without_row row.now.number))) }
     ensures count { length (P.state pages.new).work ≡ length (P.state pages.old).work }
     ensures exact { HasRowIfStanding P.Pages shape pages.old def.now rid row.now → AnswersExactly P.Pages shape def.now pages.old (fault_of result) }
     ensures whole { IsWholeChange P.Pages (IsTableOrMapPage P.Pages shape pages.old def.now) notes.new rooms.new pages.old pages.new result (fault_of result) }

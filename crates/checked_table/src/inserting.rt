@@ -1,19 +1,13 @@
 // A row more.
-ghost use Rattle.std.specs.Prelude.{◌≡◌, ◌+◌, ◌<◌, ◌^◌, [], ◌∷◌, List, None, false, slice_index_or, IfErr, IfOk, OnErr, OnOk};
+ghost use Rattle.std.specs.Prelude.{◌≡◌, ◌+◌, ◌<◌, ◌^◌, [], ◌∷◌, None, false, IfErr, IfOk, OnErr, OnOk};
 ghost use Rattle.store_api.specs.Causes.{store_fault_in};
 ghost use Rattle.extent_map.specs.Damages.{IfFull, store_part_of};
-ghost use Rattle.extent_map.specs.declared.kind.Kind.{Kind};
-ghost use Rattle.mdc_ast.specs.Database.{Database, changed_at, appended};
 ghost use Rattle.mdc_ast.specs.TableLimits.{IsTableDef};
-ghost use Rattle.table_trees.specs.SpaceChanges.{MakesChanges};
 ghost use Rattle.mdc_ast.specs.FittingRows.{RowFits};
-ghost use Rattle.mdc_sound.specs.Placing.Spot.{OtherBlock};
-ghost use Rattle.mdc_sound.specs.RunningFull.{InsertRunsFull, putting_changes};
-ghost use Rattle.mdc_sound.specs.SoundDatabase.{IsSoundBetweenChanges, with_table_page};
-ghost use Rattle.mdc_sound.specs.StandingTable.{IsReadyTable, IsTableSpace, KeepsBlocksBut, TableForests, pages_of, spots_of};
-ghost use Rattle.mdc_sound.specs.StandsForDatabase.{PagesStandFor};
+ghost use Rattle.mdc_sound.specs.RunningFull.{InsertRunsFull};
+ghost use Rattle.mdc_sound.specs.StandingTable.{IsTableSpace, pages_of};
 ghost use Rattle.free_space.specs.RoomNotes.{room_of};
-ghost use Rattle.cell_change.specs.RowChanges.{InsertsRow};
+ghost use Rattle.cell_change.specs.RowChanges.{InsertsIntoDatabase, WhereReady};
 ghost use Rattle.checked_table.specs.ExactDamage.{AnswersExactly};
 ghost use Rattle.checked_table.specs.WholeChanges.{IsWholeChange};
 
@@ -45,20 +39,10 @@ pub fn insert_row<P: Pages>(
     requires more { def.old.next + 1 < 2 ^ 64 }
     requires going { (P.state pages.old).ended ≡ false }
     requires unmarked { (P.state pages.old).marked ≡ None }
-    ensures inserts { IfOk result (λ rid. (owners : List Kind) (forests : TableForests) → IsReadyTable P.Pages shape notes.old (room_of rooms.old) pages.old def.old owners forests
-        → InsertsRow P.Pages shape notes.old notes.new (room_of rooms.new) pages.old pages.new def.old row.now rid owners forests) }
-    ensures makes { IfOk result (λ rid. (owners : List Kind) (forests : TableForests) → IsReadyTable P.Pages shape notes.old (room_of rooms.old) pages.old def.old owners forests
-        → MakesChanges shape (pages_of P.Pages pages.old) (putting_changes def.old row.now rid (slice_index_or (spots_of P.Pages shape pages.old def.old owners forests) rid.block OtherBlock)) (pages_of P.Pages pages.new)) }
-    ensures stay { IfOk result (λ rid. (owners : List Kind) (forests : TableForests) → IsReadyTable P.Pages shape notes.old (room_of rooms.old) pages.old def.old owners forests → KeepsBlocksBut P.Pages shape pages.old pages.new def.old owners (λ block. block ≡ rid.block)) }
-    ensures sound { OnOk result ((owners : List Kind) (forests : TableForests) → IsReadyTable P.Pages shape notes.old (room_of rooms.old) pages.old def.old owners forests
-        → IsSoundBetweenChanges shape def.old (pages_of P.Pages pages.old) → IsSoundBetweenChanges shape def.new (pages_of P.Pages pages.new)) }
-    ensures stands_for { OnOk result ((owners : List Kind) (forests : TableForests) → IsReadyTable P.Pages shape notes.old (room_of rooms.old) pages.old def.old owners forests
-        → IsSoundBetweenChanges shape def.old (pages_of P.Pages pages.old) → (db : Database) → PagesStandFor shape (with_table_page def.old (pages_of P.Pages pages.old)) db
-        → PagesStandFor shape (with_table_page def.new (pages_of P.Pages pages.new)) (changed_at db def.old.number (appended (row.now.values ∷ [])))) }
+    ensures inserts { IfOk result (λ rid. WhereReady P.Pages shape notes.old (room_of rooms.old) pages.old def.old (InsertsIntoDatabase P.Pages shape notes.old notes.new (room_of rooms.new) pages.old pages.new def.old row.now rid)) }
     ensures next { OnOk result (def.new ≡ record def.old { next = def.old.next + 1 }) }
     ensures kept { OnErr result (def.new ≡ def.old) }
-    ensures full { IfErr result (λ fault. IfFull fault (λ cap. (cap ≡ shape.extents) × ((owners : List Kind) (forests : TableForests) → IsReadyTable P.Pages shape notes.old (room_of rooms.old) pages.old def.old owners forests
-        → InsertRunsFull shape (pages_of P.Pages pages.old) def.old (row.now ∷ [])))) }
+    ensures full { IfErr result (λ fault. IfFull fault (λ cap. (cap ≡ shape.extents) × WhereReady P.Pages shape notes.old (room_of rooms.old) pages.old def.old (λ owners forests. InsertRunsFull shape (pages_of P.Pages pages.old) def.old (row.now ∷ [])))) }
     ensures exact { AnswersExactly P.Pages shape def.old pages.old (store_fault_in store_part_of result) }
     ensures whole { IsWholeChange P.Pages (IsTableSpace P.Pages shape pages.old def.old) notes.new rooms.new pages.old pages.new result (store_fault_in store_part_of result) }
 {

@@ -1,11 +1,8 @@
 // The rows of a table, read.
-ghost use Rattle.std.specs.Prelude.{◌≡◌, ◌<◌, List, None, Some, Contains, IsTrue, false, map, IfOk, IfSome, OnOk};
-ghost use Rattle.mdc_words.specs.Faults.{CountsFault};
+ghost use Rattle.std.specs.Prelude.{◌≡◌, ◌<◌, List, None, Contains, IsTrue, false, map, IfOk, IfSome, OnOk};
 ghost use Rattle.mdc_ast.specs.declared.row.Row.{Row};
 ghost use Rattle.store_api.specs.Causes.{fault_of};
 ghost use Rattle.store_api.specs.Fetching.{BringsOnce, BringsOnly};
-ghost use Rattle.store_api.specs.Works.{Steady};
-ghost use Rattle.store_api.specs.declared.fault.StoreFault.TheVariants as store;
 ghost use Rattle.extent_map.specs.declared.kind.Kind.{Kind};
 ghost use Rattle.mdc_ast.specs.TableLimits.{IsTableDef};
 ghost use Rattle.block_map.specs.MapLines as lines;
@@ -20,6 +17,7 @@ ghost use Rattle.mdc_table.specs.TableReading.{CountsBlocks, IsRowLook};
 ghost use Rattle.table_scan.specs.FoundRows.{FindsRows, IsChoicePage, IsChosenRowPage, IsScannedPage, ScansOnce};
 ghost use Rattle.table_scan.specs.SeenTable.{HasSeenTable};
 ghost use Rattle.checked_table.specs.ExactDamage.{AnswersExactly, HasUsedIfStanding};
+ghost use Rattle.checked_table.specs.LeftPages.{LeavesPages, ReadsExactly};
 
 use crate::judging::exact_fault;
 use mdc_ast::{Pred, Row, TableDef};
@@ -43,11 +41,7 @@ pub fn row_at<P: Pages>(
     ensures found { IfOk result (λ row. (owners : List Kind) (forests : TableForests) → StandsTable P.Pages shape pages.old def.now owners forests
         → row ≡ row_at_spot (spots_of P.Pages shape pages.old def.now owners forests) rid) }
     ensures keyed { IfOk result (λ row. IfSome row (HasReadValues def.now.columns)) }
-    ensures exact { AnswersExactly P.Pages shape def.now pages.old (fault_of result) }
-    ensures same { (P.state pages.new).work ≡ (P.state pages.old).work }
-    ensures unmarked { (P.state pages.new).marked ≡ None }
-    ensures steady { Steady P.Pages pages.old pages.new }
-    ensures device { CountsFault (fault_of result ≡ Some store.Device) (P.disk_faults pages.old) (P.disk_faults pages.new) }
+    ensures leaves { ReadsExactly P.Pages shape def.now pages.old pages.new (fault_of result) }
     ensures brings { OnOk result (BringsOnly P.Pages (IsRowLook P.Pages shape pages.old def.now rid.block) pages.old pages.new) }
 {
     match mdc_table::row_at(alloc, def, shape, pages, rid) {
@@ -72,11 +66,7 @@ pub fn rows_of_block<P: Pages>(
     ensures rows { IfOk result (λ hits. (owners : List Kind) (forests : TableForests) → StandsTable P.Pages shape pages.old def.now owners forests → Contains (lines.used_blocks forests.map) block
         → map placed_row hits.items ≡ rows_in_block shape (pages_of P.Pages pages.old) def.now block) }
     ensures keyed { IfOk result (λ hits. HaveReadValues def.now.columns hits.items) }
-    ensures exact { HasUsedIfStanding P.Pages shape pages.old def.now block → AnswersExactly P.Pages shape def.now pages.old (fault_of result) }
-    ensures same { (P.state pages.new).work ≡ (P.state pages.old).work }
-    ensures unmarked { (P.state pages.new).marked ≡ None }
-    ensures steady { Steady P.Pages pages.old pages.new }
-    ensures device { CountsFault (fault_of result ≡ Some store.Device) (P.disk_faults pages.old) (P.disk_faults pages.new) }
+    ensures leaves { LeavesPages P.Pages (HasUsedIfStanding P.Pages shape pages.old def.now block → AnswersExactly P.Pages shape def.now pages.old (fault_of result)) pages.old pages.new (fault_of result) }
     ensures once { OnOk result (BringsOnce P.Pages (IsPageOfBlock shape block) pages.old pages.new) }
 {
     match rows_of_used_block(alloc, def, shape, pages, block) {
@@ -97,11 +87,7 @@ pub fn used_blocks<P: Pages>(
     requires going { (P.state pages.old).ended ≡ false }
     requires unmarked { (P.state pages.old).marked ≡ None }
     ensures listed { IfOk result (λ blocks. (owners : List Kind) (forests : TableForests) → StandsTable P.Pages shape pages.old def.now owners forests → blocks ≡ lines.used_blocks forests.map) }
-    ensures exact { AnswersExactly P.Pages shape def.now pages.old (fault_of result) }
-    ensures same { (P.state pages.new).work ≡ (P.state pages.old).work }
-    ensures unmarked { (P.state pages.new).marked ≡ None }
-    ensures steady { Steady P.Pages pages.old pages.new }
-    ensures device { CountsFault (fault_of result ≡ Some store.Device) (P.disk_faults pages.old) (P.disk_faults pages.new) }
+    ensures leaves { ReadsExactly P.Pages shape def.now pages.old pages.new (fault_of result) }
     ensures brings { OnOk result (BringsOnly P.Pages (IsTreePageAt P.Pages pages.old (map_place def.now)) pages.old pages.new) }
 {
     match mdc_table::used_blocks(alloc, def, shape, pages) {
@@ -122,11 +108,7 @@ pub fn account_of<P: Pages>(
     requires going { (P.state pages.old).ended ≡ false }
     requires unmarked { (P.state pages.old).marked ≡ None }
     ensures counts { IfOk result (λ account. (owners : List Kind) (forests : TableForests) → StandsTable P.Pages shape pages.old def.now owners forests → CountsBlocks forests.map account) }
-    ensures exact { AnswersExactly P.Pages shape def.now pages.old (fault_of result) }
-    ensures same { (P.state pages.new).work ≡ (P.state pages.old).work }
-    ensures unmarked { (P.state pages.new).marked ≡ None }
-    ensures steady { Steady P.Pages pages.old pages.new }
-    ensures device { CountsFault (fault_of result ≡ Some store.Device) (P.disk_faults pages.old) (P.disk_faults pages.new) }
+    ensures leaves { ReadsExactly P.Pages shape def.now pages.old pages.new (fault_of result) }
     ensures brings { OnOk result (BringsOnly P.Pages (IsTreePageAt P.Pages pages.old (map_place def.now)) pages.old pages.new) }
 {
     match mdc_table::account_of(alloc, def, shape, pages) {
@@ -154,11 +136,7 @@ pub fn find_rows<P: Pages>(
         → FindsRows P.Pages shape pages.old def.now pred.now hits.items forests) }
     ensures seen { IfOk result (λ hits. IsTrue (P.state pages.old).is_told → HasSeenTable P.Pages shape pages.old def.now pred.now hits.items) }
     ensures keyed { IfOk result (λ hits. HaveReadValues def.now.columns hits.items) }
-    ensures exact { AnswersExactly P.Pages shape def.now pages.old (fault_of result) }
-    ensures same { (P.state pages.new).work ≡ (P.state pages.old).work }
-    ensures unmarked { (P.state pages.new).marked ≡ None }
-    ensures steady { Steady P.Pages pages.old pages.new }
-    ensures device { CountsFault (fault_of result ≡ Some store.Device) (P.disk_faults pages.old) (P.disk_faults pages.new) }
+    ensures leaves { ReadsExactly P.Pages shape def.now pages.old pages.new (fault_of result) }
     ensures once { OnOk result (ScansOnce P.Pages (IsChoicePage P.Pages shape pages.old def.now) (IsChosenRowPage P.Pages shape pages.old def.now pred.now) pages.old pages.new) }
     ensures brings { OnOk result (BringsOnly P.Pages (IsScannedPage P.Pages shape pages.old def.now pred.now) pages.old pages.new) }
 {

@@ -4,7 +4,7 @@ use Rattle.mdc_words.specs.ByteOrder.{Entry}
 use Rattle.mdc_values.specs.declared.rid.Rid.{Rid}
 use Rattle.mdc_ast.specs.declared.definition.TableDef.{TableDef}
 use Rattle.mdc_ast.specs.declared.row.Row.{Row}
-use Rattle.mdc_ast.specs.Database.{Database, PlainTable, changed_at}
+use Rattle.mdc_ast.specs.Database.{PlainTable}
 use Rattle.store_api.specs.Frame.{Touches}
 use Rattle.store_api.specs.Works.{Works}
 use Rattle.store_api.specs.declared.pages.Pages.{Ghosts}
@@ -13,17 +13,16 @@ use Rattle.store_api.proofs.FrameLemmas.{touches_wider}
 use Rattle.extent_map.specs.declared.kind.Kind.{Kind}
 use Rattle.extent_map.specs.declared.space_notes.SpaceNotes.{SpaceNotes}
 use Rattle.row_page.specs.RowPage.{count_rows}
-use Rattle.table_trees.specs.SpaceChanges.{MakesChanges, SpaceChange}
+use Rattle.table_trees.specs.SpaceChanges.{SpaceChange}
 use Rattle.mdc_sound.specs.Placing.{Spot, SpotsAfterReturns, TakesRow}
 use Rattle.mdc_sound.specs.RunningFull.{taking_changes}
-use Rattle.mdc_sound.specs.SoundDatabase.{IsSoundBetweenChanges, with_table_page}
-use Rattle.mdc_sound.specs.StandingTable.{IsTableOrMapPage, RoomNote, TableForests, pages_of, spots_of}
-use Rattle.mdc_sound.specs.StandsForDatabase.{PagesStandFor, without_row}
+use Rattle.mdc_sound.specs.StandingTable.{IsTableOrMapPage, RoomNote, TableForests, spots_of}
+use Rattle.mdc_sound.specs.StandsForDatabase.{without_row}
 use Rattle.mdc_sound.specs.TableRows.{PlacedRow}
 use Rattle.block_rows.specs.HeldRows.{placed_row}
 use Rattle.block_rows.specs.declared.hit.Hit.{Hit}
 use Rattle.table_blocks.specs.BlockSteps.{HasThisRow}
-use Rattle.cell_change.specs.RowChanges.{DeletesRow, placed_at}
+use Rattle.cell_change.specs.RowChanges.{DeletesFromDatabase, placed_at}
 use Rattle.cell_change.proofs.ChangeRunsLemmas.{in_space}
 use Rattle.cell_change.proofs.TableStepsLemmas.{takes_no_block}
 use Rattle.statement_rows.specs.RowsAndSpace.{TakesRowsBy}
@@ -59,22 +58,22 @@ module _ {S : Type 0} (g : Ghosts S) where
       lies_after_returns mid (spots_of g shape new def owners_now forests_now) at row returns (lies_taken (spots_of g shape old def owners forests) mid placed.rid at placed.row row takes apart lies))
 
   abbrev pub one_deleted : (shape : Shape) (before now : SpaceNotes) (room_of room_now : Entry → RoomNote) (old new : S) (def : TableDef) (row : Row) (rid : Rid) (owners : List Kind) (forests : TableForests)
-      → IsReadyBetween g shape before room_of old def owners forests → (this : HasThisRow g shape old def rid row owners forests) → DeletesRow g shape before now room_now old new def row rid owners forests
-      → MakesChanges shape (pages_of g old) (left_by g shape old def rid row owners forests this) (pages_of g new) → Works g old new → Touches g (IsTableOrMapPage g shape old def) old new
-      → IsSoundBetweenChanges shape def (pages_of g new)
-      → ((db : Database) → PagesStandFor shape (with_table_page def (pages_of g old)) db → PagesStandFor shape (with_table_page def (pages_of g new)) (changed_at db def.number (without_row row.number)))
-      → ChangesRowsOf g shape before now room_now old new def def owners forests (TakesBefore def (placed_at rid row)) (without_row row.number)
-  one_deleted shape before now room_of room_now old new def row rid owners forests ready this deletes makes works touches sound stands_for = record {
-    owners_now = deletes.owners_now;
-    forests_now = deletes.forests_now;
-    changes = deletes.changes;
-    now = record { ready = record { stands = deletes.changes.stands; notes = deletes.changes.notes ready.ready.notes; rooms = deletes.rooms }; sound = sound };
+      → IsReadyBetween g shape before room_of old def owners forests → HasThisRow g shape old def rid row owners forests → DeletesFromDatabase g shape before now room_of room_now old new def row rid owners forests
+      → Works g old new → Touches g (IsTableOrMapPage g shape old def) old new → ChangesRowsOf g shape before now room_now old new def def owners forests (TakesBefore def (placed_at rid row)) (without_row row.number)
+  one_deleted shape before now room_of room_now old new def row rid owners forests ready this deletes works touches = record {
+    owners_now = deletes.table.owners_now;
+    forests_now = deletes.table.forests_now;
+    changes = deletes.table.changes;
+    now = record {
+      ready = record { stands = deletes.table.changes.stands; notes = deletes.table.changes.notes ready.ready.notes; rooms = deletes.table.rooms ready.ready };
+      sound = (deletes.database ready.sound).sound;
+    };
     space = left_by g shape old def rid row owners forests this;
-    places = λ rows more is rest. TakesRowsBy.one this.lies deletes.takes deletes.returns rest;
-    makes = makes;
-    stands_for = stands_for;
+    places = λ rows more is rest. TakesRowsBy.one this.lies deletes.table.takes deletes.table.returns rest;
+    makes = deletes.table.makes this.slots this.lies;
+    stands_for = (deletes.database ready.sound).stands_for;
     table_pages = table_pages_kept g shape old new def owners forests ready.ready.stands works (touches_wider touches (in_space g shape old def));
-    others = others_kept g shape old new def owners deletes.owners_now forests deletes.forests_now ready.sound.sound ready.ready.stands deletes.changes
+    others = others_kept g shape old new def owners deletes.table.owners_now forests deletes.table.forests_now ready.sound.sound ready.ready.stands deletes.table.changes
         (touches_wider touches (in_space g shape old def)) works.no_shorter;
   }
 
@@ -99,15 +98,13 @@ module _ {S : Type 0} (g : Ghosts S) where
       (λ spots. TakesRowsBy.none) (λ table. refl)
 
   pub deletes_more : (shape : Shape) (before mid next : SpaceNotes) (room_mid room_next : Entry → RoomNote) (old middle new : S) (def : TableDef) (hits : List Hit) (hit : Hit) (rest : List Hit) (owners : List Kind) (forests : TableForests)
-      (on : DeletesOn shape before mid room_mid old middle def hits (hit ∷ rest) owners forests) → DeletesRow g shape mid next room_next middle new def hit.row hit.rid on.rows.owners_now on.rows.forests_now
-      → MakesChanges shape (pages_of g middle) (left_by g shape middle def hit.rid hit.row on.rows.owners_now on.rows.forests_now on.has.each.0) (pages_of g new) → Works g middle new → Touches g (IsTableOrMapPage g shape middle def) middle new → IsSoundBetweenChanges shape def (pages_of g new)
-      → ((db : Database) → PagesStandFor shape (with_table_page def (pages_of g middle)) db → PagesStandFor shape (with_table_page def (pages_of g new)) (changed_at db def.number (without_row hit.row.number)))
-      → DeletesOn shape before next room_next old new def hits rest owners forests
-  deletes_more shape before mid next room_mid room_next old middle new def hits hit rest owners forests on deletes makes works touches sound stands_for =
-      let one = one_deleted shape mid next room_mid room_next middle new def hit.row hit.rid on.rows.owners_now on.rows.forests_now on.rows.ready on.has.each.0 deletes makes works touches sound stands_for in
+      (on : DeletesOn shape before mid room_mid old middle def hits (hit ∷ rest) owners forests) → DeletesFromDatabase g shape mid next room_mid room_next middle new def hit.row hit.rid on.rows.owners_now on.rows.forests_now
+      → Works g middle new → Touches g (IsTableOrMapPage g shape middle def) middle new → DeletesOn shape before next room_next old new def hits rest owners forests
+  deletes_more shape before mid next room_mid room_next old middle new def hits hit rest owners forests on deletes works touches =
+      let one = one_deleted shape mid next room_mid room_next middle new def hit.row hit.rid on.rows.owners_now on.rows.forests_now on.rows.ready on.has.each.0 deletes works touches in
       record {
         rows = leads_more g shape before mid next room_mid room_next old middle new def def def.next owners forests (TakesBefore def (placed_row hit)) (λ was space is. TakesRowsBy def was (map placed_row (hit ∷ rest)) space is)
             (λ was space is. TakesRowsBy def was (map placed_row rest) space is) (λ was space is. TakesRowsBy def was (map placed_row hits) space is) (without_row hit.row.number) (without_hits (hit ∷ rest)) (without_hits rest) (without_hits hits) on.rows one
-            (λ was between is space more first. first (map placed_row rest) more is) (takes_no_block g shape middle new def on.rows.owners_now on.rows.forests_now on.rows.ready.ready.stands deletes.owners_now deletes.forests_now deletes.mid hit.row hit.rid deletes.takes deletes.returns) (λ table. refl) works.no_shorter;
-        has = these_still shape middle new def on.rows.owners_now one.owners_now on.rows.forests_now one.forests_now (placed_row hit) (map placed_row rest) deletes.mid deletes.takes deletes.returns on.has;
+            (λ was between is space more first. first (map placed_row rest) more is) (takes_no_block g shape middle new def on.rows.owners_now on.rows.forests_now on.rows.ready.ready.stands deletes.table.owners_now deletes.table.forests_now deletes.table.mid hit.row hit.rid deletes.table.takes deletes.table.returns) (λ table. refl) works.no_shorter;
+        has = these_still shape middle new def on.rows.owners_now one.owners_now on.rows.forests_now one.forests_now (placed_row hit) (map placed_row rest) deletes.table.mid deletes.table.takes deletes.table.returns on.has;
       }

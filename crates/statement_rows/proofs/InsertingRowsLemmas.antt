@@ -7,24 +7,22 @@ use Rattle.mdc_values.specs.declared.rid.Rid.{Rid}
 use Rattle.mdc_values.specs.declared.value.Value.{Value}
 use Rattle.mdc_ast.specs.declared.definition.TableDef.{TableDef}
 use Rattle.mdc_ast.specs.declared.row.Row.{Row}
-use Rattle.mdc_ast.specs.Database.{Database, PlainTable, changed_at, appended, numbered}
+use Rattle.mdc_ast.specs.Database.{PlainTable, appended, numbered}
 use Rattle.store_api.specs.Frame.{Touches}
 use Rattle.store_api.specs.Works.{Works}
 use Rattle.store_api.specs.declared.pages.Pages.{Ghosts}
 use Rattle.store_api.specs.declared.shape.Shape.{Shape}
 use Rattle.extent_map.specs.declared.kind.Kind.{Kind}
 use Rattle.extent_map.specs.declared.space_notes.SpaceNotes.{SpaceNotes}
-use Rattle.table_trees.specs.SpaceChanges.{MakesChanges, SpaceChange}
+use Rattle.table_trees.specs.SpaceChanges.{SpaceChange}
 use Rattle.table_trees.specs.ToldPages.{PageList}
 use Rattle.table_trees.proofs.SpaceChainsLemmas.{full_then}
 use Rattle.mdc_sound.specs.Placing.{HasRoomFor, HoldsNowhere, PutsRow, Spot, block_slot_count}
 use Rattle.mdc_sound.specs.Placing.Spot.{FreeExtent, IndexExtent, OtherBlock, FreeBlock, PendingBlock, UsedBlock}
 use Rattle.mdc_sound.specs.RunningFull.{InsertingChanges, InsertRunsFull, block_changes, putting_changes}
-use Rattle.mdc_sound.specs.SoundDatabase.{IsSoundBetweenChanges, with_table_page}
 use Rattle.mdc_sound.specs.StandingTable.{IsTableSpace, RoomNote, TableForests, pages_of, spots_of}
-use Rattle.mdc_sound.specs.StandsForDatabase.{PagesStandFor}
 use Rattle.mdc_sound.proofs.NextNumberLemmas.{stands_next, with_next}
-use Rattle.cell_change.specs.RowChanges.{InsertsRow}
+use Rattle.cell_change.specs.RowChanges.{InsertsIntoDatabase}
 use Rattle.cell_change.proofs.ChangedSpaceLemmas.{shows_spots}
 use Rattle.cell_change.proofs.TableStepsLemmas.{puts_no_block}
 use Rattle.statement_rows.specs.RowsAndSpace.{PutsRowsBy}
@@ -133,7 +131,7 @@ full_at_first shape pages def row rows full = record {
 -- ---- one row
 
 module _ {S : Type 0} (g : Ghosts S) (shape : Shape) (before now : SpaceNotes) (room_of room_now : Entry → RoomNote) (old new : S) (def : TableDef) (row : Row) (rid : Rid) (owners : List Kind) (forests : TableForests)
-    (ready : IsReadyBetween g shape before room_of old def owners forests) (inserts : InsertsRow g shape before now room_now old new def row rid owners forests) where
+    (ready : IsReadyBetween g shape before room_of old def owners forests) (inserts : InsertsIntoDatabase g shape before now room_now old new def row rid owners forests) where
   -- the definition that has the next number
   abbrev pub raised : TableDef
   raised = with_next def (def.next + 1)
@@ -147,27 +145,25 @@ module _ {S : Type 0} (g : Ghosts S) (shape : Shape) (before now : SpaceNotes) (
   PutsBefore was space between =
       (rows : List Row) (more : List SpaceChange) (is : List Spot) → PutsRowsBy def (block_slot_count shape def) between rows more is → PutsRowsBy def (block_slot_count shape def) was (row ∷ rows) (space ++ more) is
 
-  abbrev pub one_inserted : MakesChanges shape (pages_of g old) needed (pages_of g new) → Works g old new → Touches g (IsTableSpace g shape old def) old new → IsSoundBetweenChanges shape raised (pages_of g new)
-      → ((db : Database) → PagesStandFor shape (with_table_page def (pages_of g old)) db → PagesStandFor shape (with_table_page raised (pages_of g new)) (changed_at db def.number (appended (row.values ∷ []))))
-      → ChangesRowsOf g shape before now room_now old new def raised owners forests PutsBefore (appended (row.values ∷ []))
-  one_inserted makes works touches sound stands_for = record {
-    owners_now = inserts.owners_now;
-    forests_now = inserts.forests_now;
-    changes = inserts.changes;
+  abbrev pub one_inserted : Works g old new → Touches g (IsTableSpace g shape old def) old new → ChangesRowsOf g shape before now room_now old new def raised owners forests PutsBefore (appended (row.values ∷ []))
+  one_inserted works touches = record {
+    owners_now = inserts.table.owners_now;
+    forests_now = inserts.table.forests_now;
+    changes = inserts.table.changes;
     now = record {
       ready = record {
-        stands = stands_next g shape new def (def.next + 1) inserts.owners_now inserts.forests_now inserts.changes.stands;
-        notes = inserts.changes.notes ready.ready.notes;
-        rooms = rooms_next def (def.next + 1) room_now (spots_of g shape new def inserts.owners_now inserts.forests_now) inserts.rooms;
+        stands = stands_next g shape new def (def.next + 1) inserts.table.owners_now inserts.table.forests_now inserts.table.changes.stands;
+        notes = inserts.table.changes.notes ready.ready.notes;
+        rooms = rooms_next def (def.next + 1) room_now (spots_of g shape new def inserts.table.owners_now inserts.table.forests_now) inserts.table.rooms;
       };
-      sound = sound;
+      sound = (inserts.database ready.sound).sound;
     };
     space = needed;
-    places = λ rows more is rest. PutsRowsBy.one rid inserts.puts inserts.claims rest;
-    makes = makes;
-    stands_for = stands_for;
+    places = λ rows more is rest. PutsRowsBy.one rid inserts.table.puts inserts.table.claims rest;
+    makes = inserts.table.makes;
+    stands_for = (inserts.database ready.sound).stands_for;
     table_pages = table_pages_kept g shape old new def owners forests ready.ready.stands works touches;
-    others = others_kept g shape old new def owners inserts.owners_now forests inserts.forests_now ready.sound.sound ready.ready.stands inserts.changes touches works.no_shorter;
+    others = others_kept g shape old new def owners inserts.table.owners_now forests inserts.table.forests_now ready.sound.sound ready.ready.stands inserts.table.changes touches works.no_shorter;
   }
 
   -- the rows behind it are put as well by the definition before
@@ -177,13 +173,12 @@ module _ {S : Type 0} (g : Ghosts S) (shape : Shape) (before now : SpaceNotes) (
       first rows more is (puts_next def (def.next + 1) (block_slot_count shape def) between is rows more rest)
 
   -- where the rest runs full, all do
-  pub full_behind : (rows : List Row) → MakesChanges shape (pages_of g old) needed (pages_of g new)
-      → InsertRunsFull shape (pages_of g new) raised rows → InsertRunsFull shape (pages_of g old) def (row ∷ rows)
-  full_behind rows makes full =
+  pub full_behind : (rows : List Row) → InsertRunsFull shape (pages_of g new) raised rows → InsertRunsFull shape (pages_of g old) def (row ∷ rows)
+  full_behind rows full =
       let spots = spots_of g shape old def owners forests in
-      let later = spots_of g shape new def inserts.owners_now inserts.forests_now in
-      let stands = stands_next g shape new def (def.next + 1) inserts.owners_now inserts.forests_now inserts.changes.stands in
-      let same : full.spots ≡ later = shown_spots g shape new raised inserts.owners_now inserts.forests_now full.spots stands full.shows in
+      let later = spots_of g shape new def inserts.table.owners_now inserts.table.forests_now in
+      let stands = stands_next g shape new def (def.next + 1) inserts.table.owners_now inserts.table.forests_now inserts.table.changes.stands in
+      let same : full.spots ≡ later = shown_spots g shape new raised inserts.table.owners_now inserts.table.forests_now full.spots stands full.shows in
       let rest : InsertingChanges def (block_slot_count shape def) later rows full.changes =
       inserting_next def (def.next + 1) (block_slot_count shape def) later rows full.changes
       (subst (λ all. InsertingChanges raised (block_slot_count shape raised) all rows full.changes) same full.inserting) in
@@ -191,8 +186,8 @@ module _ {S : Type 0} (g : Ghosts S) (shape : Shape) (before now : SpaceNotes) (
         spots = spots;
         changes = needed ++ full.changes;
         shows = shows_spots g shape old def owners forests ready.ready.stands;
-        inserting = InsertingChanges.one rid inserts.puts inserts.claims rest;
-        full = full_then shape (pages_of g old) (pages_of g new) needed full.changes makes full.full;
+        inserting = InsertingChanges.one rid inserts.table.puts inserts.table.claims rest;
+        full = full_then shape (pages_of g old) (pages_of g new) needed full.changes inserts.table.makes full.full;
       }
 
 -- ---- rows so far, and the rest
@@ -221,14 +216,9 @@ module _ {S : Type 0} (g : Ghosts S) where
 
   module _ (shape : Shape) (before mid : SpaceNotes) (room_mid : Entry → RoomNote) (old middle : S) (def def_mid : TableDef) (tuples rest : List (List Value)) (owners : List Kind) (forests : TableForests) where
     pub inserts_more : (next : SpaceNotes) (room_next : Entry → RoomNote) (new : S) (values : List Value) (rid : Rid) (on : InsertsOn g shape before mid room_mid old middle def def_mid tuples (values ∷ rest) owners forests)
-        → (inserts : InsertsRow g shape mid next room_next middle new def_mid (record { number = def_mid.next; values = values }) rid on.rows.owners_now on.rows.forests_now)
-        → MakesChanges shape (pages_of g middle)
-        (putting_changes def_mid (record { number = def_mid.next; values = values }) rid (slice_index_or (spots_of g shape middle def_mid on.rows.owners_now on.rows.forests_now) rid.block OtherBlock)) (pages_of g new)
-        → Works g middle new → Touches g (IsTableSpace g shape middle def_mid) middle new → IsSoundBetweenChanges shape (with_next def_mid (def_mid.next + 1)) (pages_of g new)
-        → ((db : Database) → PagesStandFor shape (with_table_page def_mid (pages_of g middle)) db
-        → PagesStandFor shape (with_table_page (with_next def_mid (def_mid.next + 1)) (pages_of g new)) (changed_at db def_mid.number (appended (values ∷ []))))
-        → InsertsOn g shape before next room_next old new def (with_next def_mid (def_mid.next + 1)) tuples rest owners forests
-    inserts_more next room_next new values rid on inserts makes works touches sound stands_for =
+        → InsertsIntoDatabase g shape mid next room_next middle new def_mid (record { number = def_mid.next; values = values }) rid on.rows.owners_now on.rows.forests_now
+        → Works g middle new → Touches g (IsTableSpace g shape middle def_mid) middle new → InsertsOn g shape before next room_next old new def (with_next def_mid (def_mid.next + 1)) tuples rest owners forests
+    inserts_more next room_next new values rid on inserts works touches =
         let row : Row = record { number = def_mid.next; values = values } in
         let ready = on.rows.ready in
         let rows = numbered (def_mid.next + 1) rest in
@@ -237,8 +227,8 @@ module _ {S : Type 0} (g : Ghosts S) where
               (λ was space is. PutsRowsBy def_mid (block_slot_count shape def_mid) was (numbered def_mid.next (values ∷ rest)) space is)
               (λ was space is. PutsRowsBy (with_next def_mid (def_mid.next + 1)) (block_slot_count shape (with_next def_mid (def_mid.next + 1))) was rows space is)
               (λ was space is. PutsRowsBy def (block_slot_count shape def) was (numbered def.next tuples) space is) (appended (values ∷ [])) (appended (values ∷ rest)) (appended rest) (appended tuples) on.rows
-              (one_inserted g shape mid next room_mid room_next middle new def_mid row rid on.rows.owners_now on.rows.forests_now ready inserts makes works touches sound stands_for)
+              (one_inserted g shape mid next room_mid room_next middle new def_mid row rid on.rows.owners_now on.rows.forests_now ready inserts works touches)
               (puts_then g shape mid next room_mid room_next middle new def_mid row rid on.rows.owners_now on.rows.forests_now ready inserts rows)
-              (puts_no_block g shape middle new def_mid on.rows.owners_now on.rows.forests_now ready.ready.stands inserts.owners_now inserts.forests_now inserts.mid row rid inserts.puts inserts.claims) (appended_more values rest) works.no_shorter;
-          full_on = λ full. on.full_on (full_behind g shape mid next room_mid room_next middle new def_mid row rid on.rows.owners_now on.rows.forests_now ready inserts rows makes full);
+              (puts_no_block g shape middle new def_mid on.rows.owners_now on.rows.forests_now ready.ready.stands inserts.table.owners_now inserts.table.forests_now inserts.table.mid row rid inserts.table.puts inserts.table.claims) (appended_more values rest) works.no_shorter;
+          full_on = λ full. on.full_on (full_behind g shape mid next room_mid room_next middle new def_mid row rid on.rows.owners_now on.rows.forests_now ready inserts rows full);
         }

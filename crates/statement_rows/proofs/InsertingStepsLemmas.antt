@@ -1,13 +1,13 @@
 -- A row of an INSERT that goes in behind others: what the call that puts it says, as seen from before the first row.
 use Rattle.std.proofs.Common.{◌≡◌, ◌+◌, ℕ, List, [], ◌∷◌, None, length, ap, arith, sym, ◌∙◌, subst}
-use Rattle.std.specs.Prelude.{Option, slice_index_or}
+use Rattle.std.specs.Prelude.{Option}
 use Rattle.std.specs.List.{AllByRecursion}
 use Rattle.mdc_words.specs.ByteOrder.{Entry}
 use Rattle.mdc_values.specs.declared.rid.Rid.{Rid}
 use Rattle.mdc_values.specs.declared.value.Value.{Value}
 use Rattle.mdc_ast.specs.declared.definition.TableDef.{TableDef}
 use Rattle.mdc_ast.specs.declared.row.Row.{Row}
-use Rattle.mdc_ast.specs.Database.{Database, changed_at, appended, numbered}
+use Rattle.mdc_ast.specs.Database.{numbered}
 use Rattle.store_api.specs.Frame.{Touches}
 use Rattle.store_api.specs.RunsOverPages.{RunsOverPages}
 use Rattle.store_api.specs.Works.{Works}
@@ -16,16 +16,12 @@ use Rattle.store_api.specs.declared.pages.Pages.{Ghosts}
 use Rattle.store_api.specs.declared.shape.Shape.{Shape}
 use Rattle.extent_map.specs.declared.kind.Kind.{Kind}
 use Rattle.extent_map.specs.declared.space_notes.SpaceNotes.{SpaceNotes}
-use Rattle.table_trees.specs.SpaceChanges.{MakesChanges}
 use Rattle.mdc_ast.specs.FittingRows.{RowFits}
-use Rattle.mdc_sound.specs.Placing.Spot.{OtherBlock}
-use Rattle.mdc_sound.specs.RunningFull.{InsertRunsFull, putting_changes}
-use Rattle.mdc_sound.specs.SoundDatabase.{IsSoundBetweenChanges, with_table_page}
-use Rattle.mdc_sound.specs.StandingTable.{BreaksExpected, IsReadyTable, IsTableSpace, RoomNote, TableForests, pages_of, spots_of}
-use Rattle.mdc_sound.specs.StandsForDatabase.{PagesStandFor}
+use Rattle.mdc_sound.specs.RunningFull.{InsertRunsFull}
+use Rattle.mdc_sound.specs.StandingTable.{BreaksExpected, IsTableSpace, RoomNote, TableForests, pages_of}
 use Rattle.mdc_sound.proofs.NextNumberLemmas.{with_next}
 use Rattle.cell_change.specs.ExpectedTables.{HasSoundIndexes}
-use Rattle.cell_change.specs.RowChanges.{InsertsRow}
+use Rattle.cell_change.specs.RowChanges.{InsertsIntoDatabase, WhereReady}
 use Rattle.cell_change.proofs.RowChangesLemmas.{indexes_here}
 use Rattle.statement_rows.specs.RowsOfStatement.{AnyPage, BreaksReady, IsReadyBetween, NothingMore}
 use Rattle.statement_rows.proofs.InsertingRowsLemmas.{InsertsOn, full_at_first, inserts_more}
@@ -61,30 +57,17 @@ module _ {S : Type 0} (g : Ghosts S) (shape : Shape) (before mid : SpaceNotes) (
   leads_here owners forests ready = subst (λ all. InsertsOn g shape before mid room_mid old middle def def_mid tuples all owners forests) split (leads owners forests ready)
 
   pub row_in : (next : SpaceNotes) (room_next : Entry → RoomNote) (new : S) (def_now : TableDef) (rid : Rid) → def_now ≡ with_next def_mid (def_mid.next + 1)
-      → ((owners : List Kind) (forests : TableForests) → IsReadyTable g shape mid room_mid middle def_mid owners forests → InsertsRow g shape mid next room_next middle new def_mid next_row rid owners forests)
-      → ((owners : List Kind) (forests : TableForests) → IsReadyTable g shape mid room_mid middle def_mid owners forests
-      → MakesChanges shape (pages_of g middle) (putting_changes def_mid next_row rid (slice_index_or (spots_of g shape middle def_mid owners forests) rid.block OtherBlock)) (pages_of g new))
-      → ((owners : List Kind) (forests : TableForests) → IsReadyTable g shape mid room_mid middle def_mid owners forests
-      → IsSoundBetweenChanges shape def_mid (pages_of g middle) → IsSoundBetweenChanges shape def_now (pages_of g new))
-      → ((owners : List Kind) (forests : TableForests) → IsReadyTable g shape mid room_mid middle def_mid owners forests
-      → IsSoundBetweenChanges shape def_mid (pages_of g middle) → (db : Database) → PagesStandFor shape (with_table_page def_mid (pages_of g middle)) db
-      → PagesStandFor shape (with_table_page def_now (pages_of g new)) (changed_at db def_mid.number (appended (values ∷ []))))
-      → Works g middle new → Touches g (IsTableSpace g shape middle def_mid) middle new
+      → WhereReady g shape mid room_mid middle def_mid (InsertsIntoDatabase g shape mid next room_next middle new def_mid next_row rid) → Works g middle new → Touches g (IsTableSpace g shape middle def_mid) middle new
       → (owners : List Kind) (forests : TableForests) → IsReadyBetween g shape before room_of old def owners forests → InsertsOn g shape before next room_next old new def def_now tuples rest owners forests
-  row_in next room_next new def_now rid is inserts makes sound stands_for works touches owners forests ready =
+  row_in next room_next new def_now rid is inserts works touches owners forests ready =
       let on = leads_here owners forests ready in
-      let here = on.rows.ready in
-      let now = on.rows.owners_now in
-      let trees = on.rows.forests_now in
       subst (λ d. InsertsOn g shape before next room_next old new def d tuples rest owners forests) (sym is)
-      (inserts_more g shape before mid room_mid old middle def def_mid tuples rest owners forests next room_next new values rid on (inserts now trees here.ready) (makes now trees here.ready) works touches
-      (subst (λ d. IsSoundBetweenChanges shape d (pages_of g new)) is (sound now trees here.ready here.sound))
-      (λ db stands. subst (λ d. PagesStandFor shape (with_table_page d (pages_of g new)) (changed_at db def_mid.number (appended (values ∷ [])))) is (stands_for now trees here.ready here.sound db stands)))
+      (inserts_more g shape before mid room_mid old middle def def_mid tuples rest owners forests next room_next new values rid on (inserts on.rows.owners_now on.rows.forests_now on.rows.ready.ready) works touches)
 
   -- ---- one that runs full
 
   pub row_full : (cap : ℕ)
-      → (cap ≡ shape.extents) × ((owners : List Kind) (forests : TableForests) → IsReadyTable g shape mid room_mid middle def_mid owners forests → InsertRunsFull shape (pages_of g middle) def_mid (next_row ∷ []))
+      → (cap ≡ shape.extents) × WhereReady g shape mid room_mid middle def_mid (λ owners forests. InsertRunsFull shape (pages_of g middle) def_mid (next_row ∷ []))
       → (cap ≡ shape.extents) × ((owners : List Kind) (forests : TableForests) → IsReadyBetween g shape before room_of old def owners forests → InsertRunsFull shape (pages_of g old) def (numbered def.next tuples))
   row_full cap full = (
     full.0,

@@ -6,7 +6,6 @@ use Rattle.mdc_words.specs.ByteOrder.{Entry}
 use Rattle.mdc_values.specs.declared.rid.Rid.{Rid}
 use Rattle.mdc_ast.specs.declared.definition.TableDef.{TableDef}
 use Rattle.mdc_ast.specs.declared.row.Row.{Row}
-use Rattle.mdc_ast.specs.Database.{Database, changed_at}
 use Rattle.store_api.specs.Frame.{Touches}
 use Rattle.store_api.specs.Works.{Works}
 use Rattle.store_api.specs.declared.pages.Pages.{Ghosts}
@@ -18,11 +17,10 @@ use Rattle.table_trees.proofs.SpaceChainsLemmas.{full_then}
 use Rattle.table_trees.specs.ToldPages.{PageList}
 use Rattle.mdc_sound.specs.Placing.{Spot, block_slot_count}
 use Rattle.mdc_sound.specs.RunningFull.{UpdateRunsFull, UpdatingChanges}
-use Rattle.mdc_sound.specs.SoundDatabase.{IsSoundBetweenChanges, with_table_page}
 use Rattle.mdc_sound.specs.StandingTable.{IsTableSpace, RoomNote, TableForests, pages_of, spots_of}
-use Rattle.mdc_sound.specs.StandsForDatabase.{PagesStandFor, with_row}
+use Rattle.mdc_sound.specs.StandsForDatabase.{with_row}
 use Rattle.mdc_sound.specs.TableRows.{PlacedRow}
-use Rattle.cell_change.specs.RowChanges.{ChangesOneRow, TurnsRowBy, placed_at}
+use Rattle.cell_change.specs.RowChanges.{ChangesInDatabase, TurnsRowBy, placed_at}
 use Rattle.cell_change.proofs.ChangedSpaceLemmas.{shows_spots}
 use Rattle.cell_change.proofs.TableStepsLemmas.{turns_no_block}
 use Rattle.statement_rows.specs.RowsAndSpace.{TurnsRowsBy}
@@ -89,27 +87,28 @@ full_at_first shape pages def one rest rising full = record {
 -- ---- one row
 
 module _ {S : Type 0} (g : Ghosts S) (shape : Shape) (before now : SpaceNotes) (room_of room_now : Entry → RoomNote) (old new : S) (def : TableDef) (one : Turned) (to : Rid) (owners : List Kind) (forests : TableForests)
-    (ready : IsReadyBetween g shape before room_of old def owners forests) (turns : ChangesOneRow g shape before now room_now old new def one.hit.row one.row one.hit.rid to owners forests) where
+    (ready : IsReadyBetween g shape before room_of old def owners forests) (turns : ChangesInDatabase g shape before now room_now old new def one.hit.row one.row one.hit.rid to owners forests) where
   -- rows become others behind it, by whichever changes
   abbrev pub TurnsBefore : List Spot → List SpaceChange → List Spot → Type 0
   TurnsBefore was space between =
       (rows : List (PlacedRow × Row)) (more : List SpaceChange) (is : List Spot) → TurnsRowsBy def (block_slot_count shape def) between rows more is
       → TurnsRowsBy def (block_slot_count shape def) was (turned_row one ∷ rows) (space ++ more) is
 
-  abbrev pub one_turned : Works g old new → Touches g (IsTableSpace g shape old def) old new → IsSoundBetweenChanges shape def (pages_of g new)
-      → ((db : Database) → PagesStandFor shape (with_table_page def (pages_of g old)) db → PagesStandFor shape (with_table_page def (pages_of g new)) (changed_at db def.number (with_row one.row)))
-      → ChangesRowsOf g shape before now room_now old new def def owners forests TurnsBefore (with_row one.row)
-  one_turned works touches sound stands_for = record {
-    owners_now = turns.owners_now;
-    forests_now = turns.forests_now;
-    changes = turns.changes;
-    now = record { ready = record { stands = turns.changes.stands; notes = turns.changes.notes ready.ready.notes; rooms = turns.rooms }; sound = sound };
-    space = turns.space.changes;
-    places = λ rows more is rest. TurnsRowsBy.one turns.space.turns rest;
-    makes = turns.space.makes;
-    stands_for = stands_for;
+  abbrev pub one_turned : Works g old new → Touches g (IsTableSpace g shape old def) old new → ChangesRowsOf g shape before now room_now old new def def owners forests TurnsBefore (with_row one.row)
+  one_turned works touches = record {
+    owners_now = turns.table.owners_now;
+    forests_now = turns.table.forests_now;
+    changes = turns.table.changes;
+    now = record {
+      ready = record { stands = turns.table.changes.stands; notes = turns.table.changes.notes ready.ready.notes; rooms = turns.table.rooms };
+      sound = (turns.database ready.sound).sound;
+    };
+    space = turns.table.space.changes;
+    places = λ rows more is rest. TurnsRowsBy.one turns.table.space.turns rest;
+    makes = turns.table.space.makes;
+    stands_for = (turns.database ready.sound).stands_for;
     table_pages = table_pages_kept g shape old new def owners forests ready.ready.stands works touches;
-    others = others_kept g shape old new def owners turns.owners_now forests turns.forests_now ready.sound.sound ready.ready.stands turns.changes touches works.no_shorter;
+    others = others_kept g shape old new def owners turns.table.owners_now forests turns.table.forests_now ready.sound.sound ready.ready.stands turns.table.changes touches works.no_shorter;
   }
 
   -- the rows behind it become others as well
@@ -118,29 +117,29 @@ module _ {S : Type 0} (g : Ghosts S) (shape : Shape) (before now : SpaceNotes) (
   turns_then rows was between is space more first rest = first rows more is rest
 
   -- they lie where they lay
-  pub rows_stay : (rows : List PlacedRow) → HasTheseRows g shape old def ((turned_row one).0 ∷ rows) owners forests → HasTheseRows g shape new def rows turns.owners_now turns.forests_now
+  pub rows_stay : (rows : List PlacedRow) → HasTheseRows g shape old def ((turned_row one).0 ∷ rows) owners forests → HasTheseRows g shape new def rows turns.table.owners_now turns.table.forests_now
   rows_stay rows =
-      rows_behind g shape old new def owners turns.owners_now forests turns.forests_now (turned_row one).0 rows
+      rows_behind g shape old new def owners turns.table.owners_now forests turns.table.forests_now (turned_row one).0 rows
       (λ at row apart lies.
-      lies_after_claims turns.mid (spots_of g shape new def turns.owners_now turns.forests_now) at row turns.claims
-      (lies_turned def (block_slot_count shape def) (spots_of g shape old def owners forests) turns.mid one.hit.rid at to one.hit.row one.row row turns.turns apart lies))
+      lies_after_claims turns.table.mid (spots_of g shape new def turns.table.owners_now turns.table.forests_now) at row turns.table.claims
+      (lies_turned def (block_slot_count shape def) (spots_of g shape old def owners forests) turns.table.mid one.hit.rid at to one.hit.row one.row row turns.table.turns apart lies))
 
   -- where the rest runs full, all do
   pub full_behind : (rest : List Turned) → AllPairs (λ a b. a.row.number < b.row.number) (places_of (one ∷ rest)) → UpdateRunsFull shape (pages_of g new) def (map turned_row rest)
       → UpdateRunsFull shape (pages_of g old) def (map turned_row (one ∷ rest))
   full_behind rest rising full =
-      let later = spots_of g shape new def turns.owners_now turns.forests_now in
+      let later = spots_of g shape new def turns.table.owners_now turns.table.forests_now in
       let rows = map turned_row rest in
-      let same : full.spots ≡ later = shown_spots g shape new def turns.owners_now turns.forests_now full.spots turns.changes.stands full.shows in
+      let same : full.spots ≡ later = shown_spots g shape new def turns.table.owners_now turns.table.forests_now full.spots turns.table.changes.stands full.shows in
       let updating : UpdatingChanges def (block_slot_count shape def) later rows full.changes =
       subst (λ all. UpdatingChanges def (block_slot_count shape def) all rows full.changes) same full.updating in
       record {
         spots = spots_of g shape old def owners forests;
-        changes = turns.space.changes ++ full.changes;
+        changes = turns.table.space.changes ++ full.changes;
         shows = shows_spots g shape old def owners forests ready.ready.stands;
         rising = rising_turned (one ∷ rest) rising;
-        updating = updating_behind def (block_slot_count shape def) (spots_of g shape old def owners forests) later one.hit.rid one.hit.row one.row turns.space.changes turns.space.turns rows full.changes updating;
-        full = full_then shape (pages_of g old) (pages_of g new) turns.space.changes full.changes turns.space.makes full.full;
+        updating = updating_behind def (block_slot_count shape def) (spots_of g shape old def owners forests) later one.hit.rid one.hit.row one.row turns.table.space.changes turns.table.space.turns rows full.changes updating;
+        full = full_then shape (pages_of g old) (pages_of g new) turns.table.space.changes full.changes turns.table.space.makes full.full;
       }
 
 -- ---- rows so far, and the rest
@@ -169,11 +168,10 @@ module _ {S : Type 0} (g : Ghosts S) where
       (with_rows []) (with_rows (rows_of_turned all)) on.rows (λ spots. TurnsRowsBy.none) (λ table. refl)
 
   pub turns_more : (shape : Shape) (before mid next : SpaceNotes) (room_mid room_next : Entry → RoomNote) (old middle new : S) (def : TableDef) (all : List Turned) (one : Turned) (rest : List Turned) (to : Rid) (owners : List Kind) (forests : TableForests)
-      (on : TurnsOn shape before mid room_mid old middle def all (one ∷ rest) owners forests) → ChangesOneRow g shape mid next room_next middle new def one.hit.row one.row one.hit.rid to on.rows.owners_now on.rows.forests_now
-      → Works g middle new → Touches g (IsTableSpace g shape middle def) middle new → IsSoundBetweenChanges shape def (pages_of g new)
-      → ((db : Database) → PagesStandFor shape (with_table_page def (pages_of g middle)) db → PagesStandFor shape (with_table_page def (pages_of g new)) (changed_at db def.number (with_row one.row)))
+      (on : TurnsOn shape before mid room_mid old middle def all (one ∷ rest) owners forests)
+      → ChangesInDatabase g shape mid next room_next middle new def one.hit.row one.row one.hit.rid to on.rows.owners_now on.rows.forests_now → Works g middle new → Touches g (IsTableSpace g shape middle def) middle new
       → TurnsOn shape before next room_next old new def all rest owners forests
-  turns_more shape before mid next room_mid room_next old middle new def all one rest to owners forests on turns works touches sound stands_for =
+  turns_more shape before mid next room_mid room_next old middle new def all one rest to owners forests on turns works touches =
       let now = on.rows.owners_now in
       let trees = on.rows.forests_now in
       let ready = on.rows.ready in
@@ -181,9 +179,9 @@ module _ {S : Type 0} (g : Ghosts S) where
         rows = leads_more g shape before mid next room_mid room_next old middle new def def def.next owners forests (TurnsBefore g shape mid next room_mid room_next middle new def one to now trees ready turns)
             (λ was space is. TurnsRowsBy def (block_slot_count shape def) was (map turned_row (one ∷ rest)) space is) (λ was space is. TurnsRowsBy def (block_slot_count shape def) was (map turned_row rest) space is)
             (λ was space is. TurnsRowsBy def (block_slot_count shape def) was (map turned_row all) space is) (with_row one.row) (with_rows (rows_of_turned (one ∷ rest))) (with_rows (rows_of_turned rest))
-            (with_rows (rows_of_turned all)) on.rows (one_turned g shape mid next room_mid room_next middle new def one to now trees ready turns works touches sound stands_for)
+            (with_rows (rows_of_turned all)) on.rows (one_turned g shape mid next room_mid room_next middle new def one to now trees ready turns works touches)
             (turns_then g shape mid next room_mid room_next middle new def one to now trees ready turns (map turned_row rest))
-            (turns_no_block g shape middle new def now trees ready.ready.stands turns.owners_now turns.forests_now turns.mid one.hit.row one.row one.hit.rid to turns.turns turns.claims) (λ table. refl) works.no_shorter;
+            (turns_no_block g shape middle new def now trees ready.ready.stands turns.table.owners_now turns.table.forests_now turns.table.mid one.hit.row one.row one.hit.rid to turns.table.turns turns.table.claims) (λ table. refl) works.no_shorter;
         has = rows_stay g shape mid next room_mid room_next middle new def one to now trees ready turns (places_of rest) on.has;
         full_on = λ full. on.full_on (full_behind g shape mid next room_mid room_next middle new def one to now trees ready turns rest on.has.rising full);
       }

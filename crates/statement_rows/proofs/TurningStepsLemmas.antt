@@ -4,7 +4,6 @@ use Rattle.std.specs.Prelude.{Option}
 use Rattle.mdc_words.specs.ByteOrder.{Entry}
 use Rattle.mdc_values.specs.declared.rid.Rid.{Rid}
 use Rattle.mdc_ast.specs.declared.definition.TableDef.{TableDef}
-use Rattle.mdc_ast.specs.Database.{Database, changed_at}
 use Rattle.store_api.specs.RunsOverPages.{RunsOverPages}
 use Rattle.store_api.specs.declared.fault.StoreFault.{StoreFault}
 use Rattle.store_api.specs.declared.pages.Pages.{Ghosts}
@@ -16,13 +15,11 @@ use Rattle.extent_map.specs.declared.kind.Kind.{Kind}
 use Rattle.extent_map.specs.declared.space_notes.SpaceNotes.{SpaceNotes}
 use Rattle.mdc_sound.specs.Placing.{block_slot_count}
 use Rattle.mdc_sound.specs.RunningFull.{UpdateRunsFull}
-use Rattle.mdc_sound.specs.SoundDatabase.{IsSoundBetweenChanges, with_table_page}
-use Rattle.mdc_sound.specs.StandingTable.{BreaksExpected, IsReadyTable, RoomNote, TableForests, pages_of}
-use Rattle.mdc_sound.specs.StandsForDatabase.{PagesStandFor, with_row}
+use Rattle.mdc_sound.specs.StandingTable.{BreaksExpected, RoomNote, TableForests, pages_of}
 use Rattle.mdc_table.specs.KnownBlocks.{IsExpectedSpace}
 use Rattle.table_blocks.specs.BlockSteps.{HasThisRow}
 use Rattle.cell_change.specs.ExpectedTables.{WithSoundIndexes}
-use Rattle.cell_change.specs.RowChanges.{ChangesOneRow, placed_at}
+use Rattle.cell_change.specs.RowChanges.{ChangesInDatabase, WhereReadyWithRow, placed_at}
 use Rattle.cell_change.proofs.OneTableLemmas.{touches_of_expected}
 use Rattle.cell_change.proofs.RowChangesLemmas.{indexes_here}
 use Rattle.cell_change.proofs.ChangedRowLemmas.{full_as}
@@ -80,15 +77,8 @@ module _ {S : Type 0} (g : Ghosts S) (shape : Shape) (before : SpaceNotes) (room
     -- the next row has become another
     pub turning_goes_on : (then : SpaceNotes) (room_then : Entry → RoomNote) (new : S) (to : Rid)
         → RunsOverPages g (IsExpectedSpace g shape s def This) (IsExpectedSpace g shape s def This) (BreaksExpected g shape s def (WithSoundIndexes g shape s def This)) s new None
-        → ((owners : List Kind) (forests : TableForests) → IsReadyTable g shape noted room_now s def owners forests → HasThisRow g shape s def one.hit.rid one.hit.row owners forests
-        → ChangesOneRow g shape noted then room_then s new def one.hit.row one.row one.hit.rid to owners forests)
-        → ((owners : List Kind) (forests : TableForests) → IsReadyTable g shape noted room_now s def owners forests → HasThisRow g shape s def one.hit.rid one.hit.row owners forests
-        → IsSoundBetweenChanges shape def (pages_of g s) → IsSoundBetweenChanges shape def (pages_of g new))
-        → ((owners : List Kind) (forests : TableForests) → IsReadyTable g shape noted room_now s def owners forests → HasThisRow g shape s def one.hit.rid one.hit.row owners forests
-        → IsSoundBetweenChanges shape def (pages_of g s) → (db : Database) → PagesStandFor shape (with_table_page def (pages_of g s)) db
-        → PagesStandFor shape (with_table_page def (pages_of g new)) (changed_at db def.number (with_row one.row)))
-        → IsTurning then room_then new rest
-    turning_goes_on then room_then new to run changes sound stands_for = record {
+        → WhereReadyWithRow g shape noted room_now s def one.hit.rid one.hit.row (ChangesInDatabase g shape noted then room_then s new def one.hit.row one.row one.hit.rid to) → IsTurning then room_then new rest
+    turning_goes_on then room_then new to run changes = record {
       runs = runs_one new None run;
       turns = λ owners forests ready has.
           let on = turning.turns owners forests ready has in
@@ -97,14 +87,13 @@ module _ {S : Type 0} (g : Ghosts S) (shape : Shape) (before : SpaceNotes) (room
           let here = on.rows.ready in
           let this = on.has.each.0 in
           turns_more g shape before noted then room_now room_then old s new def all one rest to owners forests on (changes now trees here.ready this) run.works
-          (touches_of_expected g shape s new def This now trees here.ready.stands this run.touches) (sound now trees here.ready this here.sound)
-          (stands_for now trees here.ready this here.sound);
+          (touches_of_expected g shape s new def This now trees here.ready.stands this run.touches);
     }
 
     -- it runs full
     pub full_at_one : (fault : SpaceFault)
-        → IfFull fault (λ cap. (cap ≡ shape.extents) × ((owners : List Kind) (forests : TableForests) → IsReadyTable g shape noted room_now s def owners forests → HasThisRow g shape s def one.hit.rid one.hit.row owners forests
-        → UpdateRunsFull shape (pages_of g s) def ((placed_at one.hit.rid one.hit.row, one.row) ∷ [])))
+        → IfFull fault (λ cap. (cap ≡ shape.extents) × WhereReadyWithRow g shape noted room_now s def one.hit.rid one.hit.row
+        (λ owners forests. UpdateRunsFull shape (pages_of g s) def ((placed_at one.hit.rid one.hit.row, one.row) ∷ [])))
         → IfFull fault (λ cap. (cap ≡ shape.extents) × ((owners : List Kind) (forests : TableForests) → IsReadyBetween g shape before room_of old def owners forests → HasAll owners forests
         → UpdateRunsFull shape (pages_of g old) def (map turned_row all)))
     full_at_one fault = full_as fault _ _ (λ cap is. (

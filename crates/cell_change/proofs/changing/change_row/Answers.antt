@@ -1,4 +1,4 @@
-use Rattle.std.proofs.Common.{arith, inl}
+use Rattle.std.proofs.Common.{arith}
 use Rattle.std.proofs.lemmas.Result.{IfErr-weaker, IfOk-weaker}
 use Rattle.mdc_ast.proofs.FitsLemmas.{length-fits_all}
 use Rattle.store_api.proofs.RunsOverPagesLemmas.{runs_exit_as}
@@ -7,11 +7,9 @@ use Rattle.table_trees.specs.RowCells.{AreOfOneCell}
 use Rattle.mdc_table.proofs.ReadValuesLemmas.{read_length}
 use Rattle.table_blocks.specs.BlockSteps.{HasThisRow}
 use Rattle.cell_change.proofs.MovedRunsLemmas.{runs_moved, runs_within}
-use Rattle.cell_change.proofs.ChangedRowLemmas.{deleted_no_block, full_as, moves, ready_then}
-use Rattle.cell_change.proofs.ChangedSpaceLemmas.{if_ok_both, moves_makes, update_full}
-use Rattle.cell_change.proofs.KeptOthersLemmas.{keeps_as, keeps_then}
+use Rattle.cell_change.proofs.ChangedRowLemmas.{full_as, moves, ready_then}
+use Rattle.cell_change.proofs.ChangedSpaceLemmas.{moves_makes, update_full}
 use Rattle.cell_change.proofs.OneTableLemmas.{touches_of_expected}
-use Rattle.cell_change.proofs.SoundRowsLemmas.{sound_changed}
 use Rattle.cell_change.proofs.StandsForRowLemmas.{database_changed}
 use Rattle.cell_change.proofs.changing.change_row.Given.{Over}
 use Rattle.cell_change.proofs.changing.change_row.Goals as goal
@@ -24,30 +22,20 @@ are_of_one_cell-requires-clause-b g c = omega (arith, length-fits_all c.args.def
 
 -- ---- in its place
 
-pub returns-then-are_of_one_cell-clause-stay : goal.returns-then-are_of_one_cell-clause-stay
-returns-then-are_of_one_cell-clause-stay g c owners forests ready has = keeps_as (c.in_ok-rewrite_row.ensures.stay owners forests ready has) (λ block same. inl same)
-
-pub returns-then-are_of_one_cell-clause-sound : goal.returns-then-are_of_one_cell-clause-sound
-returns-then-are_of_one_cell-clause-sound g c owners forests ready has between =
+pub returns-then-are_of_one_cell-clause-changes : goal.returns-then-are_of_one_cell-clause-changes
+returns-then-are_of_one_cell-clause-changes g c owners forests ready has =
     let shape = c.args.shape in
     let old = c.args.pages.now in
     let new = c.rewrite_row.new.pages in
     let def = c.args.def.now in
     let runs = c.in_ok-rewrite_row.ensures.runs in
-    sound_changed g.P.Pages shape old new def owners forests ready.stands c.args.was.now c.args.is.now c.args.rid c.args.rid (c.in_ok-rewrite_row.ensures.changes owners forests ready has) c.requires.number
-    (touches_of_expected g.P.Pages shape old new def (HasThisRow g.P.Pages shape old def c.args.rid c.args.was.now) owners forests ready.stands has runs.touches)
-    runs.works.no_shorter between
-
-pub returns-then-are_of_one_cell-clause-stands_for : goal.returns-then-are_of_one_cell-clause-stands_for
-returns-then-are_of_one_cell-clause-stands_for g c owners forests ready has between db stands =
-    let shape = c.args.shape in
-    let old = c.args.pages.now in
-    let new = c.rewrite_row.new.pages in
-    let def = c.args.def.now in
-    let runs = c.in_ok-rewrite_row.ensures.runs in
-    database_changed g.P.Pages shape old new def owners forests ready.stands
-    (touches_of_expected g.P.Pages shape old new def (HasThisRow g.P.Pages shape old def c.args.rid c.args.was.now) owners forests ready.stands has runs.touches)
-    runs.works.no_shorter between db stands c.args.was.now c.args.is.now c.args.rid c.args.rid (c.in_ok-rewrite_row.ensures.changes owners forests ready has) c.requires.number
+    let table = c.in_ok-rewrite_row.ensures.changes owners forests ready has in
+    record {
+      table = table;
+      database = database_changed g.P.Pages shape old new def owners forests ready.stands
+          (touches_of_expected g.P.Pages shape old new def (HasThisRow g.P.Pages shape old def c.args.rid c.args.was.now) owners forests ready.stands has runs.touches)
+          runs.works.no_shorter c.args.was.now c.args.is.now c.args.rid c.args.rid table c.requires.number;
+    }
 
 -- ---- taken out, and then put
 
@@ -60,38 +48,6 @@ returns-in_err-delete_row-clause-runs g c =
     runs_exit_as store_part_of c.from_residual-in_err-delete_row.result c.from_residual-in_err-delete_row.ensures.1
     (runs_within g.P.Pages c.args.shape c.args.pages.now c.args.def.now c.args.rid c.args.was.now c.in_err-delete_row.ensures.runs)
 
-pub returns-clause-changes : goal.returns-clause-changes
-returns-clause-changes g c =
-    if_ok_both c.put_row.result _ _ _ (λ to inserts makes owners forests ready has.
-    let shape = c.args.shape in
-    let old = c.args.pages.now in
-    let middle = c.delete_row.new.pages in
-    let def = c.args.def.now in
-    let was = c.args.was.now in
-    let is = c.args.is.now in
-    let rid = c.args.rid in
-    let out = c.in_ok-delete_row.ensures.deletes owners forests ready has in
-    let then = ready_then g.P.Pages shape old middle def was rid owners forests out ready in
-    let put = inserts out.owners_now out.forests_now then in
-    moves g.P.Pages shape old middle def was rid owners forests out c.put_row.new.pages is to put ready.stands (cells_apart g c)
-    c.in_ok-delete_row.ensures.runs.works.no_shorter c.put_row.ensures.runs.works.no_shorter
-    (moves_makes g.P.Pages shape old middle def was is rid owners forests out (cells_apart g c) has.slots has.lies (c.in_ok-delete_row.ensures.makes owners forests ready has.slots has.lies) c.put_row.new.pages to put
-    (makes out.owners_now out.forests_now then)))
-    c.put_row.ensures.inserts c.put_row.ensures.makes
-
-pub returns-clause-stay : goal.returns-clause-stay
-returns-clause-stay g c =
-    IfOk-weaker c.put_row.result _ _ (λ to stay owners forests ready has.
-    let shape = c.args.shape in
-    let old = c.args.pages.now in
-    let middle = c.delete_row.new.pages in
-    let def = c.args.def.now in
-    let was = c.args.was.now in
-    let out = c.in_ok-delete_row.ensures.deletes owners forests ready has in
-    keeps_then out.changes (deleted_no_block g.P.Pages shape old middle def was c.args.rid owners forests out ready.stands) (c.in_ok-delete_row.ensures.stay owners forests ready.stands)
-    (stay out.owners_now out.forests_now (ready_then g.P.Pages shape old middle def was c.args.rid owners forests out ready)))
-    c.put_row.ensures.stay
-
 pub returns-clause-full : goal.returns-clause-full
 returns-clause-full g c =
     IfErr-weaker c.put_row.result _ _ (λ fault. full_as fault _ _ (λ cap is. (
@@ -102,41 +58,40 @@ returns-clause-full g c =
           let middle = c.delete_row.new.pages in
           let def = c.args.def.now in
           let was = c.args.was.now in
-          let out = c.in_ok-delete_row.ensures.deletes owners forests ready has in
-          update_full g.P.Pages shape old middle def was c.args.is.now c.args.rid owners forests out (cells_apart g c) has.slots has.lies (c.in_ok-delete_row.ensures.makes owners forests ready has.slots has.lies) ready.stands
+          let out = (c.in_ok-delete_row.ensures.deletes owners forests ready.stands has).table in
+          update_full g.P.Pages shape old middle def was c.args.is.now c.args.rid owners forests out (cells_apart g c) ready.stands
           (is.1 out.owners_now out.forests_now (ready_then g.P.Pages shape old middle def was c.args.rid owners forests out ready)),
     )))
     c.put_row.ensures.full
 
 pub returns-clause-runs : goal.returns-clause-runs
 returns-clause-runs g c =
-    runs_moved g.P.Pages c.args.shape c.args.pages.now c.args.def.now c.args.rid c.args.was.now c.delete_row.new.pages c.in_ok-delete_row.ensures.leaves c.in_ok-delete_row.ensures.runs c.put_row.ensures.runs
+    runs_moved g.P.Pages c.args.shape c.args.pages.now c.args.def.now c.args.rid c.args.was.now c.delete_row.new.pages c.in_ok-delete_row.ensures.deletes c.in_ok-delete_row.ensures.runs c.put_row.ensures.runs
 
-pub returns-clause-sound : goal.returns-clause-sound
-returns-clause-sound g c =
-    IfOk-weaker c.put_row.result _ _ (λ to changes owners forests ready has between.
+pub returns-clause-changes : goal.returns-clause-changes
+returns-clause-changes g c =
+    IfOk-weaker c.put_row.result _ _ (λ to inserts owners forests ready has.
     let shape = c.args.shape in
     let old = c.args.pages.now in
+    let middle = c.delete_row.new.pages in
     let new = c.put_row.new.pages in
     let def = c.args.def.now in
+    let was = c.args.was.now in
+    let is = c.args.is.now in
+    let rid = c.args.rid in
+    let deleted = c.in_ok-delete_row.ensures in
+    let out = (deleted.deletes owners forests ready.stands has).table in
+    let put = inserts out.owners_now out.forests_now (ready_then g.P.Pages shape old middle def was rid owners forests out ready) in
+    let table = moves g.P.Pages shape old middle def was rid owners forests out new is to put ready.stands (cells_apart g c) deleted.runs.works.no_shorter c.put_row.ensures.runs.works.no_shorter
+    (moves_makes g.P.Pages shape old middle def was is rid owners forests out (cells_apart g c) new to put) (deleted.stay owners forests ready.stands) in
     let runs = returns-clause-runs g c in
-    sound_changed g.P.Pages shape old new def owners forests ready.stands c.args.was.now c.args.is.now c.args.rid to (changes owners forests ready has) c.requires.number
-    (touches_of_expected g.P.Pages shape old new def (HasThisRow g.P.Pages shape old def c.args.rid c.args.was.now) owners forests ready.stands has runs.touches)
-    runs.works.no_shorter between)
-    (returns-clause-changes g c)
-
-pub returns-clause-stands_for : goal.returns-clause-stands_for
-returns-clause-stands_for g c =
-    IfOk-weaker c.put_row.result _ _ (λ to changes owners forests ready has between db stands.
-    let shape = c.args.shape in
-    let old = c.args.pages.now in
-    let new = c.put_row.new.pages in
-    let def = c.args.def.now in
-    let runs = returns-clause-runs g c in
-    database_changed g.P.Pages shape old new def owners forests ready.stands
-    (touches_of_expected g.P.Pages shape old new def (HasThisRow g.P.Pages shape old def c.args.rid c.args.was.now) owners forests ready.stands has runs.touches)
-    runs.works.no_shorter between db stands c.args.was.now c.args.is.now c.args.rid to (changes owners forests ready has) c.requires.number)
-    (returns-clause-changes g c)
+    record {
+      table = table;
+      database = database_changed g.P.Pages shape old new def owners forests ready.stands
+          (touches_of_expected g.P.Pages shape old new def (HasThisRow g.P.Pages shape old def rid was) owners forests ready.stands has runs.touches) runs.works.no_shorter was is rid to table
+          c.requires.number;
+    })
+    c.put_row.ensures.inserts
 
 pub returns-clause-seen : goal.returns-clause-seen
 returns-clause-seen g c =

@@ -1,16 +1,11 @@
 use Rattle.store_api.proofs.RunsOverPagesLemmas.{runs_exit_as}
 use Rattle.extent_map.specs.Damages.{store_part_of}
-use Rattle.std.specs.Prelude.{slice_index_or}
 use Rattle.entry_tree.proofs.ClaimsLemmas.{if_err_by}
-use Rattle.table_trees.specs.SpaceChanges.{added_entries}
-use Rattle.table_trees.proofs.SpaceChainsLemmas.{changes_then}
-use Rattle.mdc_sound.specs.Placing.Spot.{OtherBlock}
-use Rattle.mdc_sound.specs.RunningFull.{block_changes, row_listings}
 use Rattle.mdc_sound.specs.StandingTable.{pages_of, spots_of}
 use Rattle.row_entries.proofs.RowKeysLemmas.{keys_of_fitting_row}
 use Rattle.cell_change.specs.ExpectedTables.{HasSoundIndexes}
 use Rattle.cell_change.proofs.ChangedRowLemmas.{full_as}
-use Rattle.cell_change.proofs.PuttingRowsLemmas.{entering_full, inserts, placing_full, put_stays, runs_entered, runs_standing}
+use Rattle.cell_change.proofs.PuttingRowsLemmas.{entering_full, inserts, placing_full, runs_entered, runs_standing}
 use Rattle.cell_change.proofs.putting.put_row.Goals as goal
 
 pub returns-in_err-rid-clause-full : goal.returns-in_err-rid-clause-full
@@ -56,26 +51,12 @@ returns-in_err-enter_row-clause-runs g c =
 
 pub returns-clause-inserts : goal.returns-clause-inserts
 returns-clause-inserts g c owners forests ready =
-    let places = c.in_ok-rid.ensures.places owners forests ready in
+    let placed = c.in_ok-rid.ensures in
+    let entered = c.in_ok-enter_row.ensures in
+    let places = placed.places owners forests ready in
     inserts g.P.Pages c.args.shape c.args.pages.now c.place_row.new.pages c.args.def.now c.args.row.now c.in_ok-rid.rid owners forests ready.stands c.requires.defined places c.enter_row.new.pages
-    (c.in_ok-enter_row.ensures.enters places.owners_now places.forests_now places.changes.stands) c.in_ok-rid.ensures.runs.works.no_shorter c.in_ok-enter_row.ensures.runs.works.no_shorter
-
-pub returns-clause-makes : goal.returns-clause-makes
-returns-clause-makes g c owners forests ready =
-    let shape = c.args.shape in
-    let old = c.args.pages.now in
-    let def = c.args.def.now in
-    let rid = c.in_ok-rid.rid in
-    let places = c.in_ok-rid.ensures.places owners forests ready in
-    changes_then shape (pages_of g.P.Pages old) (pages_of g.P.Pages c.place_row.new.pages) (pages_of g.P.Pages c.enter_row.new.pages)
-    (block_changes def c.args.row.now rid.block (slice_index_or (spots_of g.P.Pages shape old def owners forests) rid.block OtherBlock)) (added_entries (row_listings def c.args.row.now rid))
-    (c.in_ok-rid.ensures.makes owners forests ready) (c.in_ok-enter_row.ensures.makes places.owners_now places.forests_now places.changes.stands (places.changes.notes ready.notes))
-
-pub returns-clause-stay : goal.returns-clause-stay
-returns-clause-stay g c owners forests ready =
-    let places = c.in_ok-rid.ensures.places owners forests ready in
-    put_stays g.P.Pages c.args.shape c.args.pages.now c.place_row.new.pages c.args.def.now c.args.row.now c.in_ok-rid.rid owners forests ready.stands c.requires.defined places c.enter_row.new.pages
-    (c.in_ok-enter_row.ensures.enters places.owners_now places.forests_now places.changes.stands) (c.in_ok-rid.ensures.stay owners forests ready.stands)
+    (entered.enters places.owners_now places.forests_now places.changes.stands) placed.runs.works.no_shorter entered.runs.works.no_shorter
+    (placed.makes owners forests ready) (entered.makes places.owners_now places.forests_now places.changes.stands (places.changes.notes ready.notes)) (placed.stay owners forests ready.stands)
 
 pub returns-clause-runs : goal.returns-clause-runs
 returns-clause-runs g c =

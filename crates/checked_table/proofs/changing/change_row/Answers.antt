@@ -1,15 +1,13 @@
 use Rattle.std.proofs.Common.{[], ◌∷◌, subst}
-use Rattle.mdc_ast.specs.Database.{changed_at}
 use Rattle.table_blocks.specs.BlockSteps.{HasThisRow}
 use Rattle.table_trees.specs.ToldPages.{PageList}
 use Rattle.mdc_sound.specs.RunningFull.{UpdateRunsFull}
-use Rattle.mdc_sound.specs.StandsForDatabase.{with_row}
 use Rattle.free_space.specs.RoomNotes.{room_of}
 use Rattle.cell_change.specs.RowChanges.{placed_at}
 use Rattle.checked_table.proofs.EndingLemmas.{end_expected_change, end_unkept, full_back, whole_back}
 use Rattle.checked_table.proofs.ExactDamageLemmas.{answers_none}
 use Rattle.checked_table.proofs.MarkedChangesLemmas.{whole_kept}
-use Rattle.checked_table.proofs.SamePagesLemmas.{ready_there, row_there, sound_there, stands_for_there, stands_there, stays_between, turns_between}
+use Rattle.checked_table.proofs.SamePagesLemmas.{ready_there, row_there, stands_there, changed_between}
 use Rattle.checked_table.proofs.changing.change_row.Goals as goal
 
 pub returns-in-Ok-keep_or_undo : goal.returns-in-Ok-keep_or_undo
@@ -19,12 +17,7 @@ returns-in-Ok-keep_or_undo g c =
     let first = c.begin_change.ensures.pages in
     let keeps = c.in-Ok-keep_or_undo.ensures.keeps in
     record {
-      changes = λ owners forests ready has. turns_between first keeps.pages (c.in-Ok.ensures.changes owners forests (ready_there first ready) (row_there first has));
-      stay = λ owners forests ready has. stays_between first keeps.pages (c.in-Ok.ensures.stay owners forests (ready_there first ready) (row_there first has));
-      sound = λ owners forests ready has sound. sound_there keeps.pages (c.in-Ok.ensures.sound owners forests (ready_there first ready) (row_there first has) (sound_there first sound));
-      stands_for = λ owners forests ready has sound db is.
-          stands_for_there c.args.shape def (changed_at db def.number (with_row c.args.is.now)) keeps.pages
-          (c.in-Ok.ensures.stands_for owners forests (ready_there first ready) (row_there first has) (sound_there first sound) db (stands_for_there shape def db first is));
+      changes = λ owners forests ready has. changed_between first keeps.pages (c.in-Ok.ensures.changes owners forests (ready_there first ready) (row_there first has));
       full = tt;
       exact = λ has. answers_none g.P.Pages shape def c.args.pages.now;
       whole = whole_kept c.begin_change.ensures c.in-Ok.ensures.runs (λ p mine owners forests st has. mine owners forests (stands_there first st) (row_there first has)) keeps c.in-Ok-keep_or_undo.ensures.device;
@@ -34,7 +27,7 @@ pub returns-in-Err-keep_or_undo : goal.returns-in-Err-keep_or_undo
 returns-in-Err-keep_or_undo g c =
     let undone = c.in-Err-keep_or_undo.ensures in
     let ends = end_unkept c.args.shape c.args.def.now c.begin_change.ensures c.in-Ok.ensures.runs undone.undoes undone.device undone.damaged c.forget_notes.ensures in
-    record { changes = tt; stay = tt; sound = tt; stands_for = tt; full = tt; exact = λ has. ends.left.exact; whole = whole_back ends }
+    record { changes = tt; full = tt; exact = λ has. ends.left.exact; whole = whole_back ends }
 
 pub returns-in-Err : goal.returns-in-Err
 returns-in-Err g c =
@@ -51,9 +44,6 @@ returns-in-Err g c =
     let RunsFull : PageList → Type 0 = λ work. UpdateRunsFull shape work def ((placed_at c.args.rid c.args.was.now, c.args.is.now) ∷ []) in
     record {
       changes = tt;
-      stay = tt;
-      sound = tt;
-      stands_for = tt;
       full = full_back shape c.args.notes.now def (room_of c.args.rooms.now) (λ owners forests. HasThisRow g.P.Pages shape marked def c.args.rid c.args.was.now owners forests → RunsFull (g.P.Pages.state marked).work)
           (λ owners forests. HasThisRow g.P.Pages shape s def c.args.rid c.args.was.now owners forests → RunsFull (g.P.Pages.state s).work) c.in-Err.fault c.undo_space_change.result first
           (λ owners forests full has. subst RunsFull first.same (full (row_there first has))) undone.full c.in-Err.ensures.full;

@@ -1,14 +1,9 @@
 use Rattle.std.proofs.Common.{◌∙◌, ap, length}
-use Rattle.mdc_ast.specs.Database.{changed_at}
-use Rattle.row_page.specs.RowPage.{count_rows}
-use Rattle.table_trees.specs.SpaceChanges.{MakesChanges}
-use Rattle.mdc_sound.specs.RunningFull.{taking_changes}
-use Rattle.mdc_sound.specs.StandsForDatabase.{without_row}
 use Rattle.table_blocks.specs.BlockSteps.{HasThisRow}
 use Rattle.checked_table.proofs.EndingLemmas.{end_expected_change, end_unkept, whole_back}
 use Rattle.checked_table.proofs.ExactDamageLemmas.{answers_none}
 use Rattle.checked_table.proofs.MarkedChangesLemmas.{whole_kept}
-use Rattle.checked_table.proofs.SamePagesLemmas.{deletes_between, if_stood, lies_there, ready_there, row_there, said_between, sound_there, stands_for_there, stands_there, stays_back, stays_between}
+use Rattle.checked_table.proofs.SamePagesLemmas.{deleted_between, if_stood, row_there, stands_there, stays_back, stays_between}
 use Rattle.checked_table.proofs.deleting.delete_row.Goals as goal
 
 pub returns-in-Ok-keep_or_undo : goal.returns-in-Ok-keep_or_undo
@@ -18,15 +13,8 @@ returns-in-Ok-keep_or_undo g c =
     let first = c.begin_change.ensures.pages in
     let keeps = c.in-Ok-keep_or_undo.ensures.keeps in
     record {
-      deletes = λ owners forests ready has. deletes_between first keeps.pages (c.in-Ok.ensures.deletes owners forests (ready_there first ready) (row_there first has));
-      makes = λ owners forests ready slots lies.
-          said_between first keeps.pages (λ was is. MakesChanges shape was (taking_changes def c.args.row.now c.args.rid (count_rows slots)) is)
-          (c.in-Ok.ensures.makes owners forests (ready_there first ready) slots (lies_there shape def owners forests first lies));
+      deletes = λ owners forests st has. deleted_between first keeps.pages (c.in-Ok.ensures.deletes owners forests (stands_there first st) (row_there first has));
       stay = λ owners forests st. stays_between first keeps.pages (c.delete_row.ensures.stay owners forests (stands_there first st));
-      sound = λ owners forests ready has sound. sound_there keeps.pages (c.in-Ok.ensures.sound owners forests (ready_there first ready) (row_there first has) (sound_there first sound));
-      stands_for = λ owners forests ready has sound db is.
-          stands_for_there c.args.shape def (changed_at db def.number (without_row c.args.row.now.number)) keeps.pages
-          (c.in-Ok.ensures.stands_for owners forests (ready_there first ready) (row_there first has) (sound_there first sound) db (stands_for_there shape def db first is));
       count = ap length keeps.pages.same ∙ (c.delete_row.ensures.count ∙ ap length first.same);
       exact = λ has. answers_none g.P.Pages shape def c.args.pages.now;
       whole = whole_kept c.begin_change.ensures c.in-Ok.ensures.runs (λ p. if_stood first) keeps c.in-Ok-keep_or_undo.ensures.device;
@@ -36,7 +24,7 @@ pub returns-in-Err-keep_or_undo : goal.returns-in-Err-keep_or_undo
 returns-in-Err-keep_or_undo g c =
     let undone = c.in-Err-keep_or_undo.ensures in
     let ends = end_unkept c.args.shape c.args.def.now c.begin_change.ensures c.in-Ok.ensures.runs undone.undoes undone.device undone.damaged c.forget_notes.ensures in
-    record { deletes = tt; makes = tt; stay = λ owners forests ready. stays_back ends.left.pages.same; sound = tt; stands_for = tt; count = ap length ends.left.pages.same; exact = λ has. ends.left.exact; whole = whole_back ends }
+    record { deletes = tt; stay = λ owners forests ready. stays_back ends.left.pages.same; count = ap length ends.left.pages.same; exact = λ has. ends.left.exact; whole = whole_back ends }
 
 pub returns-in-Err : goal.returns-in-Err
 returns-in-Err g c =
@@ -45,4 +33,4 @@ returns-in-Err g c =
     let this = HasThisRow g.P.Pages c.args.shape c.args.pages.now c.args.def.now c.args.rid c.args.row.now in
     let marked = HasThisRow g.P.Pages c.args.shape c.begin_change.new.pages c.args.def.now c.args.rid c.args.row.now in
     let ends = end_expected_change this marked (λ owners forests has. row_there first has) c.begin_change.ensures c.in-Err.ensures.runs undone.undoes undone.device undone.forgets undone.exact c.requires.defined c.requires.place in
-    record { deletes = tt; makes = tt; stay = λ owners forests ready. stays_back ends.left.pages.same; sound = tt; stands_for = tt; count = ap length ends.left.pages.same; exact = ends.left.exact; whole = whole_back ends }
+    record { deletes = tt; stay = λ owners forests ready. stays_back ends.left.pages.same; count = ap length ends.left.pages.same; exact = ends.left.exact; whole = whole_back ends }

@@ -1,18 +1,14 @@
-use Rattle.std.proofs.Common.{◌≡◌, ◌+◌, [], ◌∷◌, ap, slice_index_or, subst}
+use Rattle.std.proofs.Common.{◌≡◌, ◌+◌, [], ◌∷◌, ap, subst}
 use Rattle.extent_map.specs.Damages.{store_part_of}
 use Rattle.mdc_ast.specs.declared.definition.TableDef.{TableDef}
-use Rattle.mdc_ast.specs.Database.{changed_at, appended}
-use Rattle.table_trees.specs.SpaceChanges.{MakesChanges}
 use Rattle.table_trees.specs.ToldPages.{PageList}
-use Rattle.mdc_sound.specs.Placing.{table_spots}
-use Rattle.mdc_sound.specs.Placing.Spot.{OtherBlock}
-use Rattle.mdc_sound.specs.RunningFull.{InsertRunsFull, putting_changes}
+use Rattle.mdc_sound.specs.RunningFull.{InsertRunsFull}
 use Rattle.free_space.specs.RoomNotes.{room_of}
 use Rattle.checked_table.specs.ExactDamage.{JudgesFault}
 use Rattle.checked_table.proofs.EndingLemmas.{end_indexed_change, end_unkept, full_back, whole_back}
 use Rattle.checked_table.proofs.ExactDamageLemmas.{answers_none}
 use Rattle.checked_table.proofs.MarkedChangesLemmas.{whole_kept}
-use Rattle.checked_table.proofs.SamePagesLemmas.{if_stood, inserts_between, ready_there, said_between, sound_there, stands_for_there, stays_between}
+use Rattle.checked_table.proofs.SamePagesLemmas.{if_stood, inserted_between, ready_there}
 use Rattle.checked_table.proofs.inserting.insert_row.Goals as goal
 
 -- a number that was raised and put back
@@ -25,17 +21,8 @@ returns-in-Ok-keep_or_undo g c =
     let def = c.args.def.now in
     let first = c.begin_change.ensures.pages in
     let keeps = c.in-Ok-keep_or_undo.ensures.keeps in
-    let rid = c.in-Ok.rid in
     record {
-      inserts = λ owners forests ready. inserts_between first keeps.pages (c.in-Ok.ensures.inserts owners forests (ready_there first ready));
-      makes = λ owners forests ready.
-          said_between first keeps.pages (λ was is. MakesChanges shape was (putting_changes def c.args.row.now rid (slice_index_or (table_spots shape was def owners forests.map) rid.block OtherBlock)) is)
-          (c.in-Ok.ensures.makes owners forests (ready_there first ready));
-      stay = λ owners forests ready. stays_between first keeps.pages (c.in-Ok.ensures.stay owners forests (ready_there first ready));
-      sound = λ owners forests ready sound. sound_there keeps.pages (c.in-Ok.ensures.sound owners forests (ready_there first ready) (sound_there first sound));
-      stands_for = λ owners forests ready sound db is.
-          stands_for_there c.args.shape c.insert_row.new.def (changed_at db def.number (appended (c.args.row.now.values ∷ []))) keeps.pages
-          (c.in-Ok.ensures.stands_for owners forests (ready_there first ready) (sound_there first sound) db (stands_for_there shape def db first is));
+      inserts = λ owners forests ready. inserted_between first keeps.pages (c.in-Ok.ensures.inserts owners forests (ready_there first ready));
       next = c.in-Ok.ensures.next;
       kept = tt;
       full = tt;
@@ -48,7 +35,7 @@ returns-in-Err-keep_or_undo g c =
     let undone = c.in-Err-keep_or_undo.ensures in
     let ends = end_unkept c.args.shape c.args.def.now c.begin_change.ensures c.in-Ok.ensures.runs undone.undoes undone.device undone.damaged c.forget_notes.ensures in
     let back = number_back c.args.def.now c.insert_row.new.def c.in-Ok.ensures.next in
-    record { inserts = tt; makes = tt; stay = tt; sound = tt; stands_for = tt; next = tt; kept = back; full = tt; exact = ends.left.exact; whole = whole_back ends }
+    record { inserts = tt; next = tt; kept = back; full = tt; exact = ends.left.exact; whole = whole_back ends }
 
 pub returns-in-Err : goal.returns-in-Err
 returns-in-Err g c =
@@ -62,10 +49,6 @@ returns-in-Err g c =
     let RunsFull : PageList → Type 0 = λ work. InsertRunsFull shape work def (c.args.row.now ∷ []) in
     record {
       inserts = tt;
-      makes = tt;
-      stay = tt;
-      sound = tt;
-      stands_for = tt;
       next = tt;
       kept = c.in-Err.ensures.kept;
       full = full_back shape c.args.notes.now def (room_of c.args.rooms.now) (λ owners forests. RunsFull (g.P.Pages.state c.begin_change.new.pages).work) (λ owners forests. RunsFull (g.P.Pages.state c.args.pages.now).work) c.in-Err.fault

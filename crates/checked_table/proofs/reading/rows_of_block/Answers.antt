@@ -1,13 +1,11 @@
-use Rattle.checked_table.proofs.EndingLemmas.{end_block_read, read_well}
+use Rattle.checked_table.proofs.EndingLemmas.{end_block_read, exact_where, read_well}
 use Rattle.checked_table.proofs.reading.rows_of_block.Goals as goal
 
 pub returns-in-Ok : goal.returns-in-Ok
 returns-in-Ok g c =
-    let left = read_well c.args.shape c.args.def.now c.in-Ok.ensures.runs c.rows_of_used_block.ensures.same c.requires.unmarked in
-    record { rows = c.in-Ok.ensures.rows; keyed = c.in-Ok.ensures.keyed; exact = λ has. left.exact; same = left.pages.same; unmarked = left.unmarked; steady = left.steady; device = left.device; once = c.rows_of_used_block.ensures.once }
+    record { rows = c.in-Ok.ensures.rows; keyed = c.in-Ok.ensures.keyed; leaves = exact_where (read_well c.args.shape c.args.def.now c.in-Ok.ensures.runs c.rows_of_used_block.ensures.same c.requires.unmarked); once = c.rows_of_used_block.ensures.once }
 
 pub returns-in-Err : goal.returns-in-Err
 returns-in-Err g c =
     let judged = c.exact_fault.ensures in
-    let left = end_block_read c.in-Err.ensures.runs c.rows_of_used_block.ensures.same judged.same judged.unmarked judged.steady judged.device judged.exact c.requires.defined c.requires.place in
-    record { rows = tt; keyed = tt; exact = left.exact; same = left.pages.same; unmarked = left.unmarked; steady = left.steady; device = left.device; once = tt }
+    record { rows = tt; keyed = tt; leaves = end_block_read c.in-Err.ensures.runs c.rows_of_used_block.ensures.same judged.same judged.unmarked judged.steady judged.device judged.exact c.requires.defined c.requires.place; once = tt }

@@ -45,7 +45,7 @@ loop-one-preserved g c =
     c.one-item.is in
     let said = c.in_ok-to.ensures in
     turning_goes_on g.P.Pages c.args.shape c.args.notes.now (room_of c.args.rooms.now) c.args.pages.now c.args.def.now all c.loop-one.notes (room_of c.loop-one.rooms) c.loop-one.pages one (drop (i + 1) all) turning
-    c.change_row.new.notes (room_of c.change_row.new.rooms) c.change_row.new.pages c.in_ok-to.to said.runs said.changes said.sound said.stands_for
+    c.change_row.new.notes (room_of c.change_row.new.rooms) c.change_row.new.pages c.in_ok-to.to said.runs said.changes
 
 pub returns-clause-changes : goal.returns-clause-changes
 returns-clause-changes g c owners forests ready has =

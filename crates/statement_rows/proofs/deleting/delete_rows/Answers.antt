@@ -42,7 +42,7 @@ loop-hit-preserved g c =
     record {
       deletes = row_out g.P.Pages c.args.shape c.args.notes.now c.loop-hit.notes (room_of c.args.rooms.now) (room_of c.loop-hit.rooms) c.args.pages.now c.loop-hit.pages c.args.def.now c.args.hits.now
           (drop c.loop-hit.hit-index c.args.hits.now) c.hit-item.result (drop (c.loop-hit.hit-index + 1) c.args.hits.now) split so_far.deletes c.delete_row.new.notes (room_of c.delete_row.new.rooms) c.delete_row.new.pages
-          said.deletes said.makes said.sound said.stands_for said.runs.works said.runs.touches;
+          said.deletes said.runs.works said.runs.touches;
       count = said.count ∙ so_far.count;
       runs = row_out_run g.P.Pages c.args.shape c.args.notes.now c.loop-hit.notes (room_of c.args.rooms.now) (room_of c.loop-hit.rooms) c.args.pages.now c.loop-hit.pages c.args.def.now c.args.hits.now
           (drop c.loop-hit.hit-index c.args.hits.now) c.hit-item.result (drop (c.loop-hit.hit-index + 1) c.args.hits.now) split so_far.deletes c.delete_row.new.pages None so_far.runs said.runs;

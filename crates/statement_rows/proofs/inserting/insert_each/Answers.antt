@@ -52,7 +52,7 @@ loop-values-preserved g c =
     record {
       inserts = row_in g.P.Pages c.args.shape c.args.notes.now c.loop-values.notes (room_of c.args.rooms.now) (room_of c.loop-values.rooms) c.args.pages.now c.loop-values.pages c.args.def.now c.loop-values.def c.args.tuples
           (into_iter_items c.loop-values.values-iterator) c.in-Some.values (into_iter_items c.next.new.self) split so_far.inserts c.insert_row.new.notes (room_of c.insert_row.new.rooms) c.insert_row.new.pages
-          c.insert_row.new.def c.in_ok-insert_row.field-0 said.next said.inserts said.makes said.sound said.stands_for said.runs.works said.runs.touches;
+          c.insert_row.new.def c.in_ok-insert_row.field-0 said.next said.inserts said.runs.works said.runs.touches;
       fit = fits_on c.args.def.now c.loop-values.def c.insert_row.new.def (into_iter_items c.loop-values.values-iterator) (into_iter_items c.next.new.self) c.in-Some.values said.next split so_far.fit;
       number = number_on (c.args.def.now.next + length c.args.tuples) c.loop-values.def c.insert_row.new.def (into_iter_items c.loop-values.values-iterator) (into_iter_items c.next.new.self) c.in-Some.values said.next split so_far.number;
       raised = raised_on c.args.def.now c.loop-values.def c.insert_row.new.def so_far.raised said.next;
