@@ -21,8 +21,9 @@ use Rattle.mdc_sound.proofs.ElementsLemmas.{contains_flat}
 use Rattle.mdc_ast.specs.TableLimits.{IsTableDef}
 use Rattle.mdc_sound.proofs.DefinitionTreesLemmas.{has_block_indexes}
 use Rattle.table_trees.proofs.TableTreesLemmas.{AreColumns}
-use Rattle.table_trees.specs.RowCells.{cell_places}
+use Rattle.table_trees.specs.RowCells.{AreOfOneCell, cell_places}
 use Rattle.table_trees.specs.TableTrees.{rising_parts}
+use Rattle.rollout.specs.Applying.{is_dimension}
 use Rattle.rollout.specs.CellRows.{HasCellValues, IsRowOfCell}
 
 -- ---- values that fit
@@ -208,3 +209,9 @@ row_is_of_cell def places cell made number are many fit has = record {
       let at = place_of places column (subst (λ ps. Contains ps column) (sym are) (dimension_there def.dims column dimension)) in
       ap (value_at made) (sym at.2) ∙ has.same values (is ∙ ap (map (value_at values)) (sym are)) at.0 at.1 ∙ ap (value_at values) at.2;
 }
+
+-- rows of one cell have the same value in each dimension column
+pub agree_on_dimensions : (def : TableDef) (a b : List Value) → AreOfOneCell def a b → (column : ℕ) → is_dimension def column ≡ true → value_at a column ≡ value_at b column
+agree_on_dimensions def a b same column dimension =
+    let at = place_of (cell_places def) column (dimension_there def.dims column dimension) in
+    ap (value_at a) (sym at.2) ∙ sym (value_in_place (cell_places def) a at.0 at.1) ∙ ap (λ (values : List Value). get_or values at.0 Null) same ∙ value_in_place (cell_places def) b at.0 at.1 ∙ ap (value_at b) at.2

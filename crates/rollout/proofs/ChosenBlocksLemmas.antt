@@ -1,15 +1,13 @@
 -- Which blocks of those that are listed are rolled out, and what becomes of the spots.
-use Rattle.std.proofs.Common.{◌≡◌, ◌≢◌, ◌<◌, ◌∙◌, ◌⊎◌, ◌++◌, ℕ, zero, suc, List, [], ◌∷◌, true, false, get_or, length, set, refl, sym, ap, subst, arith, inl, inr}
+use Rattle.std.proofs.Common.{◌≡◌, ◌≢◌, ◌<◌, ◌∙◌, ◌⊎◌, ◌++◌, ℕ, zero, suc, List, [], ◌∷◌, true, false, get_or, length, refl, sym, ap, subst, arith, inl, inr}
 use Rattle.std.specs.Prelude.{AllPairs, Contains, Option, Some, slice_index_or}
-use Rattle.std.proofs.lemmas.Bool.{cases_eq, cases_lt}
-use Rattle.std.proofs.lemmas.List.{get_or-set_other, get_or-set_same, get_or_past, length-set}
 use Rattle.std.proofs.lemmas.List.Elements.{Contains-append_cases}
 use Rattle.mdc_ast.specs.declared.predicate.Pred.{Pred}
 use Rattle.mdc_ast.specs.declared.row.Row.{Row}
 use Rattle.block_index.specs.declared.listed_cells.CellBlock.{CellBlock}
 use Rattle.block_map.proofs.MapLinesLemmas.{contains_cases, contains_more}
 use Rattle.mdc_sound.specs.Placing.{Spot}
-use Rattle.mdc_sound.specs.Placing.Spot.{OtherBlock, FreeBlock, UsedBlock}
+use Rattle.mdc_sound.specs.Placing.Spot.{OtherBlock, UsedBlock}
 use Rattle.rollout.specs.RolledBlocks.{is_chosen}
 
 -- ---- which blocks
@@ -27,11 +25,11 @@ pub data Chooses (spots : List Spot) (pred : Option Pred) : List CellBlock → L
   takes : {front all : List CellBlock} {blocks more : List ℕ} (one : CellBlock) → Chooses spots pred front blocks → AllChosen spots pred one.block → all ≡ front ++ one ∷ [] → more ≡ blocks ++ one.block ∷ [] → Chooses spots pred all more
   leaves : {front all : List CellBlock} {blocks : List ℕ} (one : CellBlock) → Chooses spots pred front blocks → NoneChosen spots pred one.block → all ≡ front ++ one ∷ [] → Chooses spots pred all blocks
 
-in_front : {X : Type 0} (xs ys : List X) (x : X) → Contains xs x → Contains (xs ++ ys) x
+pub in_front : {X : Type 0} (xs ys : List X) (x : X) → Contains xs x → Contains (xs ++ ys) x
 in_front [] ys x there = absurd (omega (arith, there.1))
 in_front (y ∷ xs) ys x there = elim (contains_cases x y xs there) [ inl here ↦ (0, omega arith, here) | inr later ↦ contains_more x y (xs ++ ys) (in_front xs ys x later) ]
 
-in_back : {X : Type 0} (xs ys : List X) (x : X) → Contains ys x → Contains (xs ++ ys) x
+pub in_back : {X : Type 0} (xs ys : List X) (x : X) → Contains ys x → Contains (xs ++ ys) x
 in_back [] ys x there = there
 in_back (y ∷ xs) ys x there = contains_more x y (xs ++ ys) (in_back xs ys x there)
 
@@ -86,51 +84,3 @@ differ_more (b ∷ blocks) block differ new zero (suc j) d low high same =
     first_apart b blocks differ (k, low, at) = differ 0 (suc k) b (omega arith) (omega (arith, low)) (sym at)
 differ_more (b ∷ blocks) block differ new (suc i) (suc j) d low high same =
     differ_more blocks block (λ i j d low high. differ (suc i) (suc j) d (omega (arith, low)) (omega (arith, high))) (λ there. new (contains_more block b blocks there)) i j d (omega (arith, low)) (omega (arith, high)) same
-
--- ---- spots that become Free
-
-abbrev pub freed : List ℕ → List Spot → List Spot
-freed [] spots = spots
-freed (block ∷ blocks) spots = freed blocks (set spots block FreeBlock)
-
-pub freed_more : (blocks : List ℕ) (block : ℕ) (spots : List Spot) → freed (blocks ++ block ∷ []) spots ≡ set (freed blocks spots) block FreeBlock
-freed_more [] block spots = refl
-freed_more (b ∷ blocks) block spots = freed_more blocks block (set spots b FreeBlock)
-
-pub length-freed : (blocks : List ℕ) (spots : List Spot) → length (freed blocks spots) ≡ length spots
-length-freed [] spots = refl
-length-freed (b ∷ blocks) spots = length-freed blocks (set spots b FreeBlock) ∙ length-set spots b FreeBlock
-
--- one that isn't among them stays
-pub freed_other : (blocks : List ℕ) (spots : List Spot) (e : ℕ) → (Contains blocks e → ⊥) → get_or (freed blocks spots) e OtherBlock ≡ get_or spots e OtherBlock
-freed_other [] spots e out = refl
-freed_other (b ∷ blocks) spots e out =
-    freed_other blocks (set spots b FreeBlock) e (λ there. out (contains_more e b blocks there)) ∙ get_or-set_other spots b e FreeBlock OtherBlock (λ same. out (0, omega arith, sym same))
-
-freed_still : (blocks : List ℕ) (spots : List Spot) (e : ℕ) → get_or spots e OtherBlock ≡ FreeBlock → get_or (freed blocks spots) e OtherBlock ≡ FreeBlock
-freed_still [] spots e is = is
-freed_still (b ∷ blocks) spots e is = freed_still blocks (set spots b FreeBlock) e (elim (cases_eq e b) [
-  | inl same ↦ elim (cases_lt e (length spots)) [
-    | inl low ↦ ap (λ i. get_or (set spots b FreeBlock) i OtherBlock) same ∙ get_or-set_same spots b FreeBlock OtherBlock (omega (arith, low, same))
-    | inr past ↦ (let wrong : OtherBlock ≡ FreeBlock = sym (get_or_past spots e OtherBlock past) ∙ is in absurd (cc))
-  ]
-  | inr other ↦ get_or-set_other spots b e FreeBlock OtherBlock other ∙ is
-])
-
--- and one that is is Free
-pub freed_there : (blocks : List ℕ) (spots : List Spot) (e : ℕ) → Contains blocks e → e < length spots → get_or (freed blocks spots) e OtherBlock ≡ FreeBlock
-freed_there [] spots e there low = absurd (omega (arith, there.1))
-freed_there (b ∷ blocks) spots e there low = elim (contains_cases e b blocks there) [
-  | inl here ↦ freed_still blocks (set spots b FreeBlock) e (ap (λ i. get_or (set spots b FreeBlock) i OtherBlock) (sym here) ∙ get_or-set_same spots b FreeBlock OtherBlock (omega (arith, low, here)))
-  | inr later ↦ freed_there blocks (set spots b FreeBlock) e later (omega (arith, low, length-set spots b FreeBlock))
-]
-
-pub in_or_not : (x : ℕ) (xs : List ℕ) → Contains xs x ⊎ (Contains xs x → ⊥)
-in_or_not x [] = inr (λ there. omega (arith, there.1))
-in_or_not x (y ∷ xs) = elim (cases_eq y x) [
-  | inl same ↦ inl (0, omega arith, same)
-  | inr other ↦ elim (in_or_not x xs) [
-    | inl later ↦ inl (contains_more x y xs later)
-    | inr out ↦ inr (λ there. elim (contains_cases x y xs there) [ inl here ↦ other here | inr later ↦ out later ])
-  ]
-]

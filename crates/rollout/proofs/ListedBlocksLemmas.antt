@@ -1,10 +1,10 @@
 -- What the composite index of a table that stands lists: each Used block once, under the cell of its rows.
-use Rattle.std.proofs.Common.{◌≡◌, ◌≢◌, ◌<◌, ◌^◌, ◌∙◌, true, false, ℕ, zero, suc, List, [], ◌∷◌, get_or, length, map, refl, sym, ap, subst, arith, inl, inr}
+use Rattle.std.proofs.Common.{◌≡◌, ◌≢◌, ◌<◌, ◌^◌, ◌∙◌, false, ℕ, zero, suc, List, [], ◌∷◌, get_or, length, map, refl, sym, ap, subst, arith}
 use Rattle.std.specs.Prelude.{AllPairs, Contains, IsTrue, None}
 use Rattle.std.specs.List.{AllByRecursion, AllZip}
 use Rattle.std.proofs.lemmas.List.Elements.{Contains-get_or}
 use Rattle.std.proofs.lemmas.Slice.Zip.{AllZip-long}
-use Rattle.mdc_words.specs.ByteOrder.{Entry, below}
+use Rattle.mdc_words.specs.ByteOrder.{Entry}
 use Rattle.mdc_values.specs.declared.value.Value.{Value}
 use Rattle.mdc_ast.specs.Database.{fits_all}
 use Rattle.mdc_ast.specs.FittingRows.{RowFits}
@@ -16,12 +16,10 @@ use Rattle.store_api.specs.declared.pages.Pages.{Ghosts}
 use Rattle.store_api.specs.declared.shape.Shape.{Shape}
 use Rattle.extent_map.specs.declared.kind.Kind.{Kind}
 use Rattle.key_codec.proofs.KeyLemmas.{first_there, type_at_part}
-use Rattle.entry_tree.specs.EntryBounds.{Climbs, Rises}
 use Rattle.entry_tree.specs.Forest.{leaf_entries}
-use Rattle.entry_tree.proofs.EntryBoundsLemmas.{below_itself, below_trans}
 use Rattle.entry_tree.proofs.LeafFromLemmas.{Fits-entries}
 use Rattle.block_map.specs.MapLines.{used_blocks}
-use Rattle.block_map.proofs.MapLinesLemmas.{contains_cases}
+use Rattle.block_map.proofs.RisingEntriesLemmas.{rising_differ}
 use Rattle.block_index.specs.Cells.{entry_under}
 use Rattle.block_index.specs.ListedCells.{AreCellEntries, AreOfTypes, IsCellEntry}
 use Rattle.block_index.specs.declared.listed_cells.CellBlock.{CellBlock}
@@ -50,30 +48,6 @@ zip_at R [] ys k d e all low = absurd (omega (arith, low))
 zip_at R (x ∷ xs) [] k d e all low = absurd all
 zip_at R (x ∷ xs) (y ∷ ys) zero d e all low = all.0
 zip_at R (x ∷ xs) (y ∷ ys) (suc k) d e all low = zip_at R xs ys k d e all.1 (omega (arith, low))
-
--- ---- entries that rise
-
-climbs_above : (x : Entry) (xs : List Entry) (z : Entry) → Climbs x None xs → Contains xs z → below x z ≡ true
-climbs_above x [] z climbs (k, low, at) = absurd (omega (arith, low))
-climbs_above x (y ∷ ys) z climbs there = elim (contains_cases z y ys there) [
-  | inl is ↦ subst (λ (e : Entry). below x e ≡ true) is climbs.0
-  | inr c ↦ below_trans x y z climbs.0 (climbs_above y ys z climbs.2 c)
-]
-
-rises_behind : (x : Entry) (xs : List Entry) → Climbs x None xs → Rises None None xs
-rises_behind x [] climbs = tt
-rises_behind x (y ∷ ys) climbs = (tt, tt, climbs.2)
-
--- differ
-rising_differ : (xs : List Entry) → Rises None None xs → AllPairs (λ a b. a ≢ b) xs
-rising_differ [] rises i j d low high same = omega (arith, high)
-rising_differ (x ∷ xs) rises i zero d low high same = omega (arith, low)
-rising_differ (x ∷ xs) rises zero (suc j) d low high same =
-    let above : below x (get_or xs j d) ≡ true = climbs_above x xs (get_or xs j d) rises.2 (Contains-get_or xs j d (omega (arith, high))) in
-    let itself : below x x ≡ true = subst (λ (e : Entry). below x e ≡ true) (sym same) above in
-    let not : below x x ≡ false = below_itself x in
-    cc
-rising_differ (x ∷ xs) rises (suc i) (suc j) d low high same = rising_differ xs (rises_behind x xs rises.2) i j d (omega (arith, low)) (omega (arith, high)) same
 
 -- ---- cells
 

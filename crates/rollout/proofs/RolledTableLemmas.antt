@@ -28,25 +28,27 @@ use Rattle.mdc_table.proofs.KeptRoomsLemmas.{rooms_forgotten}
 use Rattle.cell_change.proofs.SpotStepsLemmas.{returns_leave, used_back}
 use Rattle.rollout.specs.RolledBlocks.{RollsOutRows, is_chosen}
 use Rattle.rollout.specs.declared.rolling.RolledOut.{RolledOut}
-use Rattle.rollout.proofs.ChosenBlocksLemmas.{AllChosen, NoneChosen, chosen_listed, freed, freed_other, freed_there, in_or_not, length-freed, listed_chosen}
+use Rattle.table_scan.proofs.ChoosingLemmas.{in_or_not}
+use Rattle.rollout.proofs.ChosenBlocksLemmas.{AllChosen, NoneChosen, chosen_listed, listed_chosen}
 use Rattle.rollout.proofs.ListedBlocksLemmas.{found_all, found_block}
 use Rattle.rollout.proofs.RollingTableLemmas.{RollsSome, rows_of, spot_back}
+use Rattle.rollout.proofs.TurnedSpotsLemmas.{freed, length-turned, turned_other, turned_there}
 
-zip_from : (R : Spot → Spot → Type 0) (xs ys : List Spot) → length xs ≡ length ys → ((e : ℕ) → e < length xs → R (get_or xs e OtherBlock) (get_or ys e OtherBlock)) → AllZip R xs ys
+pub zip_from : (R : Spot → Spot → Type 0) (xs ys : List Spot) → length xs ≡ length ys → ((e : ℕ) → e < length xs → R (get_or xs e OtherBlock) (get_or ys e OtherBlock)) → AllZip R xs ys
 zip_from R [] [] same each = tt
 zip_from R [] (y ∷ ys) same each = absurd (omega (arith, same))
 zip_from R (x ∷ xs) [] same each = absurd (omega (arith, same))
 zip_from R (x ∷ xs) (y ∷ ys) same each = (each 0 (omega arith), zip_from R xs ys (omega (arith, same)) (λ e low. each (suc e) (omega (arith, low))))
 
 -- a spot with a row that qualifies
-record HasSuch (chosen : Row → Bool) (spot : Spot) : Type 0 where
-  slots : List (Option Row)
-  is : spot ≡ UsedBlock slots
-  row : Row
-  there : Contains slots (Some row)
-  such : IsTrue (chosen row)
+pub record HasSuch (chosen : Row → Bool) (spot : Spot) : Type 0 where
+  pub slots : List (Option Row)
+  pub is : spot ≡ UsedBlock slots
+  pub row : Row
+  pub there : Contains slots (Some row)
+  pub such : IsTrue (chosen row)
 
-has_such : (chosen : Row → Bool) (spot : Spot) → HasChosenRow chosen spot → HasSuch chosen spot
+pub has_such : (chosen : Row → Bool) (spot : Spot) → HasChosenRow chosen spot → HasSuch chosen spot
 has_such chosen FreeExtent has = absurd has
 has_such chosen IndexExtent has = absurd has
 has_such chosen OtherBlock has = absurd has
@@ -108,8 +110,8 @@ module _ {S : Type 0} (g : Ghosts S) (shape : Shape) (def : TableDef) (defined :
 
   rolled_at : (e : ℕ) → e < length spots_then → RollsOutSpot (is_chosen pred) FreeBlock (get_or spots_then e OtherBlock) (get_or (freed some.blocks spots_then) e OtherBlock)
   rolled_at e low = elim (in_or_not e some.blocks) [
-    | inl there ↦ subst (RollsOutSpot (is_chosen pred) FreeBlock (get_or spots_then e OtherBlock)) (sym (freed_there some.blocks spots_then e there low)) (RollsOutSpot.goes (is_rolled e there))
-    | inr out ↦ subst (RollsOutSpot (is_chosen pred) FreeBlock (get_or spots_then e OtherBlock)) (sym (freed_other some.blocks spots_then e out)) (RollsOutSpot.stays (λ has. out (is_among e has)))
+    | inl there ↦ subst (RollsOutSpot (is_chosen pred) FreeBlock (get_or spots_then e OtherBlock)) (sym (turned_there FreeBlock some.blocks spots_then e there low)) (RollsOutSpot.goes (is_rolled e there))
+    | inr out ↦ subst (RollsOutSpot (is_chosen pred) FreeBlock (get_or spots_then e OtherBlock)) (sym (turned_other FreeBlock some.blocks spots_then e out)) (RollsOutSpot.stays (λ has. out (is_among e has)))
   ]
 
   -- the rows that went qualify
@@ -128,7 +130,7 @@ module _ {S : Type 0} (g : Ghosts S) (shape : Shape) (def : TableDef) (defined :
       let spot : slice_index_or spots_now block OtherBlock ≡ UsedBlock slots = used_spot shape (pages_of g now) def some.owners_now some.forests_now.map block OtherBlock some.changes.stands.map used in
       let slot = slot_of_placed block 0 slots placed here in
       let out : Contains some.blocks block → ⊥ = λ went.
-      let wrong : FreeBlock ≡ UsedBlock slots = sym (freed_there some.blocks spots_then block went (some.within block went)) ∙ used_back returns_leave (freed some.blocks spots_then) spots_now some.spots block slots spot in
+      let wrong : FreeBlock ≡ UsedBlock slots = sym (turned_there FreeBlock some.blocks spots_then block went (some.within block went)) ∙ used_back returns_leave (freed some.blocks spots_then) spots_now some.spots block slots spot in
       absurd cc in
       let was = spot_back g shape def pred old owners forests now found rolled some block slots out spot in
       stayed block slots was out slots was placed.row slot.0)
@@ -139,7 +141,7 @@ module _ {S : Type 0} (g : Ghosts S) (shape : Shape) (def : TableDef) (defined :
     forests_now = some.forests_now;
     changes = some.changes;
     rooms = rooms_forgotten def room_of spots_now forgotten;
-    rolls = record { rolled = freed some.blocks spots_then; each = zip_from (RollsOutSpot (is_chosen pred) FreeBlock) spots_then (freed some.blocks spots_then) (sym (length-freed some.blocks spots_then)) rolled_at; returned = some.spots };
+    rolls = record { rolled = freed some.blocks spots_then; each = zip_from (RollsOutSpot (is_chosen pred) FreeBlock) spots_then (freed some.blocks spots_then) (sym (length-turned FreeBlock some.blocks spots_then)) rolled_at; returned = some.spots };
     gone = rows_of spots_then some.blocks;
     entries = some.entries;
     rows = some.whole;

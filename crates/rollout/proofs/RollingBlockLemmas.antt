@@ -1,5 +1,5 @@
 -- A block that is rolled out: its rows leave the record indexes, and then it is made Free.
-use Rattle.std.proofs.Common.{◌≡◌, ◌≤◌, ◌∙◌, ◌++◌, ℕ, zero, suc, List, [], ◌∷◌, None, Some, length, set, refl, sym, ap, subst, arith, inl, inr, append_assoc}
+use Rattle.std.proofs.Common.{◌≡◌, ◌≤◌, ◌∙◌, ◌++◌, ℕ, List, [], ◌∷◌, None, Some, length, set, refl, sym, ap, subst, arith, inl, inr, append_assoc}
 use Rattle.std.specs.Prelude.{Contains, IsPermutation, Option, flat_map, slice_index_or}
 use Rattle.std.specs.List.{AllZip}
 use Rattle.std.proofs.lemmas.Bool.{eq-eqb}
@@ -11,6 +11,7 @@ use Rattle.mdc_ast.specs.TableLimits.{IsTableDef}
 use Rattle.mdc_ast.specs.declared.definition.IndexDef.{IndexDef}
 use Rattle.mdc_ast.specs.declared.definition.TableDef.{TableDef}
 use Rattle.mdc_ast.specs.declared.row.Row.{Row}
+use Rattle.store_api.specs.Fetching.{BringsOnly}
 use Rattle.store_api.specs.Frame.{NoPage}
 use Rattle.store_api.specs.RunsOverPages.{RunsOverPages}
 use Rattle.store_api.specs.declared.fault.Damage.{Damage}
@@ -24,6 +25,7 @@ use Rattle.entry_tree.specs.Forest.{Forest, leaf_entries, times}
 use Rattle.row_page.specs.RowPage.{count_rows}
 use Rattle.block_map.specs.BlockMaps.{HasRow}
 use Rattle.block_map.specs.Counting.{used_row}
+use Rattle.block_map.specs.declared.state.BlockState.TheVariants as state
 use Rattle.block_map.specs.MapLines.{MapLine, map_line, map_lines, pending_blocks, used_blocks}
 use Rattle.block_map.proofs.MapLinesLemmas.{contains_cases, in_state_named}
 use Rattle.block_index.specs.declared.listed_cells.CellBlock.{CellBlock}
@@ -32,15 +34,15 @@ use Rattle.table_trees.specs.TableTrees.{map_place}
 use Rattle.table_trees.specs.ToldPages.{PageList}
 use Rattle.table_trees.specs.TreesBeside.{HoldsTreeAt, IsTreePageAt}
 use Rattle.mdc_sound.specs.BlockRules.{IsSoundIndex, IsUsedCountSound}
-use Rattle.mdc_sound.specs.Placing.{Spot, SpotsAfterReturns}
+use Rattle.mdc_sound.specs.Placing.{AfterReturns, Spot, SpotsAfterReturns}
 use Rattle.mdc_sound.specs.Placing.Spot.{FreeBlock, OtherBlock, UsedBlock}
-use Rattle.mdc_sound.specs.StandingTable.{BreaksExpected, StandsTable, TableForests, pages_of, spots_of}
+use Rattle.mdc_sound.specs.StandingTable.{BreaksExpected, IsPageOfBlock, StandsTable, TableForests, pages_of, spots_of}
 use Rattle.mdc_sound.specs.TableRows.{PlacedRow, block_slots, rows_from_slot, rows_in_block, rows_in_table}
 use Rattle.mdc_sound.proofs.BlockRulesLemmas.{each_of}
 use Rattle.mdc_sound.proofs.ElementsLemmas.{entry_in, from_map}
 use Rattle.mdc_sound.proofs.SlotRowsLemmas.{length-rows_from_slot}
 use Rattle.mdc_sound.proofs.TableSpotsLemmas.{used_of_spot}
-use Rattle.table_blocks.specs.BlockSteps.{ExpectsReleasing}
+use Rattle.table_blocks.specs.BlockSteps.{ExpectsReleasing, TurnsReleased}
 use Rattle.table_blocks.proofs.FillBegunLemmas.{row_keys}
 use Rattle.table_blocks.proofs.ListedCellsLemmas.{listed_in_cell}
 use Rattle.table_blocks.proofs.OpeningLemmas.{used_spot_now}
@@ -49,25 +51,17 @@ use Rattle.mdc_table.specs.TableReading.{HasUsedBlock}
 use Rattle.row_entries.specs.RowEntries.{IsTreeOrMapPageOfTable, with_indexes}
 use Rattle.row_entries.proofs.SoundEntriesLemmas.{sound_same}
 use Rattle.row_entries.proofs.StandingRowsLemmas.{lie_apart}
-use Rattle.cell_change.proofs.SpotStepsLemmas.{returns_leave, returns_then, used_on}
+use Rattle.cell_change.proofs.SpotStepsLemmas.{returns_leave, returns_then, set_both, used_on}
 use Rattle.cell_change.proofs.TableStepsLemmas.{changes_table_then}
 use Rattle.cell_change.specs.ExpectedTables.{HasSoundIndexes}
 use Rattle.rollout.specs.LeavingRows.{HaveTheirEntries, IsLeavingPage, IsUsedWithEntries, LeavesBlockRows, LeavesRows}
-use Rattle.rollout.specs.RolledBlocks.{FreesBlock, IsBlockOfCell, LosesRows, RollsBlock}
+use Rattle.rollout.specs.RolledBlocks.{IsBlockOfCell, LosesRows, RollsBlock}
+use Rattle.rollout.specs.RolledPages.{BringsRowsOnce}
 use Rattle.rollout.specs.RollingCells.{ExpectsRolling}
 use Rattle.rollout.proofs.LeavingRowsLemmas.{no_block_left, no_tree_page, tree_before}
 use Rattle.rollout.proofs.LookedTableLemmas.{changes_looked, page_looked, spots_looked, stands_looked}
 use Rattle.rollout.proofs.LosingRowsLemmas.{apart_moved}
-
--- ---- spots
-
--- the same spot is set in both
-pub set_both : (xs ys : List Spot) (i : ℕ) (spot : Spot) → SpotsAfterReturns xs ys → SpotsAfterReturns (set xs i spot) (set ys i spot)
-set_both [] [] i spot all = all
-set_both [] (y ∷ ys) i spot all = absurd all
-set_both (x ∷ xs) [] i spot all = absurd all
-set_both (x ∷ xs) (y ∷ ys) zero spot all = (returns_change.stays spot, all.1)
-set_both (x ∷ xs) (y ∷ ys) (suc i) spot all = (all.0, set_both xs ys i spot all.1)
+use Rattle.rollout.proofs.RowsOnceLemmas.{counted_then, no_row_page, none_counted}
 
 -- ---- the rows of one block among all
 
@@ -179,7 +173,7 @@ module _ {S : Type 0} (g : Ghosts S) (shape : Shape) (def : TableDef) (defined :
     -- the block is rolled out
     pub rolls_block : {noted : SpaceNotes} (new : S) → length (g.state looked).work ≤ length (g.state mid).work → length (g.state mid).work ≤ length (g.state new).work
         → ((owners : List Kind) (forests : TableForests) → StandsTable g shape mid def owners forests → ExpectsReleasing def (used_row one.block rows) one.cell owners forests
-        → FreesBlock g shape between noted mid new def one.block owners forests)
+        → TurnsReleased g shape between noted mid new def one.block state.Free owners forests)
         → RollsBlock g shape before noted old new def one.block rows owners forests
     rolls_block {noted} new longer still_longer turns =
         let at = midway in
@@ -200,7 +194,7 @@ module _ {S : Type 0} (g : Ghosts S) (shape : Shape) (def : TableDef) (defined :
           owned = λ e. freed.owned e ∙ at.left.table.owned e;
           pages = λ p some. omega (arith, freed.pages p some, no_tree_page g shape def looked mid (rows_from_slot one.block 0 is.slots) owners forests at.left p);
           entries = subst (λ (trees : List Forest). LosesRows def forests.indexes (rows_from_slot one.block 0 is.slots) trees) (sym freed.turns.records) at.left.lose;
-          spots = returns_then (set spots_old one.block FreeBlock) (set spots_mid one.block FreeBlock) spots_new (set_both spots_old spots_mid one.block FreeBlock at.spots) freed.turns.spots;
+          spots = returns_then (set spots_old one.block FreeBlock) (set spots_mid one.block FreeBlock) spots_new (set_both AfterReturns spots_old spots_mid one.block FreeBlock (returns_change.stays FreeBlock) at.spots) freed.turns.spots;
         }
 
 -- ---- where a call failed
@@ -261,3 +255,23 @@ module _ {S : Type 0} (g : Ghosts S) (shape : Shape) (def : TableDef) (defined :
             let used = used_of_line forests.map one.block rows (line forests.map st.trees.held.0) in
             let left = leaves owners forests (stands_looked g shape old looked def told work owners forests st) used in
             tree_before g shape def looked mid (rows_in_block shape (pages_of g looked) def one.block) owners forests left p mine
+
+-- ---- which pages came
+
+module _ {S : Type 0} (g : Ghosts S) (shape : Shape) (def : TableDef) (defined : IsTableDef def.number def) (old : S) (one : CellBlock) (looked : S) (told : (g.state looked).is_told ≡ (g.state old).is_told) (work : (g.state looked).work ≡ (g.state old).work) where
+  -- each of its pages came to hand at most once, and no other row page
+  pub once_rolled : {before between : SpaceNotes} (mid : S) (rows : ℕ) (line : (t : Forest) → HoldsTreeAt g old (map_place def) t → Contains (map_lines t) (record { block = one.block; state = 1; rows = rows }))
+      → (leaves : (owners : List Kind) (forests : TableForests) → StandsTable g shape looked def owners forests → LeavesBlockRows g shape before between looked mid def one.block owners forests)
+      → (owners : List Kind) (forests : TableForests) → StandsTable g shape old def owners forests → (new : S) → BringsOnly g (IsTreePageAt g old (map_place def)) old looked
+      → ((owners : List Kind) (forests : TableForests) → StandsTable g shape looked def owners forests → BringsRowsOnce g shape looked mid def owners (IsPageOfBlock shape one.block))
+      → BringsOnly g (IsTreeOrMapPageOfTable g shape mid def) mid new → BringsRowsOnce g shape old new def owners (IsPageOfBlock shape one.block)
+  once_rolled mid rows line leaves owners forests st new first second third =
+      let st_looked = stands_looked g shape old looked def told work owners forests st in
+      let used = used_of_line forests.map one.block rows (line forests.map st.trees.held.0) in
+      let left = leaves owners forests st_looked used in
+      let apart = no_row_page shape old def owners forests st in
+      counted_then {First = IsPageOfBlock shape one.block} {Second = NoPage}
+      (counted_then {First = NoPage} {Second = IsPageOfBlock shape one.block} (none_counted first (λ p counts is. apart p counts (map_page_of_table g shape def defined old one p is owners forests st))) (second owners forests st_looked)
+      (λ p counts none is. none) (λ p none. absurd none) (λ p is. is))
+      (none_counted third (λ p counts mine. apart p counts (tree_before g shape def looked mid (rows_in_block shape (pages_of g looked) def one.block) owners forests left p mine)))
+      (λ p counts is none. none) (λ p is. is) (λ p none. absurd none)

@@ -23,7 +23,7 @@ use Rattle.block_map.proofs.MapLinesLemmas.{contains_more}
 use Rattle.block_index.specs.declared.listed_cells.CellBlock.{CellBlock}
 use Rattle.table_trees.specs.TreesBeside.{table_of_block}
 use Rattle.mdc_sound.specs.BlockRules.{IsSoundIndex, block_in_entry, entry_of_row}
-use Rattle.mdc_sound.specs.Placing.{Spot, SpotsAfterReturns, rows_from_spot, rows_in_spot}
+use Rattle.mdc_sound.specs.Placing.{AfterReturns, Spot, SpotsAfterReturns, rows_from_spot, rows_in_spot}
 use Rattle.mdc_sound.specs.Placing.Spot.{FreeBlock, OtherBlock, PendingBlock, UsedBlock}
 use Rattle.mdc_sound.specs.StandingTable.{ChangesTable, StandsTable, TableForests, forests_in_order, pages_of, spots_of}
 use Rattle.mdc_sound.specs.TableRows.{PlacedRow, rows_from_slot, rows_in_table}
@@ -34,19 +34,21 @@ use Rattle.mdc_sound.proofs.MappedBlocksLemmas.{few_extents}
 use Rattle.mdc_sound.proofs.PlacingLemmas.{cut_rows, rows_returned}
 use Rattle.mdc_sound.proofs.SlotRowsLemmas.{length-rows_from_slot}
 use Rattle.mdc_sound.proofs.TableSpotsLemmas.{length-spots}
+use Rattle.table_blocks.proofs.SpotChangesLemmas.{returns_change}
 use Rattle.mdc_table.proofs.KeptRoomsLemmas.{used_below}
 use Rattle.row_entries.specs.SoundEntries.{StayPending}
 use Rattle.row_entries.proofs.PendingSpotsLemmas.{stay_returned}
 use Rattle.row_entries.proofs.StandingRowsLemmas.{lie_apart, pending_by_spot}
 use Rattle.cell_change.specs.ExpectedTables.{HasSoundIndexes}
-use Rattle.cell_change.proofs.SpotStepsLemmas.{returns_leave, returns_then, used_back, used_on}
+use Rattle.cell_change.proofs.SpotStepsLemmas.{returns_leave, returns_then, set_both, used_back, used_on}
 use Rattle.cell_change.proofs.TableStepsLemmas.{changes_table_then}
 use Rattle.rollout.specs.RolledBlocks.{IsBlockOfCell, LosesRows, RollsBlock, is_chosen}
 use Rattle.rollout.specs.RollingCells.{RollsChosen}
 use Rattle.rollout.specs.declared.rolling.RolledOut.{RolledOut}
-use Rattle.rollout.proofs.ChosenBlocksLemmas.{Chooses, alone, differ_more, freed, freed_more, freed_other}
+use Rattle.rollout.proofs.ChosenBlocksLemmas.{Chooses, alone, differ_more}
 use Rattle.rollout.proofs.LosingRowsLemmas.{apart_moved, loses_then, sound_behind}
-use Rattle.rollout.proofs.RollingBlockLemmas.{set_both, sound_all_moved}
+use Rattle.rollout.proofs.RollingBlockLemmas.{sound_all_moved}
+use Rattle.rollout.proofs.TurnedSpotsLemmas.{freed, turned_more, turned_other}
 
 -- the rows of blocks
 abbrev pub rows_of : List Spot → List ℕ → List PlacedRow
@@ -78,7 +80,7 @@ few_of blocks n differ below = length-le_from_distinct_below blocks n (distinct 
 
 -- ---- record indexes
 
-more_pending : (def : TableDef) (rows : List PlacedRow) (pending pending_now : List ℕ) → StayPending pending pending_now → (indexes : List IndexDef) (trees : List Forest) → AllZip (IsSoundIndex def rows pending) indexes trees
+pub more_pending : (def : TableDef) (rows : List PlacedRow) (pending pending_now : List ℕ) → StayPending pending pending_now → (indexes : List IndexDef) (trees : List Forest) → AllZip (IsSoundIndex def rows pending) indexes trees
     → AllZip (IsSoundIndex def rows pending_now) indexes trees
 more_pending def rows pending pending_now stay [] [] all = tt
 more_pending def rows pending pending_now stay [] (t ∷ trees) all = absurd all
@@ -172,10 +174,10 @@ module _ {S : Type 0} (g : Ghosts S) (shape : Shape) (def : TableDef) (pred : Op
 
     -- a Used block that isn't one of them is as it was
     pub spot_on : (block : ℕ) (slots : List (Option Row)) → (Contains some.blocks block → ⊥) → slice_index_or spots_then block OtherBlock ≡ UsedBlock slots → slice_index_or spots_now block OtherBlock ≡ UsedBlock slots
-    spot_on block slots out is = used_on returns_leave (freed some.blocks spots_then) spots_now some.spots block slots (freed_other some.blocks spots_then block out ∙ is)
+    spot_on block slots out is = used_on returns_leave (freed some.blocks spots_then) spots_now some.spots block slots (turned_other FreeBlock some.blocks spots_then block out ∙ is)
 
     pub spot_back : (block : ℕ) (slots : List (Option Row)) → (Contains some.blocks block → ⊥) → slice_index_or spots_now block OtherBlock ≡ UsedBlock slots → slice_index_or spots_then block OtherBlock ≡ UsedBlock slots
-    spot_back block slots out is = sym (freed_other some.blocks spots_then block out) ∙ used_back returns_leave (freed some.blocks spots_then) spots_now some.spots block slots is
+    spot_back block slots out is = sym (turned_other FreeBlock some.blocks spots_then block out) ∙ used_back returns_leave (freed some.blocks spots_then) spots_now some.spots block slots is
 
     pub block_on : (one : CellBlock) → (Contains some.blocks one.block → ⊥) → IsBlockOfCell g shape old def one owners forests → IsBlockOfCell g shape now def one some.owners_now some.forests_now
     block_on one out is = record { slots = is.slots; spot = spot_on one.block is.slots out is.spot; row = is.row; there = is.there; cell = is.cell }
@@ -234,9 +236,9 @@ module _ {S : Type 0} (g : Ghosts S) (shape : Shape) (def : TableDef) (pred : Op
         chooses = Chooses.takes one some.chooses (λ slots is. r.all slots (spot_on one.block slots out is)) refl refl;
         once = once_now;
         within = within_now;
-        spots = subst (λ l. SpotsAfterReturns l (spots_of g shape new def r.rolls.owners_now r.rolls.forests_now)) (sym (freed_more some.blocks one.block spots_then))
+        spots = subst (λ l. SpotsAfterReturns l (spots_of g shape new def r.rolls.owners_now r.rolls.forests_now)) (sym (turned_more FreeBlock some.blocks one.block spots_then))
             (returns_then (set (freed some.blocks spots_then) one.block FreeBlock) (set spots_now one.block FreeBlock) (spots_of g shape new def r.rolls.owners_now r.rolls.forests_now)
-            (set_both (freed some.blocks spots_then) spots_now one.block FreeBlock some.spots) r.rolls.spots);
+            (set_both AfterReturns (freed some.blocks spots_then) spots_now one.block FreeBlock (returns_change.stays FreeBlock) some.spots) r.rolls.spots);
         entries = subst (λ l. LosesRows def forests.indexes l r.rolls.forests_now.indexes) (sym rows_now_are)
             (loses_then def forests.indexes some.forests_now.indexes r.rolls.forests_now.indexes (rows_then some.blocks) (rows_from_slot one.block 0 r.rolls.slots) some.entries r.rolls.entries);
         whole = whole_now;

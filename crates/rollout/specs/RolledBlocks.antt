@@ -21,9 +21,8 @@ use Rattle.table_trees.specs.SpaceChanges.{MakesChanges, SpaceChange}
 use Rattle.table_trees.specs.SpaceChanges.SpaceChange.{AmendEntry, GiveBlock, RemoveEntry}
 use Rattle.table_trees.specs.ToldPages.{PageList}
 use Rattle.table_trees.specs.TreesBeside.{table_of_block}
-use Rattle.table_blocks.specs.BlockChanges.{TurnsSpot}
 use Rattle.extent_map.specs.Owners.{owner_of}
-use Rattle.mdc_sound.specs.Placing.{AfterReturns, HasChosenRow, RollsOut, SpotsAfterReturns}
+use Rattle.mdc_sound.specs.Placing.{HasChosenRow, RollsOut, SpotsAfterReturns}
 use Rattle.mdc_sound.specs.Placing.Spot.{FreeBlock, OtherBlock, UsedBlock}
 use Rattle.mdc_sound.specs.StandingTable.{AreRightRooms, ChangesTable, RoomNote, TableForests, forests_in_order, pages_of, spots_of}
 use Rattle.mdc_sound.specs.TableRows.{PlacedRow, rows_from_slot, rows_in_table}
@@ -64,15 +63,6 @@ pub record IsBlockOfCell {S : Type 0} (g : Ghosts S) (shape : Shape) (s : S) (de
   pub row : Row
   pub there : Contains slots (Some row)
   pub cell : IsCellOf def one.cell row.values
-
--- A block of a table that stood is Free now, and trees may have given extents back. Each extent is a block of the table that it was of,
--- and no page came to the trees.
-pub record FreesBlock {S : Type 0} (g : Ghosts S) (shape : Shape) (before noted : SpaceNotes) (old new : S) (def : TableDef) (block : ℕ) (owners : List Kind) (forests : TableForests) : Type 0 where
-  pub owners_now : List Kind
-  pub forests_now : TableForests
-  pub turns : TurnsSpot g AfterReturns shape before noted old new def block FreeBlock owners forests owners_now forests_now
-  pub owned : (e : ℕ) → table_of_block (owner_of owners_now e) ≡ table_of_block (owner_of owners e)
-  pub pages : (p : ℕ) → 0 < sum_by (times p) (forests_in_order forests_now) → 0 < sum_by (times p) (forests_in_order forests)
 
 -- A Used block is Free now, and trees may have given extents back. Each record index lost the entries of its rows, of which there were
 -- so many, and nothing else.

@@ -1,5 +1,5 @@
 -- Which pages a rollout brings to hand.
-use Rattle.std.specs.Prelude.{◌≡◌, ◌≢◌, ◌<◌, ◌⊎◌, ℕ, true, List, [], Option, length, slice_index, slice_index_or}
+use Rattle.std.specs.Prelude.{◌≡◌, ◌≢◌, ◌<◌, ◌⊎◌, ℕ, ⊤, true, All, List, [], Option, length, slice_index, slice_index_or}
 use Rattle.mdc_ast.specs.declared.definition.TableDef.{TableDef}
 use Rattle.mdc_ast.specs.declared.predicate.Pred.{Pred}
 use Rattle.mdc_ast.specs.Truth.{qualifies}
@@ -32,8 +32,17 @@ IsCellPage g shape s def pred one p =
 abbrev pub IsRolloutPage : {S : Type 0} → Ghosts S → Shape → S → TableDef → Option Pred → ℕ → Type 0
 IsRolloutPage g shape s def pred p = IsTreeOrMapPageOfTable g shape s def p ⊎ IsRolledRowPage g shape s def pred p
 
--- Of the pages that came to hand no page of a block of the table did so twice.
-pub record BringsRowsOnce {S : Type 0} (g : Ghosts S) (shape : Shape) (old new : S) (def : TableDef) (owners : List Kind) : Type 0 where
+-- Of the pages that came to hand those that count are of a kind, and none of them came twice.
+pub record BringsCountedOnce {S : Type 0} (g : Ghosts S) (Counted Kind : ℕ → Type 0) (old new : S) : Type 0 where
   pub pages : List ℕ
   pub brought : Brought g pages old new
-  pub once : (i j : ℕ) → i < j → j < length pages → IsBlockPageOf shape owners def.number (slice_index pages j) → slice_index pages i ≢ slice_index pages j
+  pub kind : All (λ p. Counted p → Kind p) pages
+  pub once : (i j : ℕ) → i < j → j < length pages → Counted (slice_index pages j) → slice_index pages i ≢ slice_index pages j
+
+-- So it is of the pages of the table's blocks.
+abbrev pub BringsRowsOnce : {S : Type 0} → Ghosts S → Shape → S → S → TableDef → List Kind → (ℕ → Type 0) → Type 0
+BringsRowsOnce g shape old new def owners Kind = BringsCountedOnce g (IsBlockPageOf shape owners def.number) Kind old new
+
+-- any page
+abbrev pub AnyPage : ℕ → Type 0
+AnyPage p = ⊤

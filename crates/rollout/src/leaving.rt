@@ -5,10 +5,11 @@ ghost use Rattle.store_api.specs.RunsOverPages.{RunsOverPages};
 ghost use Rattle.extent_map.specs.declared.kind.Kind.{Kind};
 ghost use Rattle.mdc_ast.specs.TableLimits.{IsTableDef};
 ghost use Rattle.block_rows.specs.HeldRows.{HaveReadValues, placed_row};
-ghost use Rattle.mdc_sound.specs.StandingTable.{BreaksExpected, StandsTable, TableForests, pages_of};
+ghost use Rattle.mdc_sound.specs.StandingTable.{BreaksExpected, IsPageOfBlock, StandsTable, TableForests, pages_of};
 ghost use Rattle.row_entries.specs.RowEntries.{IsTreeOrMapPageOfTable};
 ghost use Rattle.rollout.specs.LeavingRows.{HasTheirEntries, IsLeavingPage, IsUsedWithEntries, LeavesBlockRows, LeavesRows};
 ghost use Rattle.rollout.specs.RolledBlocks.{TakesNoSpace};
+ghost use Rattle.rollout.specs.RolledPages.{BringsRowsOnce};
 
 use extent_map::SpaceNotes;
 use mdc_ast::TableDef;
@@ -34,6 +35,8 @@ pub(crate) fn leave_rows_of_block<P: Pages>(
     ensures space { OnOk result ((owners : List Kind) (forests : TableForests) → StandsTable P.Pages shape pages.old def.now owners forests
         → TakesNoSpace shape (pages_of P.Pages pages.old) (pages_of P.Pages pages.new)) }
     ensures count { length (P.state pages.new).work ≡ length (P.state pages.old).work }
+    ensures once { OnOk result ((owners : List Kind) (forests : TableForests) → StandsTable P.Pages shape pages.old def.now owners forests
+        → BringsRowsOnce P.Pages shape pages.old pages.new def.now owners (IsPageOfBlock shape block)) }
     ensures runs { RunsOverPages P.Pages (IsTreeOrMapPageOfTable P.Pages shape pages.old def.now) (IsLeavingPage P.Pages shape pages.old def.now block)
         (BreaksExpected P.Pages shape pages.old def.now (IsUsedWithEntries P.Pages shape pages.old def.now block)) pages.old pages.new (fault_of result) }
 {

@@ -13,17 +13,16 @@ ghost use Rattle.row_filter.specs.Filtering.{may_filter};
 ghost use Rattle.table_trees.specs.RowCells.{cell_places};
 ghost use Rattle.mdc_sound.specs.SoundDatabase.{IsSoundBetweenChanges, with_table_page};
 ghost use Rattle.mdc_sound.specs.StandsForDatabase.{PagesStandFor};
-ghost use Rattle.mdc_sound.specs.StandingTable.{BreaksExpected, KeepsBlocksBut, StandsTable, TableForests, pages_of};
+ghost use Rattle.mdc_sound.specs.StandingTable.{BreaksExpected, IsPageOfBlock, KeepsBlocksBut, StandsTable, TableForests, pages_of};
 ghost use Rattle.row_entries.specs.RowEntries.{IsTreeOrMapPageOfTable};
 ghost use Rattle.cell_change.specs.ExpectedTables.{HasSoundIndexes};
 ghost use Rattle.rollout.specs.Applying.{applies_to};
 ghost use Rattle.rollout.specs.LeavingRows.{IsLeavingPage};
 ghost use Rattle.rollout.specs.RolledBlocks.{IsBlockOfCell, RollsBlock, RollsOutRows, TakesNoSpace, without_chosen};
-ghost use Rattle.rollout.specs.RolledPages.{IsCellPage, IsRolloutPage};
+ghost use Rattle.rollout.specs.RolledPages.{AnyPage, BringsRowsOnce, IsCellPage, IsRolloutPage};
 ghost use Rattle.rollout.specs.RollingCells.{ExpectsRolling, RollsCell};
 
 use crate::cells::{cell_places, qualifies, row_of_cell};
-use crate::freeing::free_block;
 use crate::leaving::leave_rows_of_block;
 use block_index::{CellBlock, cells};
 use block_map::{BlockRow, BlockState};
@@ -33,6 +32,7 @@ use mdc_table::{Rooms, rows_of_line};
 use std::alloc::Global;
 use store_api::rules::BLOCK_INDEXES_RULE;
 use store_api::{Damage, Pages, Shape, StoreFault};
+use table_blocks::release_block;
 
 /// How many rows a rollout took out, and of how many blocks.
 #[derive(Clone, Copy, Debug, PartialEq, Eq)]
@@ -43,7 +43,7 @@ pub struct RolledOut {
 
 /// Takes all rows out that qualify, where the predicate names dimension columns alone: each Used block in whose cell it is true becomes
 /// Free, and the entries of its rows leave all record indexes. It claims no page, and no row page changes. Row pages come to hand only
-/// where the table has a record index, and of those blocks alone. The notes of rooms are forgotten. After a fault `undo` goes back to a
+/// where the table has a record index, and of those blocks alone, each once. The notes of rooms are forgotten. After a fault `undo` goes back to a
 /// mark, and the notes of free space are to be forgotten too.
 pub fn roll_out<P: Pages>(
     alloc: Global,
@@ -69,6 +69,8 @@ pub fn roll_out<P: Pages>(
         → PagesStandFor shape (with_table_page def.now (pages_of P.Pages pages.new)) (changed_at db def.now.number (without_chosen pred.now))) }
     ensures stay { (owners : List Kind) (forests : TableForests) → StandsTable P.Pages shape pages.old def.now owners forests → KeepsBlocksBut P.Pages shape pages.old pages.new def.now owners (λ block. ⊥) }
     ensures count { length (P.state pages.new).work ≡ length (P.state pages.old).work }
+    ensures once { OnOk result ((owners : List Kind) (forests : TableForests) → StandsTable P.Pages shape pages.old def.now owners forests
+        → BringsRowsOnce P.Pages shape pages.old pages.new def.now owners AnyPage) }
     ensures runs { RunsOverPages P.Pages (IsTreeOrMapPageOfTable P.Pages shape pages.old def.now) (IsRolloutPage P.Pages shape pages.old def.now pred.now)
         (BreaksExpected P.Pages shape pages.old def.now (HasSoundIndexes P.Pages shape pages.old def.now)) pages.old pages.new (fault_of result) }
 {
@@ -129,6 +131,8 @@ fn roll_cell<P: Pages>(
     ensures space { OnOk result ((owners : List Kind) (forests : TableForests) → StandsTable P.Pages shape pages.old def.now owners forests → IsBlockOfCell P.Pages shape pages.old def.now one.now owners forests
         → TakesNoSpace shape (pages_of P.Pages pages.old) (pages_of P.Pages pages.new)) }
     ensures count { length (P.state pages.new).work ≡ length (P.state pages.old).work }
+    ensures once { OnOk result ((owners : List Kind) (forests : TableForests) → StandsTable P.Pages shape pages.old def.now owners forests → IsBlockOfCell P.Pages shape pages.old def.now one.now owners forests
+        → BringsRowsOnce P.Pages shape pages.old pages.new def.now owners (IsPageOfBlock shape one.now.block)) }
     ensures runs { RunsOverPages P.Pages (IsTreeOrMapPageOfTable P.Pages shape pages.old def.now) (IsCellPage P.Pages shape pages.old def.now pred.now one.now)
         (BreaksExpected P.Pages shape pages.old def.now (ExpectsRolling P.Pages shape pages.old def.now one.now)) pages.old pages.new (fault_of result) }
 {
@@ -160,6 +164,8 @@ fn roll_block<P: Pages>(
     ensures space { OnOk result ((owners : List Kind) (forests : TableForests) → StandsTable P.Pages shape pages.old def.now owners forests → IsBlockOfCell P.Pages shape pages.old def.now one.now owners forests
         → TakesNoSpace shape (pages_of P.Pages pages.old) (pages_of P.Pages pages.new)) }
     ensures count { length (P.state pages.new).work ≡ length (P.state pages.old).work }
+    ensures once { OnOk result ((owners : List Kind) (forests : TableForests) → StandsTable P.Pages shape pages.old def.now owners forests → IsBlockOfCell P.Pages shape pages.old def.now one.now owners forests
+        → BringsRowsOnce P.Pages shape pages.old pages.new def.now owners (IsPageOfBlock shape one.now.block)) }
     ensures runs { RunsOverPages P.Pages (IsTreeOrMapPageOfTable P.Pages shape pages.old def.now) (IsLeavingPage P.Pages shape pages.old def.now one.now.block)
         (BreaksExpected P.Pages shape pages.old def.now (ExpectsRolling P.Pages shape pages.old def.now one.now)) pages.old pages.new (fault_of result) }
 {
@@ -170,7 +176,16 @@ fn roll_block<P: Pages>(
         rows,
     };
     leave_rows_of_block(alloc, def, shape, notes, pages, one.block)?;
-    free_block(alloc, def, shape, notes, pages, line, &one.cell)?;
+    release_block(
+        alloc,
+        def,
+        shape,
+        notes,
+        pages,
+        line,
+        BlockState::Free,
+        &one.cell,
+    )?;
     Ok(rows)
 }
 

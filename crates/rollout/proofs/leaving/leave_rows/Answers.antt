@@ -4,7 +4,7 @@ use Rattle.std.proofs.lemmas.List.Elements.{All-get_or}
 use Rattle.store_api.proofs.RunsOverPagesLemmas.{runs_exit, runs_none}
 use Rattle.block_rows.specs.HeldRows.{HasReadValues, placed_row}
 use Rattle.block_rows.specs.declared.hit.Hit.{Hit}
-use Rattle.rollout.proofs.HitStepsLemmas.{cut_at_hit, one_more_hit}
+use Rattle.block_rows.proofs.HitStepsLemmas.{cut_at_hit, one_more_hit}
 use Rattle.mdc_sound.specs.RunningFull.{row_listings}
 use Rattle.row_entries.proofs.RowKeysLemmas.{keys_of_read_row}
 use Rattle.rollout.specs.LeavingRows.{LeavesRows}

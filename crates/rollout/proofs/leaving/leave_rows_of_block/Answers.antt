@@ -2,6 +2,8 @@ use Rattle.std.proofs.Common.{◌≢◌, ◌∙◌, [], Some, ap, arith, length,
 use Rattle.std.proofs.lemmas.List.{nil_from_length}
 use Rattle.std.proofs.lemmas.Result.{on_ok_weaker}
 use Rattle.store_api.specs.Causes.{fault_of}
+use Rattle.store_api.specs.Frame.{NoPage}
+use Rattle.store_api.proofs.FetchingLemmas.{only_none}
 use Rattle.store_api.proofs.RunsOverPagesLemmas.{runs_exit}
 use Rattle.block_rows.specs.HeldRows.{placed_row}
 use Rattle.mdc_sound.specs.StandingTable.{pages_of}
@@ -10,7 +12,8 @@ use Rattle.table_trees.specs.ToldPages.{PageList}
 use Rattle.rollout.specs.RolledBlocks.{TakesNoSpace}
 use Rattle.rollout.proofs.BlockLeavingLemmas.{leaves_read, runs_read, runs_reading}
 use Rattle.rollout.proofs.LeavingRowsLemmas.{leaves_nothing, space_none}
-use Rattle.rollout.proofs.LookedTableLemmas.{stands_looked}
+use Rattle.rollout.proofs.LookedTableLemmas.{page_looked, stands_looked}
+use Rattle.rollout.proofs.RowsOnceLemmas.{all_once, counted_then, no_row_page, none_counted}
 use Rattle.rollout.proofs.leaving.leave_rows_of_block.Given.{Over}
 use Rattle.rollout.proofs.leaving.leave_rows_of_block.Goals as goal
 
@@ -22,6 +25,9 @@ returns-then-len-eq0-clause-leaves g c owners forests st used =
 
 pub returns-then-len-eq0-clause-space : goal.returns-then-len-eq0-clause-space
 returns-then-len-eq0-clause-space g c owners forests st = space_none g.P.Pages c.args.shape c.args.def.now c.args.pages.now owners forests st
+
+pub returns-then-len-eq0-clause-once : goal.returns-then-len-eq0-clause-once
+returns-then-len-eq0-clause-once g c owners forests st = none_counted {Mine = NoPage} only_none (λ p counts none. none)
 
 pub returns-in_err-hits-clause-runs : goal.returns-in_err-hits-clause-runs
 returns-in_err-hits-clause-runs g c =
@@ -51,3 +57,14 @@ pub returns-clause-runs : goal.returns-clause-runs
 returns-clause-runs g c =
     runs_read g.P.Pages c.args.shape c.args.pages.now c.args.def.now c.args.block (some g c) c.rows_of_used_block.new.pages c.in_ok-hits.ensures.runs.works.steady.is_told c.in_ok-hits.ensures.same (map placed_row c.as_slice.result.now)
     (λ owners forests st used. ap (map placed_row) c.as_slice.ensures.value ∙ c.in_ok-hits.ensures.rows owners forests st used) c.leave_rows.new.pages (fault_of c.leave_rows.result) c.in_ok-hits.ensures.runs c.leave_rows.ensures.runs
+
+pub returns-clause-once : goal.returns-clause-once
+returns-clause-once g c =
+    on_ok_weaker c.leave_rows.result
+    (λ leaves owners forests st.
+    counted_then (all_once c.in_ok-hits.ensures.once)
+    (none_counted {Kind = NoPage} c.leave_rows.ensures.runs.brings
+    (λ p counts mine. no_row_page c.args.shape c.args.pages.now c.args.def.now owners forests st p counts
+    (page_looked g.P.Pages c.args.shape c.args.pages.now c.rows_of_used_block.new.pages c.args.def.now c.in_ok-hits.ensures.runs.works.steady.is_told c.in_ok-hits.ensures.same p mine owners forests st)))
+    (λ p counts first none. none) (λ p is. is) (λ p none. absurd none))
+    c.leave_rows.ensures.leaves

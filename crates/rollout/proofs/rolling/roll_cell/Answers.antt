@@ -2,7 +2,9 @@ use Rattle.std.proofs.Common.{◌∙◌, None, Some, subst, sym}
 use Rattle.std.specs.Prelude.{IfSome, Option}
 use Rattle.store_api.proofs.RunsOverPagesLemmas.{runs_exit, runs_memory, runs_none}
 use Rattle.mdc_ast.specs.declared.row.Row.{Row}
+use Rattle.store_api.specs.Frame.{NoPage}
 use Rattle.store_api.specs.RunsOverPages.{RunsOverPages}
+use Rattle.store_api.proofs.FetchingLemmas.{only_none}
 use Rattle.store_api.specs.declared.fault.StoreFault.{StoreFault}
 use Rattle.mdc_sound.specs.StandingTable.{BreaksExpected}
 use Rattle.row_entries.specs.RowEntries.{IsTreeOrMapPageOfTable}
@@ -11,6 +13,7 @@ use Rattle.rollout.specs.RollingCells.{ExpectsRolling}
 use Rattle.rollout.specs.CellRows.{IsRowOfCell}
 use Rattle.rollout.proofs.LeavingRowsLemmas.{space_none}
 use Rattle.rollout.proofs.RollingCellLemmas.{cell_kept, cell_rolled, no_cell_runs, runs_chosen}
+use Rattle.rollout.proofs.RowsOnceLemmas.{none_counted}
 use Rattle.rollout.proofs.rolling.roll_cell.Goals as goal
 
 pub returns-in_err-row-clause-runs : goal.returns-in_err-row-clause-runs
@@ -29,6 +32,9 @@ returns-then-not-qualifies-clause-rolls g c owners forests st is =
 
 pub returns-then-not-qualifies-clause-space : goal.returns-then-not-qualifies-clause-space
 returns-then-not-qualifies-clause-space g c owners forests st is = space_none g.P.Pages c.args.shape c.args.def.now c.args.pages.now owners forests st
+
+pub returns-then-not-qualifies-clause-once : goal.returns-then-not-qualifies-clause-once
+returns-then-not-qualifies-clause-once g c owners forests st is = none_counted {Mine = NoPage} only_none (λ p counts none. none)
 
 pub returns-in_err-rows-clause-runs : goal.returns-in_err-rows-clause-runs
 returns-in_err-rows-clause-runs g c =

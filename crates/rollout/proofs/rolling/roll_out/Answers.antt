@@ -6,6 +6,7 @@ use Rattle.mdc_sound.proofs.DefinitionTreesLemmas.{has_block_indexes}
 use Rattle.cell_change.proofs.DeletingRowsLemmas.{blocks_left}
 use Rattle.rollout.proofs.RolledTableLemmas.{rolls_out}
 use Rattle.rollout.proofs.RollingLoopLemmas.{IsRolling, rolling_next, rolling_none, rolling_runs, runs_listed}
+use Rattle.rollout.proofs.RowsOnceLemmas.{counted_wider}
 use Rattle.rollout.proofs.SoundRolledLemmas.{sound_rolled}
 use Rattle.rollout.proofs.StandsForRolledLemmas.{database_rolled}
 use Rattle.rollout.proofs.rolling.roll_out.Goals as goal
@@ -46,7 +47,7 @@ loop-one-preserved g c =
     rolling_next g.P.Pages c.args.shape c.args.def.now c.requires.defined c.args.pred.now c.args.pages.now c.loop-one.pages c.as_slice-one-items.result.now
     (λ owners forests st all are. c.as_slice-one-items.ensures ∙ c.in_ok-found.ensures.listed forests.composite st.trees.held.1.0 all are) c.loop-one.one-index c.one-item.result c.loop-one-test.true c.one-item.is c.loop-one.rolled c.loop-one.invariant
     c.roll_cell.new.pages c.in_ok-gone.gone c.counted-rolled.result c.in_ok-gone.ensures.few (record { none = c.counted-rolled.ensures.none; some = c.counted-rolled.ensures.some }) c.in_ok-gone.ensures.rolls c.in_ok-gone.ensures.space c.in_ok-gone.ensures.count
-    c.in_ok-gone.ensures.runs
+    c.in_ok-gone.ensures.once c.in_ok-gone.ensures.runs
 
 pub returns-clause-rolls : goal.returns-clause-rolls
 returns-clause-rolls g c owners forests st =
@@ -67,3 +68,6 @@ pub returns-clause-stands_for : goal.returns-clause-stands_for
 returns-clause-stands_for g c owners forests st between db stands =
     database_rolled g.P.Pages c.args.shape c.args.pages.now c.loop-one.pages c.args.def.now c.args.pred.now c.loop-one.rolled owners forests st (returns-clause-rolls g c owners forests st)
     c.loop-one.invariant.runs.touches c.loop-one.invariant.runs.works.no_shorter between db stands
+
+pub returns-clause-once : goal.returns-clause-once
+returns-clause-once g c owners forests st = counted_wider (c.loop-one.invariant.once owners forests st) (λ p is. tt)
