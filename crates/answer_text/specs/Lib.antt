@@ -1,4 +1,5 @@
 pub mod Answering
 pub mod BlockCounts
+pub mod ExplainedPlan
 pub mod Lines
 pub mod Wordings

@@ -1,4 +1,4 @@
-//! The whole texts of answers: of replies, of refusals, and the lines of a query and of LIST BLOCKS.
+//! The whole texts of answers: of replies, of refusals, and the lines of a query, of LIST BLOCKS and of EXPLAIN.
 //!
 //! It promises that they are the texts that the definitions of `statement_meaning` give them, byte for byte, and that nothing is
 //! written where memory is wanting. Each text is written once, where it is to stand. The lines of a query are written as rows come,
@@ -9,6 +9,7 @@
 mod appending;
 mod block_counts;
 mod entries;
+mod explained_plan;
 mod fault;
 mod grouped;
 mod lines;
@@ -19,6 +20,7 @@ mod select;
 mod wordings;
 
 pub use block_counts::blocks_line;
+pub use explained_plan::explain_text;
 pub use fault::AnswerFault;
 pub use lines::Lines;
 pub use query_lines::QueryLines;

@@ -4,7 +4,8 @@ ghost use Rattle.std.specs.List.{list_all};
 ghost use Rattle.answer_text.specs.Lines.{are_outs_within, are_rows_wide, is_column_out, is_plain_select};
 
 use answer_text::{
-    AnswerFault, Lines, blocks_line, outcome_bytes, refusal_bytes, reply_bytes, select_lines,
+    AnswerFault, Lines, blocks_line, explain_text, outcome_bytes, refusal_bytes, reply_bytes,
+    select_lines,
 };
 use mdc_ast::{
     BoundOut, BoundSelect, ColumnDef, KeyPart, Name, Outcome, Refusal, Reply, Roots, Row, TableDef,
@@ -290,5 +291,15 @@ fn a_sum_outside_bigint_is_named(rt: HostRuntime) -> Result<(), Fail> {
 fn blocks_are_told(rt: HostRuntime) -> Result<(), Fail> {
     let line = blocks_line(rt.alloc(), 2, 0, 15)?;
     assert_eq!(rt; line.bytes(), b"USED 2 FREE 0 PENDING 15\n".as_slice());
+    Ok(())
+}
+
+#[test]
+fn a_plan_is_told(rt: HostRuntime) -> Result<(), Fail> {
+    let lines = explain_text(rt.alloc(), b"MIXED", 2, 10)?;
+    assert_eq!(rt;
+        lines.bytes(),
+        b"PLAN MIXED\nBLOCKS 2\nROWS 10\n".as_slice()
+    );
     Ok(())
 }

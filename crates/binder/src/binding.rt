@@ -1,10 +1,9 @@
 // A statement is judged, and then bound.
-ghost use Rattle.std.specs.Prelude.{◌≡◌, [], IfOk, IsTrue};
+ghost use Rattle.std.specs.Prelude.{◌≡◌, [], IfOk};
 ghost use Rattle.statement_meaning.specs.Binding.{bound_of};
 ghost use Rattle.mdc_ast.specs.ValidDatabase.{AreValidDefs};
 ghost use Rattle.statement_meaning.specs.Judged.{judged_of};
 ghost use Rattle.statement_meaning.specs.Judging.{in_order};
-ghost use Rattle.statement_meaning.specs.Built.{is_built_step};
 ghost use Rattle.binder.specs.Refusing.{IsRefusedFor};
 
 use crate::judging::judge;
@@ -34,10 +33,9 @@ impl From<Memory> for BindFault {
 }
 
 /// The statement with its names as places and its literals as values, where nothing is said against it. Else the refusal
-/// for what is said first against it, in the order of refusals. The catalog is only read, so that after want of memory
-/// the statement can be bound again.
+/// for what is said first against it, in the order of refusals. EXPLAIN is bound as its query, and a form without a bound one of
+/// its own is BEGIN. The catalog is only read, so that after want of memory the statement can be bound again.
 pub fn bind(alloc: Global, stmt: &Stmt, catalog: &Catalog) -> Result<Bound, BindFault>
-    requires built { IsTrue (is_built_step stmt.now) }
     requires valid { AreValidDefs catalog.now }
     ensures bound { IfOk result (λ bound. (in_order (judged_of catalog.now stmt.now) ≡ []) × (bound ≡ bound_of catalog.now stmt.now)) }
     ensures refused { IsRefusedFor (in_order (judged_of catalog.now stmt.now)) result }

@@ -1,8 +1,8 @@
-// Which forms of statements are built.
+// Which forms of statements are built, and which rollout modes.
 ghost use Rattle.std.specs.Prelude.{◌≡◌};
 ghost use Rattle.statement_meaning.specs.Built as spec;
 
-use mdc_ast::{ColumnText, Stmt};
+use mdc_ast::{ColumnText, RolloutMode, Stmt};
 
 /// Whether the form of a statement is built. It takes no memory.
 pub fn built(stmt: &Stmt) -> bool
@@ -16,7 +16,8 @@ pub fn built(stmt: &Stmt) -> bool
         | Stmt::Insert { .. }
         | Stmt::Update { .. }
         | Stmt::Delete { .. }
-        | Stmt::Query(_) => true,
+        | Stmt::Query(_)
+        | Stmt::Reclaim(_) => true,
         Stmt::Explain(_)
         | Stmt::SetRollout(_)
         | Stmt::SetPlan(_)
@@ -24,7 +25,6 @@ pub fn built(stmt: &Stmt) -> bool
         | Stmt::Clean(_)
         | Stmt::CleanTable(_)
         | Stmt::ListBlocks(_)
-        | Stmt::Reclaim(_)
         | Stmt::Begin
         | Stmt::Commit
         | Stmt::Rollback
@@ -34,6 +34,17 @@ pub fn built(stmt: &Stmt) -> bool
         | Stmt::Reader(..)
         | Stmt::Join(_)
         | Stmt::Reorg(_) => false,
+    }
+}
+
+/// Whether a rollout mode is built.
+pub fn built_mode(mode: RolloutMode) -> bool
+    ensures { result ≡ spec.is_built_mode mode }
+{
+    match mode {
+        RolloutMode::None => true,
+        RolloutMode::Immediate => true,
+        RolloutMode::Deferred => false,
     }
 }
 

@@ -23,7 +23,7 @@ use mdc_ast::{ColumnDef, InsertItem, KeyText, Name, PredText, Select, SetText, S
 use mdc_values::{List, Memory};
 use std::alloc::Global;
 
-/// Judges a statement whose form is built.
+/// Judges a statement. Nothing is said against a form that isn't bound.
 pub fn judge<'a>(
     alloc: Global,
     stmt: &'a Stmt,
@@ -43,7 +43,7 @@ pub fn judge<'a>(
             parts,
             ..
         } => Ok(judge_index_on(table, name, parts.as_slice(), catalog)),
-        Stmt::DropTable(table) => Ok(judge_drop(table, catalog)),
+        Stmt::DropTable(table) => Ok(judge_table(table, catalog)),
         Stmt::DropIndex(name) => Ok(judge_index_drop(name, catalog)),
         Stmt::Insert {
             table,
@@ -55,14 +55,14 @@ pub fn judge<'a>(
         }
         Stmt::Delete { table, pred } => Ok(judge_delete(alloc, table, pred, catalog)),
         Stmt::Query(select) => judge_query(alloc, select, catalog),
-        Stmt::Explain(_)
-        | Stmt::SetRollout(_)
+        Stmt::Explain(select) => judge_query(alloc, select, catalog),
+        Stmt::Reclaim(table) => Ok(judge_table(table, catalog)),
+        Stmt::SetRollout(_)
         | Stmt::SetPlan(_)
         | Stmt::SetPace(_)
         | Stmt::Clean(_)
         | Stmt::CleanTable(_)
         | Stmt::ListBlocks(_)
-        | Stmt::Reclaim(_)
         | Stmt::Begin
         | Stmt::Commit
         | Stmt::Rollback
@@ -86,7 +86,8 @@ fn table_named<'a>(table: &'a Name, catalog: &'a Catalog) -> Result<&'a TableDef
     }
 }
 
-fn judge_drop<'a>(table: &'a Name, catalog: &'a Catalog) -> Result<(), Objection<'a>>
+// A statement that asks for a table, and for nothing else.
+fn judge_table<'a>(table: &'a Name, catalog: &'a Catalog) -> Result<(), Objection<'a>>
     ensures { first_of (in_order (on_table table.now (def_named catalog.now table.now) (λ columns. no_fault))) ≡ said_by result }
 {
     table_named(table, catalog)?;

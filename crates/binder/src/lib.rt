@@ -32,5 +32,5 @@ mod where_binding;
 mod whole_rows;
 
 pub use binding::{BindFault, bind};
-pub use forms::built;
+pub use forms::{built, built_mode};
 pub use whole_rows::{WholeRows, bind_whole};

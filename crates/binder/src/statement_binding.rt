@@ -20,7 +20,7 @@ use mdc_ast::{
 use mdc_values::{List, Memory};
 use std::alloc::Global;
 
-/// Binds a statement against which nothing is said. A form that isn't built binds nothing.
+/// Binds a statement against which nothing is said. A form without a bound one of its own is BEGIN.
 pub fn bound(alloc: Global, stmt: &Stmt, catalog: &Catalog) -> Result<Bound, Memory>
     requires valid { AreValidDefs catalog.now }
     requires faultless { in_order (judged_of catalog.now stmt.now) ≡ [] }
@@ -39,6 +39,7 @@ pub fn bound(alloc: Global, stmt: &Stmt, catalog: &Catalog) -> Result<Bound, Mem
             parts,
         } => bound_index_on(alloc, table, name, *unique, parts.as_slice(), catalog),
         Stmt::DropTable(table) => Ok(bound_drop(table, catalog)),
+        Stmt::Reclaim(table) => Ok(bound_reclaim(table, catalog)),
         Stmt::DropIndex(name) => Ok(bound_drop_index(name, catalog)),
         Stmt::Insert {
             table,
@@ -50,14 +51,13 @@ pub fn bound(alloc: Global, stmt: &Stmt, catalog: &Catalog) -> Result<Bound, Mem
         }
         Stmt::Delete { table, pred } => bound_delete(alloc, table, pred, catalog),
         Stmt::Query(select) => bound_query(alloc, select, catalog),
-        Stmt::Explain(_)
-        | Stmt::SetRollout(_)
+        Stmt::Explain(select) => bound_explain(alloc, select, catalog),
+        Stmt::SetRollout(_)
         | Stmt::SetPlan(_)
         | Stmt::SetPace(_)
         | Stmt::Clean(_)
         | Stmt::CleanTable(_)
         | Stmt::ListBlocks(_)
-        | Stmt::Reclaim(_)
         | Stmt::Begin
         | Stmt::Commit
         | Stmt::Rollback
@@ -88,6 +88,16 @@ fn bound_drop(table: &Name, catalog: &Catalog) -> Bound
 {
     match table_there(table, catalog) {
         Some(def) => Bound::DropTable(def.number),
+        None => Bound::Begin,
+    }
+}
+
+fn bound_reclaim(table: &Name, catalog: &Catalog) -> Bound
+    requires { AreValidDefs catalog.now }
+    ensures { result ≡ binding.bound_on catalog.now table.now (λ place columns. Bound.Reclaim place) }
+{
+    match table_there(table, catalog) {
+        Some(def) => Bound::Reclaim(def.number),
         None => Bound::Begin,
     }
 }
@@ -220,4 +230,26 @@ fn query_of(
     ensures { IfOk result (λ bound. bound ≡ Bound.Query (binding.bound_select table columns.now select.now)) }
 {
     Ok(Bound::Query(bound_select(alloc, table, columns, select)?))
+}
+
+fn bound_explain(alloc: Global, select: &Select, catalog: &Catalog) -> Result<Bound, Memory>
+    requires { AreValidDefs catalog.now }
+    ensures { IfOk result (λ bound. bound ≡ binding.bound_of catalog.now (Stmt.Explain select.now)) }
+{
+    match table_there(&select.table, catalog) {
+        Some(def) => explain_of(alloc, def.number, def.columns.as_slice(), select),
+        None => Ok(Bound::Begin),
+    }
+}
+
+fn explain_of(
+    alloc: Global,
+    table: u8,
+    columns: &[ColumnDef],
+    select: &Select,
+) -> Result<Bound, Memory>
+    requires { length columns.now ≤ 16 }
+    ensures { IfOk result (λ bound. bound ≡ Bound.Explain (binding.bound_select table columns.now select.now)) }
+{
+    Ok(Bound::Explain(bound_select(alloc, table, columns, select)?))
 }

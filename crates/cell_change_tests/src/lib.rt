@@ -1,5 +1,5 @@
 //! Tests of `cell_change` on a store in memory: where rows go, what is read of them, a file that is full at each claim of a row,
-//! hundreds of changes beside a plain list of what should be there, with which the plain reading of the pages is compared too, and
+//! hundreds of changes beside a plain list of what should be there, with which the reference reader is compared too, and
 //! notes that are lost.
 //!
 //! What a clause of `cell_change` says isn't tested but where many calls follow one another. Each scenario is a function over any

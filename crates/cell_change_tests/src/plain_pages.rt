@@ -1,4 +1,4 @@
-// The database that the pages stand for, by the plain reading, beside a plain list.
+// The database that the pages stand for, by the reference reader, beside a plain list.
 ghost use Rattle.std.specs.Prelude.{◌≡◌, false};
 ghost use Rattle.mdc_ast.specs.TableLimits.{IsTableDef};
 
@@ -6,7 +6,7 @@ use crate::plain_list::{PlainList, row_numbered};
 use crate::rows::{is_same_row, row_of};
 use crate::tables::Table;
 use mdc_ast::Row;
-use plain_reading::{ReadTable, read_database};
+use reference_reader::{ReadTable, read_database};
 use std::alloc::Global;
 use std::test::Fail;
 use store_api::{Pages, blank_page, write_page};

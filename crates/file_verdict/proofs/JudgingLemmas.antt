@@ -18,11 +18,12 @@ use Rattle.table_trees.specs.ToldPages.{PageList}
 use Rattle.mdc_sound.specs.Breaks.{BreaksRule}
 use Rattle.mdc_sound.specs.SoundDatabase.{IsSoundDatabase}
 use Rattle.page_file.specs.Layout.{file_page}
+use Rattle.page_store.proofs.FrontAgreesLemmas.{front_agrees_then}
 use Rattle.page_store.proofs.Judged.{served_formed}
 use Rattle.page_store.specs.FileStore.{IsLeft}
 use Rattle.page_store.specs.Opening.{IsServed}
 use Rattle.page_store.specs.Shape.{extents_in, extent_pages_in}
-use Rattle.page_store.specs.Standing.{IsStoreImage, Stands, pages_in}
+use Rattle.page_store.specs.Standing.{FrontAgrees, IsFormed, IsStoreImage, Stands, pages_in}
 use Rattle.file_check.specs.Verdicts.{IsVerdictOf}
 use Rattle.file_check.specs.declared.verdict.Verdict.{Verdict}
 use Rattle.file_check.specs.declared.verdict.Verdict.TheVariants.{Broken, Sound}
@@ -117,42 +118,42 @@ pub same_beside : (one other : Beside) → one.tape ≡ other.tape → one.say_f
 same_beside one other tape faults = rw (sym tape, sym faults) refl
 
 -- an image of a store's file is formed as the file is
-pub formed_left : (shape : Shape) (file at_end image : List ℕ) → shape.extents ≡ extents_in (file_page file 1) → shape.extent_pages ≡ extent_pages_in (file_page file 1) → IsStoreImage shape at_end image → StaysFormed file image
-formed_left shape file at_end image extents extent_pages is = record { formed = is.formed.formed; extents = is.formed.extents ∙ extents; extent_pages = is.formed.extent_pages ∙ extent_pages }
+pub formed_left : (shape : Shape) (file at_end image : List ℕ) → shape.extents ≡ extents_in (file_page file 1) → shape.extent_pages ≡ extent_pages_in (file_page file 1) → FrontAgrees file at_end → IsStoreImage shape at_end image → StaysFormed file image
+formed_left shape file at_end image extents extent_pages agrees is = record { formed = is.formed.formed; front = front_agrees_then agrees is.front; extents = is.formed.extents ∙ extents; extent_pages = is.formed.extent_pages ∙ extent_pages }
 
 -- an image of a store at its end, by what the store left as it was opened
 pub left_base : {S : Type 0} (g : pages.Ghosts S) (shape : Shape) (file at_end said : List ℕ) (old last : S) (t : ℕ) (image heard : List ℕ)
     → Steady g old last → t ≤ g.clock old → (g.state old).told ≡ Some said → shape.extents ≡ extents_in (file_page file 1) → shape.extent_pages ≡ extent_pages_in (file_page file 1)
-    → IsLeft shape at_end (g.left last t) image heard
+    → FrontAgrees file at_end → IsLeft shape at_end (g.left last t) image heard
     → (StaysFormed file image × (g.left old t (Some (pages_in image)) heard ⊎ ((pages_in image ≡ (g.state old).base) × (heard ≡ said)))) ⊎ g.left old t None heard
-left_base g shape file at_end said old last t image heard steady early told extents extent_pages (inl (is, was)) = inl (
-  formed_left shape file at_end image extents extent_pages is,
+left_base g shape file at_end said old last t image heard steady early told extents extent_pages agrees (inl (is, was)) = inl (
+  formed_left shape file at_end image extents extent_pages agrees is,
   elim (steady.time.only t (Some (pages_in image)) heard early was) [
     | inl before ↦ inl before
     | inr within ↦ inr ((let same = within.0 in cc), subst (λ (o : Option (List ℕ)). IfSome o (λ bytes. heard ≡ bytes)) told within.1)
   ],
 )
-left_base g shape file at_end said old last t image heard steady early told extents extent_pages (inr none) = elim (steady.time.only t None heard early none) [
+left_base g shape file at_end said old last t image heard steady early told extents extent_pages agrees (inr none) = elim (steady.time.only t None heard early none) [
   | inl before ↦ inr before
   | inr within ↦ absurd (let never = within.0 in cc)
 ]
 
 -- what stands for the pages of what an opening made of a file stands for the file as before
-as_before : (before after image : List ℕ) → Stands before (pages_in before) after → StaysFormed after image → pages_in image ≡ pages_in before → StandsAsBefore before image
-as_before before after image stands is same = record { stays = formed_along before after image (formed_standing before after (pages_in before) stands) is; pages = same }
+as_before : (before after image : List ℕ) → IsFormed before → Stands before (pages_in before) after → StaysFormed after image → pages_in image ≡ pages_in before → StandsAsBefore before image
+as_before before after image whole stands is same = record { stays = formed_along before after image (formed_standing before after (pages_in before) whole stands) is; pages = same }
 
 -- so does all that is left of a host whose file was opened and judged
-pub judged_left : {S D : Type 0} (g : pages.Ghosts S) (d : disk.Ghosts D) (store : S) (new : D) (before after said : List ℕ) → Stands before (pages_in before) after → (g.state store).base ≡ pages_in before
+pub judged_left : {S D : Type 0} (g : pages.Ghosts S) (d : disk.Ghosts D) (store : S) (new : D) (before after said : List ℕ) → IsFormed before → Stands before (pages_in before) after → (g.state store).base ≡ pages_in before
     → LeavesBase g d after said store new → (t : ℕ) (image heard : List ℕ) → t ≤ g.clock store → d.moment new t image heard
     → (StandsAsBefore before image × (heard ≡ said)) ⊎ IsLeftByStore g store before said (λ image heard. StandsAsBefore before image × (heard ≡ said)) t image heard
-judged_left g d store new before after said stands base leaves t image heard early now = elim (leaves.since t early image heard now) [
+judged_left g d store new before after said whole stands base leaves t image heard early now = elim (leaves.since t early image heard now) [
   | inl formed ↦ elim formed.1 [
     | inl was ↦ inr (record {
       pages = Some (pages_in image);
       left = was;
-      kind = λ same tape. (as_before before after image stands formed.0 (let pages = same in cc), tape);
+      kind = λ same tape. (as_before before after image whole stands formed.0 (let pages = same in cc), tape);
     })
-    | inr here ↦ inl (as_before before after image stands formed.0 (here.0 ∙ base), here.1)
+    | inr here ↦ inl (as_before before after image whole stands formed.0 (here.0 ∙ base), here.1)
   ]
   | inr none ↦ inr (record { pages = None; left = none; kind = λ same tape. absurd (let never = same in cc) })
 ]

@@ -1,3 +1,4 @@
+pub mod GrowingLemmas
 pub mod JudgingLemmas
 pub mod RestingLemmas
 pub mod SoundFilesLemmas

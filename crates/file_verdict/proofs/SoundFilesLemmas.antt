@@ -10,9 +10,10 @@ use Rattle.mdc_sound.specs.SoundDatabase.{IsSoundDatabase}
 use Rattle.mdc_sound.specs.SpaceRules.{stated_root}
 use Rattle.page_file.specs.Layout.{file_page, page_start}
 use Rattle.page_store.proofs.FreshBytes.{length-zero_page}
+use Rattle.page_store.proofs.FrontAgreesLemmas.{front_agrees_stays, front_agrees_then}
 use Rattle.page_store.specs.Opening.{IsServed, Refuses}
 use Rattle.page_store.specs.Shape.{extent_pages_in, extents_in}
-use Rattle.page_store.specs.Standing.{Stands, count_of, page_of, pages_in}
+use Rattle.page_store.specs.Standing.{IsFormed, Stands, count_of, page_of, pages_in}
 use Rattle.page_store.specs.declared.fault.OpenFault.{OpenFault}
 use Rattle.page_store.specs.declared.fault.OpenFault.TheVariants as opening
 use Rattle.file_verdict.specs.Resting.{StandsAsBefore, StaysFormed}
@@ -78,16 +79,16 @@ pub states_stood : (bytes image : List ℕ) (all : List (List ℕ)) (shape : Sha
 states_stood bytes image all shape stands states = record { extents = ap extents_in (sym stands.birth) ∙ states.extents; extent_pages = ap extent_pages_in (sym stands.birth) ∙ states.extent_pages }
 
 -- and is formed as the file is
-pub formed_standing : (file image : List ℕ) (all : PageList) → Stands file all image → StaysFormed file image
-formed_standing file image all stands = record { formed = stands.formed; extents = ap extents_in stands.birth; extent_pages = ap extent_pages_in stands.birth }
+pub formed_standing : (file image : List ℕ) (all : PageList) → IsFormed file → Stands file all image → StaysFormed file image
+formed_standing file image all formed stands = record { formed = stands.formed; front = front_agrees_stays formed stands.front; extents = ap extents_in stands.birth; extent_pages = ap extent_pages_in stands.birth }
 
 -- so is an image that is formed as such a one is
 pub formed_along : (file middle image : List ℕ) → StaysFormed file middle → StaysFormed middle image → StaysFormed file image
-formed_along file middle image first then = record { formed = then.formed; extents = then.extents ∙ first.extents; extent_pages = then.extent_pages ∙ first.extent_pages }
+formed_along file middle image first then = record { formed = then.formed; front = front_agrees_then first.front then.front; extents = then.extents ∙ first.extents; extent_pages = then.extent_pages ∙ first.extent_pages }
 
 -- what a file stands for stands for it as before
-pub stands_before : (file image : List ℕ) → Stands file (pages_in file) image → StandsAsBefore file image
-stands_before file image stands = record { stays = formed_standing file image (pages_in file) stands; pages = stands.pages }
+pub stands_before : (file image : List ℕ) → IsFormed file → Stands file (pages_in file) image → StandsAsBefore file image
+stands_before file image formed stands = record { stays = formed_standing file image (pages_in file) formed stands; pages = stands.pages }
 
 -- what stands for the pages of a file states its extents
 pub states_as_before : (file image : List ℕ) (shape : Shape) → StandsAsBefore file image → StatesExtents file shape → StatesExtents image shape

@@ -8,7 +8,7 @@ use Rattle.page_file.specs.Layout.{file_page}
 use Rattle.page_file.specs.Leaving.{LeavesImage}
 use Rattle.page_store.specs.Opened.{CouldBeLeft}
 use Rattle.page_store.specs.Shape.{extents_in, extent_pages_in}
-use Rattle.page_store.specs.Standing.{IsFormed, pages_in}
+use Rattle.page_store.specs.Standing.{FrontAgrees, IsFormed, pages_in}
 
 -- these bytes were said as the run began, or could be left on the tape before
 abbrev pub WasTold : {D : Type 0} → disk.Ghosts D → ℕ → List ℕ → D → List ℕ → Type 0
@@ -28,13 +28,15 @@ abbrev pub LeavesSince : {D : Type 0} → disk.Ghosts D → File → List ℕ �
 LeavesSince g before said Left old new =
     ComesToRest g before said Left old new ⊎ OverTime g.clock g.moment (LeavesImage (CouldBeLeft before) said) old new
 
--- An image of a file, whatever its pages are: it is formed, and its birth page states the extents that the file states.
+-- An image of a file, whatever its pages are: it is formed, its birth page states the extents that the file states, and what isn't the
+-- journal's before its first home page is as it is in the file.
 pub record StaysFormed (file image : List ℕ) : Type 0 where
   pub formed : IsFormed image
+  pub front : FrontAgrees file image
   pub extents : extents_in (file_page image 1) ≡ extents_in (file_page file 1)
   pub extent_pages : extent_pages_in (file_page image 1) ≡ extent_pages_in (file_page file 1)
 
--- An image that stands for what the file stands for: it is formed, states the file's extents, and has the same pages.
+-- An image that stands for what the file stands for: it is formed, states the file's extents, and has the same front and pages.
 pub record StandsAsBefore (file image : List ℕ) : Type 0 where
   pub stays : StaysFormed file image
   pub pages : pages_in image ≡ pages_in file

@@ -8,6 +8,7 @@ ghost use Rattle.store_api.specs.declared.shape.Shape.{Shape};
 ghost use Rattle.page_file.specs.Bound.{LeavesOf};
 ghost use Rattle.page_file.specs.Leaving.{LeavesImage};
 ghost use Rattle.page_store.specs.Faults.{MayComeFirst};
+ghost use Rattle.page_store.specs.Growing.{GrewByCalls};
 ghost use Rattle.page_store.specs.Opened.{CouldBeLeft, file_bytes};
 ghost use Rattle.page_store.specs.Opening.{IsServed, Refuses};
 ghost use Rattle.page_store.specs.Standing.{IsFormed};
@@ -52,6 +53,9 @@ pub fn judge_file<H: Host>(alloc: Global, host: H) -> Judged<H>
         × ((result.verdict ≡ Err Unjudged.Device → ⊥) → file_bytes (H.file result.host) ≡ file_bytes (H.file host))) }
     // What is written is what the opening writes: a journal that counts is brought home.
     ensures writes { ForSome (H.file host) (λ file. WritesOpening result.verdict file.bytes (file_bytes (H.file result.host))) }
+    // Its front is as it was, and it is no longer. Where the disk failed, it may be what a crash could leave.
+    ensures grew { (before after : File) → H.file host ≡ Some before → H.file result.host ≡ Some after
+        → GrewByCalls (result.verdict ≡ Err Unjudged.Device) before after.bytes }
     ensures device { CountsFault (result.verdict ≡ Err Unjudged.Device) (H.disk_faults host) (H.disk_faults result.host) }
     ensures beside { H.beside result.host ≡ H.beside host }
     ensures attaches { H.attaches result.host ≡ H.attaches host }

@@ -1,11 +1,12 @@
 // Files of databases on hosts in memory, and the verdicts on them.
 use file_check::Verdict;
-use file_session::serve_file;
 use file_verdict::{Unjudged, judge_file};
 use mdc_outside::{Host, MemHost, MemSource, Source};
 use page_store::{OpenFault, make};
 use script_engine_tests::Patch;
+use session::serve_file;
 use std::alloc::Global;
+use std::marker::Brand;
 use std::test::Fail;
 use store_api::Damage;
 
@@ -38,7 +39,7 @@ fn serve_source<I: Source, H: Host + Drop>(
     mut host: H,
 ) -> Result<(bool, H), Fail> {
     host.attach("table", false)?;
-    let ended = serve_file(alloc, input, host);
+    let ended = serve_file::<I, H, Brand>(alloc, input, host);
     Ok((ended.end.is_ok(), ended.host))
 }
 

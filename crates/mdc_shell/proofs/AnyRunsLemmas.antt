@@ -9,14 +9,14 @@ use Rattle.mdc_outside.specs.Outside.{Takes}
 use Rattle.mdc_outside.specs.declared.disk.Disk.{Ghosts}
 use Rattle.page_file.specs.Leaving.{LeavesImage}
 use Rattle.page_store.specs.Opened.{CouldBeLeft}
-use Rattle.script_session.specs.Going.{held_last}
-use Rattle.script_session.specs.declared.stop.Served.{Served}
-use Rattle.script_session.specs.declared.stop.SessionStop.TheVariants as session
-use Rattle.file_session.specs.AnyServing.{RunsOnAnyFile, RunsOnServed, StandsFor}
-use Rattle.file_session.specs.Leaving.{LeftByAnyRun}
-use Rattle.file_session.specs.declared.stop.FileStop.{FileStop}
-use Rattle.file_session.specs.declared.stop.FileStop.TheVariants.{Damaged, Device, Memory, NotMdc, TooLong, Unmade, Unread, Unsaid, Version}
-use Rattle.file_session.proofs.AnyFileRunsLemmas.{any_before}
+use Rattle.session.specs.script.Going.{held_last}
+use Rattle.session.specs.declared.script.stop.Served.{Served}
+use Rattle.session.specs.declared.script.stop.SessionStop.TheVariants as session
+use Rattle.session.specs.file.AnyServing.{RunsOnAnyFile, RunsOnServed, StandsFor}
+use Rattle.session.specs.file.Leaving.{LeftByAnyRun}
+use Rattle.session.specs.declared.file.stop.FileStop.{FileStop}
+use Rattle.session.specs.declared.file.stop.FileStop.TheVariants.{Damaged, Device, Memory, NotMdc, TooLong, Unmade, Unread, Unsaid, Version}
+use Rattle.session.proofs.AnyFileRunsLemmas.{any_before}
 use Rattle.file_verdict.proofs.RestingLemmas.{TellsNow}
 use Rattle.mdc_shell.specs.Run.{IsStopBefore, LeftWithLine, RunsAnyPath}
 use Rattle.mdc_shell.specs.Status.{SaysEnd, line_of_end, status_of_stop}

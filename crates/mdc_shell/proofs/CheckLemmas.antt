@@ -12,8 +12,7 @@ use Rattle.mdc_outside.specs.declared.disk.Disk.{Ghosts}
 use Rattle.table_trees.specs.ToldPages.{PageList}
 use Rattle.page_file.specs.Leaving.{LeavesImage}
 use Rattle.page_store.specs.Opened.{CouldBeLeft}
-use Rattle.script_session.specs.Leaving.{AreServedPages}
-use Rattle.script_session.proofs.ToldLemmas.{takes_nothing}
+use Rattle.session.proofs.ToldLemmas.{takes_nothing}
 use Rattle.file_check.specs.declared.verdict.Verdict.{Verdict}
 use Rattle.file_check.specs.declared.verdict.Verdict.TheVariants.{Broken, Sound}
 use Rattle.file_verdict.specs.Resting.{ComesToRest, StandsAsBefore}
@@ -23,7 +22,8 @@ use Rattle.file_verdict.specs.declared.unjudged.Unjudged.{Unjudged}
 use Rattle.file_verdict.specs.declared.unjudged.Unjudged.TheVariants.{Device, Memory, NotMdc, Unmade, Version}
 use Rattle.file_verdict.proofs.RestingLemmas.{TellsNow}
 use Rattle.file_verdict.proofs.SoundFilesLemmas.{states_as_before}
-use Rattle.file_session.specs.Well.{IsWell}
+use Rattle.session.specs.script.Leaving.{AreServedPages}
+use Rattle.session.specs.file.Well.{IsWell}
 use Rattle.mdc_shell.specs.Check.{ChecksFormed, ChecksPath, ChecksUnserved, IsCheckStatus, IsStatusOnSound, IsUnsettled, SaysVerdict, line_of_verdict, status_of_verdict}
 use Rattle.mdc_shell.proofs.OriginLemmas.{could_be_left-moment, rests-opened, rests_then_said}
 

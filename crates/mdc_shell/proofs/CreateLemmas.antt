@@ -11,10 +11,10 @@ use Rattle.page_store.specs.declared.fault.OpenFault.TheVariants as fault
 use Rattle.mdc_shell.specs.declared.create.Created.{Created}
 use Rattle.mdc_shell.specs.declared.create.Created.TheVariants.{Exists, Made, Unsaid}
 use Rattle.mdc_shell.specs.Status.{status_of_created}
-use Rattle.script_session.specs.Told.{StaysTold}
+use Rattle.session.specs.script.Told.{StaysTold}
 use Rattle.mdc_shell.specs.Words.{CreateFile, SpellsLine}
 use Rattle.mdc_shell.proofs.Asking.{one_line}
-use Rattle.script_session.proofs.ToldLemmas.{same-told, takes-told, told_then}
+use Rattle.session.proofs.ToldLemmas.{same-told, takes-told, told_then}
 use Rattle.mdc_shell.proofs.ToldLemmas.{takes_part-told}
 use Rattle.mdc_shell.specs.Create.{Completes, Creates, HoldsEmpty, IsLeftByMaking, IsMadeOfNothing, StaysAsItWas, StaysWhereFull, made_line, exists_line}
 

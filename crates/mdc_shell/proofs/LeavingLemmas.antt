@@ -1,5 +1,5 @@
 -- What a crash within a create leaves.
-use Rattle.std.proofs.Common.{◌≡◌, ◌<◌, inl, inr, ℕ, List, [], length, Option, Some, refl, sym, ◌∙◌, subst, arith}
+use Rattle.std.proofs.Common.{◌≡◌, ◌<◌, inl, inr, ℕ, List, [], length, Option, Some, refl, sym, ap, ◌∙◌, subst, arith}
 use Rattle.std.proofs.lemmas.List.{append-nil}
 use Rattle.mdc_outside.specs.Disk.{File, Since, IsImage}
 use Rattle.mdc_outside.specs.Moments.{IsMoment, IsWithinCall}
@@ -8,6 +8,7 @@ use Rattle.page_file.specs.Leaving.{LeavesImage}
 use Rattle.page_file.proofs.LeavesLemmas.{nothing_said}
 use Rattle.page_store.specs.Fresh.{HoldsFresh, IsOfMaking, fresh_file}
 use Rattle.page_store.proofs.Crashes.{only_itself}
+use Rattle.page_store.proofs.FreshBytes.{length-file_with}
 use Rattle.mdc_shell.specs.Create.{made_line, exists_line}
 use Rattle.mdc_shell.specs.Leaving.{LeftByCreate}
 
@@ -37,7 +38,7 @@ pub left_by_create-made : (extents extent_pages : ℕ) (file : Option File) (tap
 left_by_create-made extents extent_pages file tape before held said is told none holds image taken within =
     let moment : IsMoment held.since said made_line image taken = within_call-told held said image taken is told within in
     let whole : image ≡ fresh_file extents extent_pages = only_itself held.bytes image (subst (λ (s : Since). IsImage s image) holds.synced moment.left) ∙ holds.bytes in
-    record { left = inr (none, λ blank. inr whole); told = λ _. inr (whole, moment.said); full = λ some. absurd (omega (arith, some, none)) }
+    record { left = inr (none, λ blank. inr whole, omega (arith, ap length whole, length-file_with 77 extents extent_pages)); told = λ _. inr (whole, moment.said); full = λ some. absurd (omega (arith, some, none)) }
 
 -- or of a file that has a byte
 pub left_by_create-exists : (extents extent_pages : ℕ) (file : Option File) (tape : Option (List ℕ)) (before : File) (said : List ℕ) → file ≡ Some before → tape ≡ Some said → 0 < length before.bytes

@@ -3,6 +3,7 @@ pub mod Asking
 pub mod CheckLemmas
 pub mod ClapWords
 pub mod CreateLemmas
+pub mod GrowingLemmas
 pub mod LeavingLemmas
 pub mod MadeFileLemmas
 pub mod NothingRunLemmas

@@ -16,19 +16,19 @@ use Rattle.stored_catalog.specs.StoredDefinitions.{AreStored}
 use Rattle.page_store.specs.Empty.{IsEmptyDatabase}
 use Rattle.page_store.specs.Fresh.{HoldsFresh}
 use Rattle.page_store.specs.Standing.{pages_in}
-use Rattle.made_database.specs.MadePages.{made_pages}
 use Rattle.script_engine.specs.Held.{HeldPages, StandsForSession}
-use Rattle.script_session.specs.Going.{GoesOnPages, Stage}
-use Rattle.script_session.specs.Leaving.{AreServedPages}
-use Rattle.script_session.specs.Lists.{GoesOnLists}
-use Rattle.script_session.specs.declared.stop.Served.{Served}
 use Rattle.file_verdict.specs.SoundFile.{StatesExtents}
-use Rattle.file_session.specs.Serving.{RunsItems}
-use Rattle.file_session.specs.declared.stop.FileStop.{FileStop}
+use Rattle.session.specs.script.Going.{GoesOnPages, Stage}
+use Rattle.session.specs.script.Leaving.{AreServedPages}
+use Rattle.session.specs.script.Lists.{GoesOnLists}
+use Rattle.session.specs.declared.script.stop.Served.{Served}
+use Rattle.session.specs.file.MadePages.{made_pages}
+use Rattle.session.specs.file.Serving.{RunsItems}
+use Rattle.session.specs.declared.file.stop.FileStop.{FileStop}
 use Rattle.mdc_shell.specs.Run.{IsStopBefore, RunsScratch}
 use Rattle.mdc_shell.specs.Status.{status_of}
-use Rattle.file_session.proofs.MadeFilesLemmas.{made_states}
-use Rattle.file_session.proofs.HostRunsLemmas.{opened_session}
+use Rattle.session.proofs.MadeFilesLemmas.{made_states}
+use Rattle.session.proofs.HostRunsLemmas.{opened_session}
 use Rattle.mdc_shell.proofs.NothingRunLemmas.{nothing_run}
 
 -- The laws of the pages of a database that was just made.

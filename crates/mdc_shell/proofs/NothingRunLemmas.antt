@@ -9,19 +9,19 @@ use Rattle.store_api.specs.declared.shape.Shape.{Shape}
 use Rattle.table_trees.specs.ToldPages.{PageList}
 use Rattle.mdc_sound.specs.StandsForDatabase.{PagesStandFor}
 use Rattle.script_engine.specs.Held.{HeldPages}
-use Rattle.script_session.specs.Going.{Goes}
-use Rattle.script_session.specs.Leaving.{AreServedPages}
-use Rattle.script_session.specs.Lists.{GoesOnLists}
-use Rattle.script_session.specs.Serving.{EndsScript}
-use Rattle.script_session.specs.declared.stop.Served.{Served}
-use Rattle.script_session.specs.declared.stop.SessionStop.{SessionStop}
-use Rattle.script_session.specs.declared.stop.SessionStop.TheVariants as session
-use Rattle.file_session.specs.Ending.{end_of_session}
-use Rattle.file_session.specs.Serving.{IsOpened, RunsItems}
-use Rattle.file_session.specs.declared.stop.FileStop.{FileStop}
-use Rattle.file_session.specs.declared.stop.FileStop.TheVariants.{Damaged, Device, Memory, NotMdc, TooLong, Unmade, Unread, Unsaid, Version}
-use Rattle.file_session.proofs.FirstEndsLemmas.{ends_first}
-use Rattle.file_session.proofs.HostRunsLemmas.{opened_session}
+use Rattle.session.specs.script.Going.{Goes}
+use Rattle.session.specs.script.Leaving.{AreServedPages}
+use Rattle.session.specs.script.Lists.{GoesOnLists}
+use Rattle.session.specs.script.Serving.{EndsScript}
+use Rattle.session.specs.declared.script.stop.Served.{Served}
+use Rattle.session.specs.declared.script.stop.SessionStop.{SessionStop}
+use Rattle.session.specs.declared.script.stop.SessionStop.TheVariants as session
+use Rattle.session.specs.file.Ending.{end_of_session}
+use Rattle.session.specs.file.Serving.{IsOpened, RunsItems}
+use Rattle.session.specs.declared.file.stop.FileStop.{FileStop}
+use Rattle.session.specs.declared.file.stop.FileStop.TheVariants.{Damaged, Device, Memory, NotMdc, TooLong, Unmade, Unread, Unsaid, Version}
+use Rattle.session.proofs.FirstEndsLemmas.{ends_first}
+use Rattle.session.proofs.HostRunsLemmas.{opened_session}
 use Rattle.mdc_shell.specs.Run.{IsStopBefore}
 
 -- a run of no items on pages that are served, which stand for this database, up to this end of its session

@@ -16,26 +16,26 @@ use Rattle.page_file.specs.Leaving.{LeavesImage}
 use Rattle.page_file.proofs.LeavesLemmas.{nothing_said}
 use Rattle.page_store.specs.Opened.{CouldBeLeft, file_bytes}
 use Rattle.page_store.specs.Standing.{pages_in}
-use Rattle.script_session.specs.Serving.{EndsScript, TakesScript}
-use Rattle.script_session.specs.declared.stop.Served.{Served}
-use Rattle.script_session.specs.declared.stop.Served.TheVariants.{AllDone, SomeRefused}
-use Rattle.script_session.specs.declared.stop.SessionStop.{SessionStop}
-use Rattle.script_session.specs.declared.stop.SessionStop.TheVariants as session
 use Rattle.std.specs.Option.{option_map}
-use Rattle.script_session.specs.Told.{TellsMore}
-use Rattle.file_session.specs.Ending.{IsCauseIn, IsUnopened, end_of_session, IsRefused}
-use Rattle.file_session.specs.Serving.{RunsItems, RunsOnFile, TakesBySession}
-use Rattle.file_session.specs.Well.{IsWell}
-use Rattle.file_session.specs.declared.stop.FileStop.{FileStop}
-use Rattle.file_session.specs.declared.stop.FileStop.TheVariants.{Damaged, Device, Memory, NotMdc, TooLong, Unmade, Unread, Unsaid, Version}
-use Rattle.file_session.specs.Leaving.{StopsUnrested}
 use Rattle.file_verdict.specs.Resting.{ComesToRest, StaysFormed}
 use Rattle.file_verdict.proofs.RestingLemmas.{TellsNow}
-use Rattle.script_session.specs.Ending.{script_limit}
+use Rattle.session.specs.script.Serving.{EndsScript, TakesScript}
+use Rattle.session.specs.declared.script.stop.Served.{Served}
+use Rattle.session.specs.declared.script.stop.Served.TheVariants.{AllDone, SomeRefused}
+use Rattle.session.specs.declared.script.stop.SessionStop.{SessionStop}
+use Rattle.session.specs.declared.script.stop.SessionStop.TheVariants as session
+use Rattle.session.specs.script.Told.{TellsMore}
+use Rattle.session.specs.script.Ending.{script_limit}
+use Rattle.session.specs.file.Ending.{IsCauseIn, IsUnopened, end_of_session, IsRefused}
+use Rattle.session.specs.file.Serving.{RunsItems, RunsOnFile, TakesBySession}
+use Rattle.session.specs.file.Well.{IsWell}
+use Rattle.session.specs.declared.file.stop.FileStop.{FileStop}
+use Rattle.session.specs.declared.file.stop.FileStop.TheVariants.{Damaged, Device, Memory, NotMdc, TooLong, Unmade, Unread, Unsaid, Version}
+use Rattle.session.specs.file.Leaving.{StopsUnrested}
 use Rattle.page_file.specs.Bound.{LeavesOf}
 use Rattle.mdc_shell.specs.Run.{IsComplete, IsStopBefore, IsWithinLimit, RefusesFile, ReopensFile, RunsPath, RunsScratch, ServesPath, TakesByStatus}
 use Rattle.mdc_shell.specs.Status.{SaysEnd, line_of_end, status_of, status_of_stop}
-use Rattle.script_session.proofs.ToldLemmas.{same-tells_more, takes_nothing}
+use Rattle.session.proofs.ToldLemmas.{same-tells_more, takes_nothing}
 use Rattle.mdc_shell.proofs.OriginLemmas.{could_be_left-moment, rests-opened, rests_then_said, unrested_said}
 use Rattle.mdc_shell.proofs.AnyRunsLemmas.{served_before, served_behind}
 

@@ -1,8 +1,8 @@
 -- What a call that says bytes does to the tape that a host tells.
 use Rattle.std.proofs.Common.{ℕ, List, ◌++◌, Option, Some, Result, Ok, Err, OnOk, OnErr, subst}
 use Rattle.mdc_outside.specs.Outside.{Takes, TakesPart}
-use Rattle.script_session.specs.Told.{StaysTold}
-use Rattle.script_session.proofs.ToldLemmas.{takes-told}
+use Rattle.session.specs.script.Told.{StaysTold}
+use Rattle.session.proofs.ToldLemmas.{takes-told}
 
 -- a tape on which a part of a piece was put is told still
 pub takes_part-told : (tape new : Option (List ℕ)) (piece : List ℕ) → TakesPart tape piece new → StaysTold tape new

@@ -16,8 +16,8 @@ use Rattle.file_verdict.specs.Verdict.{IsVerdictOn}
 use Rattle.file_verdict.specs.Written.{IsSameOrOpened}
 use Rattle.file_verdict.specs.declared.unjudged.Unjudged.{Unjudged}
 use Rattle.file_verdict.specs.declared.unjudged.Unjudged.TheVariants.{Device, Memory, NotMdc, Unmade, Version}
-use Rattle.file_session.specs.declared.stop.FileStop.{FileStop}
-use Rattle.file_session.specs.declared.stop.FileStop.TheVariants as stop
+use Rattle.session.specs.declared.file.stop.FileStop.{FileStop}
+use Rattle.session.specs.declared.file.stop.FileStop.TheVariants as stop
 use Rattle.mdc_shell.specs.Leaving.{HasPart}
 use Rattle.mdc_shell.specs.Status.{damage_line, line_of_stop, status_of_stop}
 

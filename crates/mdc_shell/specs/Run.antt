@@ -12,20 +12,20 @@ use Rattle.mdc_outside.specs.declared.disk.Disk.{Ghosts}
 use Rattle.store_api.specs.declared.shape.Shape.{Shape}
 use Rattle.mdc_sound.specs.StandsForDatabase.{PagesStandFor}
 use Rattle.page_store.specs.Standing.{pages_in}
-use Rattle.made_database.specs.MadePages.{made_pages}
 use Rattle.script_engine.specs.Held.{HeldPages}
-use Rattle.script_session.specs.Ending.{script_limit}
-use Rattle.script_session.specs.Going.{Stage, held_last}
-use Rattle.script_session.specs.Told.{TellsMore}
-use Rattle.script_session.specs.declared.stop.Served.{Served}
 use Rattle.file_verdict.specs.Resting.{ComesToRest, StaysFormed}
 use Rattle.file_verdict.specs.SoundFile.{StatesExtents}
-use Rattle.file_session.specs.AnyServing.{RunsOnServed, StandsFor}
-use Rattle.file_session.specs.Ending.{IsCauseIn, IsRefused, IsUnopened}
-use Rattle.file_session.specs.Leaving.{LeftByAnyRun}
-use Rattle.file_session.specs.Serving.{RunsItems, RunsOnFile}
-use Rattle.file_session.specs.declared.stop.FileStop.{FileStop}
-use Rattle.file_session.specs.declared.stop.FileStop.TheVariants.{Device, Memory}
+use Rattle.session.specs.script.Ending.{script_limit}
+use Rattle.session.specs.script.Going.{Stage, held_last}
+use Rattle.session.specs.script.Told.{TellsMore}
+use Rattle.session.specs.declared.script.stop.Served.{Served}
+use Rattle.session.specs.file.MadePages.{made_pages}
+use Rattle.session.specs.file.AnyServing.{RunsOnServed, StandsFor}
+use Rattle.session.specs.file.Ending.{IsCauseIn, IsRefused, IsUnopened}
+use Rattle.session.specs.file.Leaving.{LeftByAnyRun}
+use Rattle.session.specs.file.Serving.{RunsItems, RunsOnFile}
+use Rattle.session.specs.declared.file.stop.FileStop.{FileStop}
+use Rattle.session.specs.declared.file.stop.FileStop.TheVariants.{Device, Memory}
 use Rattle.mdc_shell.specs.Create.{exists_line}
 use Rattle.mdc_shell.specs.Leaving.{HasPart}
 use Rattle.mdc_shell.specs.Status.{SaysEnd, line_of_end, status_of}
@@ -95,7 +95,7 @@ pub record StopsBeforeOrigin {D : Type 0} (g : Ghosts D) (before : File) (said :
   pub time : OverTime g.clock g.moment (IsMoment before.since said (line_of_end end_)) old new
 
 -- `run FILE` on a formed file, whatever its pages are: from the run's origin on a crash leaves a formed image of the extents that the
--- file states, also while the line of the end is said, or the run stopped before any origin.
+-- file states, whose front is as it was, also while the line of the end is said; or the run stopped before any origin.
 abbrev pub ReopensFile : {D : Type 0} → Ghosts D → File → List ℕ → Option (List ℕ) → Option (List ℕ) → Option (List ℕ) → D → D → ℕ → Type 0
 ReopensFile g before said script left new_tape old new status =
     ComesToRest g before said (λ image tape. StaysFormed before.bytes image) old new ⊎ StopsBeforeOrigin g before said script left new_tape old new status

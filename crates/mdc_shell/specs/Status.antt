@@ -3,10 +3,10 @@ use Rattle.std.specs.Prelude.{◌≡◌, ◌⊎◌, ℕ, List, [], ◌++◌, cod
 use Rattle.std.specs.Fmt.{decimal}
 use Rattle.mdc_outside.specs.Outside.{Takes, TakesPart}
 use Rattle.store_api.specs.declared.fault.Damage.{Damage}
-use Rattle.script_session.specs.declared.stop.Served.{Served}
-use Rattle.script_session.specs.declared.stop.Served.TheVariants.{AllDone, SomeRefused}
-use Rattle.file_session.specs.declared.stop.FileStop.{FileStop}
-use Rattle.file_session.specs.declared.stop.FileStop.TheVariants.{Damaged, Device, Memory, NotMdc, TooLong, Unmade, Unread, Unsaid, Version}
+use Rattle.session.specs.declared.script.stop.Served.{Served}
+use Rattle.session.specs.declared.script.stop.Served.TheVariants.{AllDone, SomeRefused}
+use Rattle.session.specs.declared.file.stop.FileStop.{FileStop}
+use Rattle.session.specs.declared.file.stop.FileStop.TheVariants.{Damaged, Device, Memory, NotMdc, TooLong, Unmade, Unread, Unsaid, Version}
 use Rattle.mdc_shell.specs.declared.create.Created.{Created}
 use Rattle.mdc_shell.specs.declared.create.Created.TheVariants.{Made, Exists, DiskFailed}
 use Rattle.mdc_shell.specs.declared.create.Created.TheVariants as created

@@ -5,11 +5,12 @@ ghost use Rattle.mdc_words.specs.Faults.{CountsFault};
 ghost use Rattle.mdc_words.specs.Time.{OverTime};
 ghost use Rattle.mdc_outside.specs.Disk.{File};
 ghost use Rattle.mdc_outside.specs.Moments.{IsWithinCall};
+ghost use Rattle.page_store.specs.Growing.{GrewByCalls};
 ghost use Rattle.page_store.specs.Opened.{file_bytes};
 ghost use Rattle.page_store.specs.Opening.{IsServed};
 ghost use Rattle.page_store.specs.Standing.{IsFormed};
-ghost use Rattle.script_session.specs.Told.{StaysTold};
-ghost use Rattle.file_session.specs.Well.{AreWell, IsWell};
+ghost use Rattle.session.specs.script.Told.{StaysTold};
+ghost use Rattle.session.specs.file.Well.{AreWell, IsWell};
 ghost use Rattle.file_verdict.specs.SoundFile.{AreSoundFiles, IsSoundFile};
 ghost use Rattle.mdc_shell.specs.Check.{ChecksFormed, ChecksPath, ChecksUnserved, IsCheckStatus, IsStatusOnSound, IsUnsettled, SaysVerdict, StaysStanding, StaysUnserved, WritesChecked, line_of_verdict, status_of_verdict, stop_of};
 ghost use Rattle.mdc_shell.specs.Create.{MayAttach};
@@ -19,10 +20,10 @@ use crate::ending::{damage_line, line_of_stop, say_line};
 use crate::program::Ended;
 use crate::status::Status;
 use file_check::Verdict;
-use file_session::FileStop;
 use file_verdict::{Unjudged, judge_file};
 use mdc_outside::{Failed, Host};
 use mdc_values::Memory;
+use session::FileStop;
 use std::alloc::Global;
 
 /// Judges the database in the file at the path, as it is at entry, and says the verdict: `SOUND`, or `BROKEN` with the first rule that is
@@ -37,6 +38,7 @@ pub fn check_path<H: Host>(alloc: Global, path: &str, host: H) -> Ended<H>
     ensures unserved { (before : File) (said : List ℕ) → H.file host ≡ Some before → H.tape host ≡ Some said → (IsServed before.bytes → ⊥)
         → ChecksUnserved H.Disk before said (H.tape result.host) host result.host result.status.0 }
     ensures keeps_unserved { (before : File) → H.file host ≡ Some before → (IsServed before.bytes → ⊥) → StaysUnserved before (H.file result.host) result.status.0 }
+    ensures grew { (before after : File) → H.file host ≡ Some before → H.file result.host ≡ Some after → GrewByCalls (result.status.0 ≡ 3) before after.bytes }
     ensures writes { ForSome (H.file host) (λ file. WritesChecked result.status.0 file.bytes (file_bytes (H.file result.host))) }
     ensures stands { (before : File) (said : List ℕ) → H.file host ≡ Some before → H.tape host ≡ Some said → IsFormed before.bytes → (IsUnsettled result.status.0 → ⊥)
         → StaysStanding before (H.file result.host) }
@@ -76,6 +78,7 @@ fn check_attached<H: Host>(alloc: Global, host: H) -> Ended<H>
     ensures unserved { (before : File) (said : List ℕ) → H.file host ≡ Some before → H.tape host ≡ Some said → (IsServed before.bytes → ⊥)
         → ChecksUnserved H.Disk before said (H.tape result.host) host result.host result.status.0 }
     ensures keeps_unserved { (before : File) → H.file host ≡ Some before → (IsServed before.bytes → ⊥) → StaysUnserved before (H.file result.host) result.status.0 }
+    ensures grew { (before after : File) → H.file host ≡ Some before → H.file result.host ≡ Some after → GrewByCalls (result.status.0 ≡ 3) before after.bytes }
     ensures writes { ForSome (H.file host) (λ file. WritesChecked result.status.0 file.bytes (file_bytes (H.file result.host))) }
     ensures stands { (before : File) (said : List ℕ) → H.file host ≡ Some before → H.tape host ≡ Some said → IsFormed before.bytes → (IsUnsettled result.status.0 → ⊥)
         → StaysStanding before (H.file result.host) }

@@ -8,7 +8,8 @@ ghost use Rattle.mdc_words.specs.Faults.{CountsFault};
 ghost use Rattle.mdc_words.specs.Time.{OverTime};
 ghost use Rattle.page_file.specs.Leaving.{LeavesImage};
 ghost use Rattle.page_store.specs.Fresh.{IsOfMaking};
-ghost use Rattle.script_session.specs.Told.{StaysTold};
+ghost use Rattle.page_store.specs.Growing.{GrewByCalls};
+ghost use Rattle.session.specs.script.Told.{StaysTold};
 ghost use Rattle.store_api.specs.Extents.{is_shape};
 ghost use Rattle.mdc_shell.specs.Create.{Completes, Creates, HoldsEmpty, IsLeftByMaking, MayAttach, StaysAsItWas, StaysWhereFull};
 ghost use Rattle.mdc_shell.specs.Leaving.{LeftByCreate};
@@ -47,6 +48,8 @@ pub fn create<H: Host>(host: &mut H, path: &str, shape: Shape) -> Created
     ensures told { StaysTold (H.file host.old) (H.file host.new) × StaysTold (H.tape host.old) (H.tape host.new) }
     ensures time { (before : File) (said : List ℕ) → H.file host.old ≡ Some before → H.tape host.old ≡ Some said
         → OverTime H.clock H.moment (LeftByCreate shape.extents shape.extent_pages before said) host.old host.new }
+    // It is no longer than it was, or than the database that is made.
+    ensures grew { (before after : File) → H.file host.old ≡ Some before → H.file host.new ≡ Some after → GrewByCalls (result ≡ Created.DiskFailed) before after.bytes }
     ensures complete { (result ≡ Created.DiskFailed → ⊥) → (result ≡ Created.Unsaid → ⊥) → Completes (H.file host.old) (status_of_created result) }
 {
     match make_at(host, path, shape.extents, shape.extent_pages) {
@@ -76,6 +79,7 @@ pub(crate) fn make_at<D: Disk>(
     ensures attaches { MayAttach (D.attaches disk.old) path.now true (D.attaches disk.new) }
     ensures beside { D.beside disk.new ≡ D.beside disk.old }
     ensures told { IsLeftByMaking extents extent_pages (D.file disk.old) (D.file disk.new) }
+    ensures grew { (before after : File) → D.file disk.old ≡ Some before → D.file disk.new ≡ Some after → GrewByCalls (IsErrOf result OpenFault.Device) before after.bytes }
     ensures later { D.clock disk.old ≤ D.clock disk.new }
     ensures time { (before : File) (said : List ℕ) → D.file disk.old ≡ Some before → (D.beside disk.old).tape ≡ Some said
         → OverTime D.clock D.moment (LeavesImage (IsOfMaking extents extent_pages before) said) disk.old disk.new }

@@ -3,18 +3,17 @@ ghost use Rattle.std.specs.Prelude.{◌≡◌, ◌⊎◌, ◌≤◌, ◌++◌, [
 ghost use Rattle.mdc_words.specs.Faults.{CountsFault};
 ghost use Rattle.mdc_words.specs.Time.{OverTime};
 ghost use Rattle.mdc_outside.specs.Moments.{IsWithinCall};
-ghost use Rattle.script_session.specs.Told.{StaysTold};
+ghost use Rattle.session.specs.script.Told.{StaysTold};
 ghost use Rattle.mdc_outside.specs.Outside.{Takes, TakesPart};
 ghost use Rattle.mdc_shell.specs.Status.{SaysEnd, damage_line, line_of_end, line_of_stop, status_of};
 ghost use Rattle.mdc_shell.specs.Untouched.{IsUntouched};
 
 use crate::program::Ended;
 use crate::status::Status;
-use file_session::FileStop;
 use itoa::Buffer;
 use mdc_outside::{Failed, Host};
 use mdc_values::Memory;
-use script_session::Served;
+use session::{FileStop, Served};
 use std::alloc::Global;
 use store_api::Damage;
 

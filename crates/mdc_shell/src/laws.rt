@@ -6,18 +6,16 @@ ghost use Rattle.store_api.specs.declared.shape.Shape.{Shape};
 ghost use Rattle.page_store.specs.Empty.{IsEmptyDatabase};
 ghost use Rattle.page_store.specs.Fresh.{HoldsFresh};
 ghost use Rattle.page_store.specs.Standing.{pages_in};
-ghost use Rattle.script_session.specs.declared.stop.Served.{Served};
 ghost use Rattle.file_verdict.specs.SoundFile.{StatesExtents};
-ghost use Rattle.file_session.specs.Serving.{RunsItems};
-ghost use Rattle.file_session.specs.Well.{AreWell, IsWell};
-ghost use Rattle.file_session.specs.declared.stop.FileStop.{FileStop};
+ghost use Rattle.session.specs.declared.script.stop.Served.{Served};
+ghost use Rattle.session.specs.file.Serving.{RunsItems};
+ghost use Rattle.session.specs.file.Well.{AreWell, IsWell};
+ghost use Rattle.session.specs.declared.file.stop.FileStop.{FileStop};
 ghost use Rattle.mdc_shell.specs.Run.{IsStopBefore, RunsScratch, StandsForNothing};
 ghost use Rattle.mdc_shell.specs.Status.{status_of};
 
-use file_session::made_is_well;
-use made_database::made_database_is_sound;
 use script_engine::sound_pages_stand;
-use script_session::goes_on_lists;
+use session::{goes_on_lists, made_database_is_sound, made_is_well};
 
 /// A stop before anything is taken of the script is a run of none of its items: on a file that is well, and on a scratch file.
 pub(crate) fn nothing_is_run()

@@ -9,8 +9,8 @@
 //! is read. `main` only makes the real source and host, of which nothing is told, sees to it that no file is taken for a standard
 //! stream, and says on standard error why a call stopped (`explaining`).
 //!
-//! It stands on `file_session` for scripts on files, on `file_verdict` for checks, on `page_store` for making a file and on the law
-//! of `made_database` for what is made, on `host_edge` for the real source and host (`mdc_outside`), and on `clap` for the words.
+//! It stands on `session` for scripts on files and for the law of what is made, on `file_verdict` for checks, on `page_store` for
+//! making a file, on `host_edge` for the real source and host (`mdc_outside`), and on `clap` for the words.
 #![tactic(auto)]
 
 mod checking;

@@ -5,12 +5,13 @@ ghost use Rattle.mdc_outside.specs.Disk.{File};
 ghost use Rattle.mdc_outside.specs.Moments.{IsMoment, IsWithinCall};
 ghost use Rattle.mdc_words.specs.Faults.{CountsFault, Rose};
 ghost use Rattle.mdc_words.specs.Time.{OverTime};
+ghost use Rattle.page_store.specs.Growing.{GrewByCalls};
 ghost use Rattle.page_store.specs.Opened.{file_bytes};
 ghost use Rattle.page_store.specs.Opening.{IsServed};
 ghost use Rattle.page_store.specs.Standing.{IsFormed};
-ghost use Rattle.script_session.specs.Told.{StaysTold};
-ghost use Rattle.file_session.specs.Leaving.{AreFormed};
-ghost use Rattle.file_session.specs.Well.{AreWell, IsWell};
+ghost use Rattle.session.specs.script.Told.{StaysTold};
+ghost use Rattle.session.specs.file.Leaving.{AreFormed};
+ghost use Rattle.session.specs.file.Well.{AreWell, IsWell};
 ghost use Rattle.file_verdict.specs.SoundFile.{AreSoundFiles, IsSoundFile};
 ghost use Rattle.mdc_shell.specs.Check.{ChecksFormed, ChecksPath, ChecksUnserved, IsCheckComplete, IsCheckStatus, IsStatusOnSound, IsUnsettled, StaysStanding, StaysUnserved, WritesChecked};
 ghost use Rattle.mdc_shell.specs.Create.{Completes, Creates, MayAttach};
@@ -76,8 +77,8 @@ pub fn run<I: Source, H: Host>(
         → (before : File) (said : List ℕ) → H.file host ≡ Some before → H.tape host ≡ Some said → AreWell before
         → (after : File) × (H.file result.host ≡ Some after) × AreWell after }
 
-    // On a formed file, whatever its pages are: from the run's origin on a crash leaves a formed file of the same extents. Where each
-    // image that could be left was formed, each is so after the run.
+    // On a formed file, whatever its pages are: from the run's origin on a crash leaves a formed file of the same extents and the same
+    // front. Where each image that could be left was formed, each is so after the run.
     ensures reopens { (path : List ℕ) → SpellsLine (map string_bytes words.now.items) (RunFile path)
         → (before : File) (said : List ℕ) → H.file host ≡ Some before → H.tape host ≡ Some said → IsFormed before.bytes
         → ReopensFile H.Disk before said (I.left input.old) (I.left input.new) (H.tape result.host) host result.host result.status.0 }
@@ -174,6 +175,12 @@ pub fn run<I: Source, H: Host>(
         → (Rose (H.say_faults host) (H.say_faults result.host) → ⊥)
         → IsCheckComplete result.status.0 }
 
+    // What becomes of any file but that of `run -`, however the run ends: its front is as it was, nothing is cut off, and it is no longer
+    // than it was, or than its pages and one journal. Where a call of the disk failed, they are those of the commit that failed; or the
+    // file is what a crash could leave of it.
+    ensures grew { (SpellsLine (map string_bytes words.now.items) RunScratch → ⊥)
+        → (before after : File) → H.file host ≡ Some before → H.file result.host ≡ Some after → GrewByCalls (result.status.0 ≡ 3) before after.bytes }
+
     // All other words: nothing is read.
     ensures usage { IsNoLine (map string_bytes words.now.items)
         → SaysUsage (H.tape host) (H.tape result.host) result.status.0 × (input.new ≡ input.old)
@@ -235,6 +242,7 @@ fn create_file<H: Host>(host: H, path: &str, shape: Shape) -> Ended<H>
     ensures completes { (Rose (H.disk_faults host) (H.disk_faults result.host) → ⊥)
         → (Rose (H.say_faults host) (H.say_faults result.host) → ⊥)
         → Completes (H.file host) result.status.0 }
+    ensures grew { (before after : File) → H.file host ≡ Some before → H.file result.host ≡ Some after → GrewByCalls (result.status.0 ≡ 3) before after.bytes }
     ensures makes_well { result.status.0 ≡ 0 → ForSome (H.file result.host) (λ file. AreWell file × StandsForNothing file.bytes) }
 {
     made_files_are_well();

@@ -1,7 +1,7 @@
 // What no clause of `run` says: how often it speaks, and that memory is there. And its lines and its stops, by hand.
 ghost use Rattle.std.specs.Prelude.{◌≡◌, ◌≤◌, ℕ, List, Some, map, string_bytes};
 ghost use Rattle.mdc_outside.specs.Disk.{File};
-ghost use Rattle.file_session.specs.Well.{AreWell};
+ghost use Rattle.session.specs.file.Well.{AreWell};
 ghost use Rattle.mdc_shell.specs.Words.{RunFile, SpellsLine};
 
 use crate::program::{Ended, run};

@@ -2,11 +2,12 @@
 ghost use Rattle.std.specs.Prelude.{◌≡◌, ◌⊎◌, ◌≤◌, ◌<◌, ℕ, List, Some, Err, length, codes, true, false, IsTrue, IfSome};
 ghost use Rattle.mdc_outside.specs.Disk.{File};
 ghost use Rattle.mdc_words.specs.Faults.{CountsFault};
+ghost use Rattle.page_store.specs.Growing.{GrewByCalls};
 ghost use Rattle.page_store.specs.Opening.{IsServed};
 ghost use Rattle.page_store.specs.Standing.{IsFormed};
-ghost use Rattle.script_session.specs.Told.{StaysTold};
-ghost use Rattle.file_session.specs.Leaving.{AreFormed};
-ghost use Rattle.file_session.specs.Well.{AreWell, IsWell};
+ghost use Rattle.session.specs.script.Told.{StaysTold};
+ghost use Rattle.session.specs.file.Leaving.{AreFormed};
+ghost use Rattle.session.specs.file.Well.{AreWell, IsWell};
 ghost use Rattle.mdc_shell.specs.Create.{MayAttach};
 ghost use Rattle.mdc_shell.specs.Check.{StaysUnserved};
 ghost use Rattle.mdc_shell.specs.Run.{RefusesFile, RefusesScratch, ReopensFile, RunsAnyPath, RunsPath, RunsScratch, ServesPath, TakesByStatus};
@@ -18,10 +19,11 @@ use crate::ending::end_run;
 use crate::laws::{made_files_are_well, nothing_is_run, scratch_runs};
 use crate::program::Ended;
 use crate::status::Status;
-use file_session::serve_file;
 use mdc_outside::{Failed, Host, Source};
 use page_store::OpenFault;
+use session::serve_file;
 use std::alloc::Global;
+use std::marker::Brand;
 
 // The path of the scratch file.
 const SCRATCH: &str = "-";
@@ -49,6 +51,7 @@ pub fn run_path<I: Source, H: Host>(alloc: Global, path: &str, input: &mut I, ho
     ensures refuses { (before : File) (said : List ℕ) → H.file host ≡ Some before → H.tape host ≡ Some said → (IsServed before.bytes → ⊥)
         → RefusesFile H.Disk before said (H.tape result.host) host result.host result.status.0 × (input.new ≡ input.old) }
     ensures keeps_refused { (before : File) → H.file host ≡ Some before → (IsServed before.bytes → ⊥) → StaysUnserved before (H.file result.host) result.status.0 }
+    ensures grew { (before after : File) → H.file host ≡ Some before → H.file result.host ≡ Some after → GrewByCalls (result.status.0 ≡ 3) before after.bytes }
     ensures attaches { MayAttach (H.attaches host) path.now false (H.attaches result.host) }
     ensures disk { CountsFault (result.status.0 ≡ 3) (H.disk_faults host) (H.disk_faults result.host) }
     ensures takes { IfSome (I.left input.old) (λ script. TakesByStatus script (I.left input.new) result.status.0) }
@@ -134,6 +137,7 @@ fn run_attached<I: Source, H: Host>(alloc: Global, input: &mut I, host: H) -> En
     ensures refuses { (before : File) (said : List ℕ) → H.file host ≡ Some before → H.tape host ≡ Some said → (IsServed before.bytes → ⊥)
         → RefusesFile H.Disk before said (H.tape result.host) host result.host result.status.0 × (input.new ≡ input.old) }
     ensures keeps_refused { (before : File) → H.file host ≡ Some before → (IsServed before.bytes → ⊥) → StaysUnserved before (H.file result.host) result.status.0 }
+    ensures grew { (before after : File) → H.file host ≡ Some before → H.file result.host ≡ Some after → GrewByCalls (result.status.0 ≡ 3) before after.bytes }
     ensures attaches { H.attaches result.host ≡ H.attaches host }
     ensures disk { CountsFault (result.status.0 ≡ 3) (H.disk_faults host) (H.disk_faults result.host) }
     ensures takes { IfSome (I.left input.old) (λ script. TakesByStatus script (I.left input.new) result.status.0) }
@@ -142,6 +146,6 @@ fn run_attached<I: Source, H: Host>(alloc: Global, input: &mut I, host: H) -> En
     ensures later { H.clock host ≤ H.clock result.host }
     ensures told { StaysTold (H.file host) (H.file result.host) × StaysTold (H.tape host) (H.tape result.host) }
 {
-    let ended = serve_file(alloc, input, host);
+    let ended = serve_file::<I, H, Brand>(alloc, input, host);
     end_run(alloc, ended.end, ended.host)
 }

@@ -6,9 +6,8 @@ ghost use Rattle.mdc_shell.specs.Status.{status_of, status_of_created};
 use crate::checking::stop_of;
 use crate::create::Created;
 use file_check::Verdict;
-use file_session::FileStop;
 use file_verdict::Unjudged;
-use script_session::Served;
+use session::{FileStop, Served};
 
 /// The status that the program ends with.
 #[derive(Clone, Copy, Debug, PartialEq, Eq)]

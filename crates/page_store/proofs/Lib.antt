@@ -11,6 +11,7 @@ pub mod Desks
 pub mod FreshBytes
 pub mod FrontAgreesLemmas
 pub mod Grown
+pub mod GrowingLemmas
 pub mod FreshDatabase
 pub mod Journals
 pub mod Judged

@@ -1,5 +1,5 @@
 -- What a crash leaves while a database is made.
-use Rattle.std.proofs.Common.{◌≡◌, ◌≤◌, ◌+◌, ◌*◌, ℕ, Bool, List, [], ◌∷◌, ◌++◌, length, drop, replicate, get_or, Option, Some, IfSome, Result, Ok, Err, OnOk, inl, inr, arith, refl, ap, sym, subst, ◌∙◌}
+use Rattle.std.proofs.Common.{◌≡◌, ◌≤◌, ◌+◌, ◌-◌, ◌*◌, ℕ, Bool, List, [], ◌∷◌, ◌++◌, length, drop, replicate, get_or, Option, Some, IfSome, Result, Ok, Err, OnOk, inl, inr, arith, refl, ap, sym, subst, ◌∙◌}
 use Rattle.std.specs.Option.{option_map, ForSome}
 use Rattle.std.proofs.lemmas.List.{length-replicate, drop_all}
 use Rattle.std.proofs.lemmas.Bool.{cases_eq, ne_eqb}
@@ -19,6 +19,10 @@ use Rattle.page_file.specs.Leaving.{Leaves}
 use Rattle.page_file.proofs.LeavesLemmas.{sound_image}
 use Rattle.page_file.proofs.LeavesLemmas.{runs_leave, leaves_then}
 use Rattle.page_store.proofs.FreshBytes.{length-file_with, same_behind_made}
+
+-- an image that isn't made or is the whole, and is no longer than the whole
+abbrev pub IsMadeOn : ℕ → ℕ → List ℕ → Type 0
+IsMadeOn extents extent_pages image = IsUnmadeOrFresh extents extent_pages image × (length image ≤ fresh_len extents)
 
 -- where each image is empty, the file was never longer
 pub never_longer : (since : Since) (bytes : List ℕ) → IsImage since bytes → ((left : List ℕ) → IsImage since left → left ≡ []) → since.longest ≡ 0
@@ -176,33 +180,41 @@ module _ {D : Type 0} {file : D → Option File} {aside : D → Beside} {attache
       → Leaves file aside attaches is_attached clock moment (IsOfMaking extents extent_pages) old new
   begun_leaves extents extent_pages {old} {new} sound none run = runs_leave run
       (λ after is. sound_image (file new) after (sound new) is)
-      (λ before image is left. inr (none before is, λ blank. inl (while_begun before.since before.bytes image (sound_image (file old) before (sound old) is) blank left)))
+      (λ before image is left. inr (
+        none before is,
+        λ blank. inl (while_begun before.since before.bytes image (sound_image (file old) before (sound old) is) blank left),
+        omega (arith, left.no_longer),
+      ))
 
   -- all else is written
-  pub filled_leaves : (extents extent_pages n : ℕ) {old new : D} → ((disk : D) → IfSome (file disk) IsSound)
+  pub filled_leaves : (extents extent_pages : ℕ) {old new : D} → ((disk : D) → IfSome (file disk) IsSound)
       → ForSome (file old) (λ f. f.since ≡ all_synced (0 ∷ []))
-      → Runs file aside attaches is_attached clock moment IsWithin (torn 1 n) old new
-      → Leaves file aside attaches is_attached clock moment (λ before. IsUnmadeOrFresh extents extent_pages) old new
-  filled_leaves extents extent_pages n {old} {new} sound begun run = runs_leave run
+      → Runs file aside attaches is_attached clock moment IsWithin (torn 1 (fresh_len extents - 1)) old new
+      → Leaves file aside attaches is_attached clock moment (λ before. IsMadeOn extents extent_pages) old new
+  filled_leaves extents extent_pages {old} {new} sound begun run = runs_leave run
       (λ after is. sound_image (file new) after (sound new) is)
-      (λ before image is left. inl (while_filled n before.since image (begun before is) left))
+      (λ before image is left. (inl (while_filled (fresh_len extents - 1) before.since image (begun before is) left), omega (arith, left.no_longer, ap (λ s. s.longest) (begun before is))))
 
   -- the made byte is written open
   pub opened_leaves : (extents extent_pages : ℕ) {old new : D} → ((disk : D) → IfSome (file disk) IsSound)
       → ForSome (file old) (λ f. (f.bytes ≡ file_with 0 extents extent_pages) × (f.since ≡ all_synced f.bytes))
       → Runs file aside attaches is_attached clock moment IsWithin (torn 0 1) old new
-      → Leaves file aside attaches is_attached clock moment (λ before. IsUnmadeOrFresh extents extent_pages) old new
+      → Leaves file aside attaches is_attached clock moment (λ before. IsMadeOn extents extent_pages) old new
   opened_leaves extents extent_pages {old} {new} sound filled run = runs_leave run
       (λ after is. sound_image (file new) after (sound new) is)
-      (λ before image is left. let all = filled before is in while_made_open extents extent_pages before.since before.bytes image all.0 all.1 left)
+      (λ before image is left.
+      let all = filled before is in (
+        while_made_open extents extent_pages before.since before.bytes image all.0 all.1 left,
+        omega (arith, left.no_longer, ap (λ s. s.longest) all.1, ap length all.0, length-file_with 0 extents extent_pages),
+      ))
 
   -- and then more of the making
   pub leaves_on : (extents extent_pages : ℕ) {old middle new : D} → ForSome (file old) (λ f. length f.bytes ≡ 0)
       → Leaves file aside attaches is_attached clock moment (IsOfMaking extents extent_pages) old middle
-      → Leaves file aside attaches is_attached clock moment (λ before. IsUnmadeOrFresh extents extent_pages) middle new
+      → Leaves file aside attaches is_attached clock moment (λ before. IsMadeOn extents extent_pages) middle new
       → Leaves file aside attaches is_attached clock moment (IsOfMaking extents extent_pages) old new
   leaves_on extents extent_pages none first second = leaves_then first second
-      (λ before image is left. left) (λ before half image is is_half first left. inr (none before is, λ blank. left))
+      (λ before image is left. left) (λ before half image is is_half first left. inr (none before is, λ blank. left.0, omega (arith, left.1)))
 
   -- a call that left the file as it was, and then a making
   pub still_then : (extents extent_pages : ℕ) {old middle new : D} → file middle ≡ file old

@@ -1,5 +1,5 @@
 -- The file that is made: empty but for its gates, its birth page and its root page (docs/FORMAT.md, "Making").
-use Rattle.std.specs.Prelude.{◌≡◌, ◌⊎◌, ◌<◌, ℕ, ◌+◌, List, [], ◌∷◌, ◌++◌, length, drop, replicate, IsFalse}
+use Rattle.std.specs.Prelude.{◌≡◌, ◌⊎◌, ◌≤◌, ◌<◌, ℕ, ◌+◌, List, [], ◌∷◌, ◌++◌, length, max, drop, replicate, IsFalse}
 use Rattle.byteorder.specs.Endian.{big_bytes}
 use Rattle.mdc_outside.specs.Disk.{File, IsImage, all_synced}
 use Rattle.store_api.specs.StoreState.{zero_page}
@@ -50,10 +50,11 @@ abbrev pub IsBlank : File → Type 0
 IsBlank file = (left : List ℕ) → IsImage file.since left → left ≡ []
 
 -- The image is one that could be left before, or the file had no byte. Where none could be left, the image isn't made or is
--- the whole.
+-- the whole. It is no longer than could be left before, or than the whole.
 abbrev pub IsOfMaking : ℕ → ℕ → File → List ℕ → Type 0
 IsOfMaking extents extent_pages before image =
-    IsImage before.since image ⊎ ((length before.bytes ≡ 0) × (IsBlank before → IsUnmadeOrFresh extents extent_pages image))
+    IsImage before.since image
+    ⊎ ((length before.bytes ≡ 0) × (IsBlank before → IsUnmadeOrFresh extents extent_pages image) × (length image ≤ max before.since.longest (fresh_len extents)))
 
 -- the file holds an empty database, all of it on the disk
 pub record HoldsFresh (extents extent_pages : ℕ) (file : File) : Type 0 where

@@ -7,6 +7,7 @@ pub mod Empty
 pub mod Faults
 pub mod FileStore
 pub mod Fresh
+pub mod Growing
 pub mod LentWork
 pub mod Opened
 pub mod Opening

@@ -1,7 +1,7 @@
 // How an empty database is made.
-ghost use Rattle.std.specs.Prelude.{◌≡◌, ◌⊎◌, ◌<◌, ◌+◌, ◌-◌, ◌*◌, ◌^◌, [], ◌∷◌, ◌++◌, length, IsTrue, IsErrOf, OnOk, OnErr, IsErr};
+ghost use Rattle.std.specs.Prelude.{◌≡◌, ◌⊎◌, ◌<◌, ◌+◌, ◌-◌, ◌*◌, ◌^◌, [], ◌∷◌, ◌++◌, length, Some, IsTrue, IsErrOf, OnOk, OnErr, IsErr};
 ghost use Rattle.std.specs.Option.{option_map, ForSome};
-ghost use Rattle.mdc_outside.specs.Disk.{torn, written, settled};
+ghost use Rattle.mdc_outside.specs.Disk.{File, torn, written, settled};
 ghost use Rattle.mdc_words.specs.Faults.{CountsFault};
 ghost use Rattle.page_file.specs.Bound.{RunsOf};
 ghost use Rattle.page_file.specs.Runs.{IsWithin, IsCovered, Between};
@@ -9,6 +9,7 @@ ghost use Rattle.page_file.specs.Bound.{LeavesOf};
 ghost use Rattle.page_store.specs.Empty.{IsEmptyDatabase};
 ghost use Rattle.page_store.specs.Fresh.{HoldsFresh, IsOfMaking, file_with, fresh_len, front_with, root_page, zero_pages};
 ghost use Rattle.store_api.specs.Extents.{is_shape, first_count, map_pages};
+ghost use Rattle.page_store.specs.Growing.{GrewByCalls};
 ghost use Rattle.page_file.specs.Layout.{home_start, page_start};
 
 use crate::OpenFault;
@@ -44,6 +45,9 @@ pub fn make<D: Disk>(disk: &mut D, extents: u32, extent_pages: u32) -> Result<()
     ensures causes { OnErr result (IsErrOf result OpenFault.Exists ⊎ IsErrOf result OpenFault.Device) }
     ensures cause { CountsFault (IsErrOf result OpenFault.Device) (D.disk_faults disk.old) (D.disk_faults disk.new) }
     ensures leaves { LeavesOf D.Disk (IsOfMaking extents extent_pages) disk.old disk.new }
+    // It is no longer than the whole, or than a crash could leave it before.
+    ensures grew { (before after : File) → D.file disk.old ≡ Some before → D.file disk.new ≡ Some after
+        → GrewByCalls (IsErrOf result OpenFault.Device) before after.bytes }
 {
     if end_of(disk)? > 0 {
         return Err(OpenFault::Exists);

@@ -64,6 +64,9 @@ done_if_served db (bound.Update place sets pred) valid served =
 done_if_served db (bound.Delete place pred) valid served = there_as db place _ _ served (λ table at judge. record { filterable = where_ready db place table pred valid at judge })
 done_if_served db (bound.Query select) valid served =
     there_as db select.table _ _ served (λ table at show. record { shown = show.shown; filterable = where_ready db select.table table select.pred valid at show.judge })
+done_if_served db (bound.Explain select) valid served =
+    there_as db select.table _ _ served (λ table at judge. record { filterable = where_ready db select.table table select.pred valid at judge })
+done_if_served db (bound.Reclaim place) valid served = is_there (table_at db place) (subst IsSome (def_at-defs_of db place) served)
 done_if_served db statement valid served = tt
 
 -- once it is bound it may be done

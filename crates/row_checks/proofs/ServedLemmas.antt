@@ -11,10 +11,11 @@ use Rattle.mdc_ast.specs.declared.name.Name.{Name}
 use Rattle.mdc_ast.specs.declared.predicate.PredText.{PredText}
 use Rattle.mdc_ast.specs.declared.row.Row.{Row}
 use Rattle.mdc_ast.specs.declared.statement.InsertItem.{InsertItem}
+use Rattle.mdc_ast.specs.declared.statement.Select.{Select}
 use Rattle.mdc_ast.specs.declared.statement.SetText.{SetText}
 use Rattle.mdc_ast.specs.declared.statement.Stmt.{Stmt}
 use Rattle.mdc_ast.specs.declared.statement.Stmt.TheVariants as stmt
-use Rattle.statement_meaning.specs.Binding.{bound_drop_index, bound_index, bound_of, bound_on, bound_set, bound_tuple, bound_where, columns_of, given_for, on_place}
+use Rattle.statement_meaning.specs.Binding.{bound_drop_index, bound_index, bound_of, bound_on, bound_set, bound_tuple, bound_where, columns_of, given_for, on_place, shown}
 use Rattle.statement_meaning.specs.Cause.{Cause, IndexExists, Limit, TableExists, cause_if}
 use Rattle.mdc_ast.specs.Database.{fits_all, numbered}
 use Rattle.mdc_ast.specs.ValidDatabase.{AreValidDefs}
@@ -35,7 +36,7 @@ use Rattle.row_checks.proofs.BoundPlaces.{sets_within, shown_within}
 use Rattle.row_checks.proofs.Each.{same_number}
 use Rattle.row_checks.proofs.KindsLemmas.{may_filter-bound_where}
 use Rattle.row_checks.specs.Executing.{are_tuples_wide}
-use Rattle.row_checks.specs.Served.{IsDefined, IsServed, MayJudge, MayLoseIndex, MayPut, MaySet}
+use Rattle.row_checks.specs.Served.{IsDefined, IsServed, MayJudge, MayLoseIndex, MayPut, MaySet, MayShowRows}
 
 -- ---- INSERT
 
@@ -76,6 +77,19 @@ may_set def sets text faultless =
       judge = may_judge_where def text (record { there = columns.1; typed = types.1 });
       within = sets_within def.columns [] sets columns.0;
       fit = λ values fit none. set_row_fits def.columns sets values settable fit none;
+    }
+
+-- ---- queries
+
+may_show : (def : TableDef) (select : Select) → IsFaultless (query_judged select def.columns) → MayShowRows (shown def.columns select.list) (bound_where def.columns select.pred) def
+may_show def select faultless =
+    let where_ = where_judged def.columns select.pred in
+    let front = none_of_both (shown_columns def.columns select.list ++ where_.columns) (tail_judged select def.columns).columns faultless.columns in
+    let columns = none_of_both (shown_columns def.columns select.list) where_.columns front.0 in
+    let types = none_of_both ((list_judged select def.columns).types ++ where_.types) (tail_judged select def.columns).types faultless.types in
+    record {
+      judge = may_judge_where def select.pred (record { there = columns.1; typed = (none_of_both (list_judged select def.columns).types where_.types types.0).1 });
+      shown = shown_within def.columns select.list columns.0;
     }
 
 -- ---- statements
@@ -137,15 +151,11 @@ serves defs (stmt.Delete name text) said =
     (λ place def at faultless. defined_as (def_at defs place) def _ at (may_judge_where def text (record { there = faultless.columns; typed = faultless.types })))
 serves defs (stmt.Query select) said =
     served_on defs select.table _ (λ def. query_judged select def.columns) said
-    (λ place def at faultless.
-    let where_ = where_judged def.columns select.pred in
-    let front = none_of_both (shown_columns def.columns select.list ++ where_.columns) (tail_judged select def.columns).columns faultless.columns in
-    let columns = none_of_both (shown_columns def.columns select.list) where_.columns front.0 in
-    let types = none_of_both ((list_judged select def.columns).types ++ where_.types) (tail_judged select def.columns).types faultless.types in
-    defined_as (def_at defs place) def _ at (record {
-      judge = may_judge_where def select.pred (record { there = columns.1; typed = (none_of_both (list_judged select def.columns).types where_.types types.0).1 });
-      shown = shown_within def.columns select.list columns.0;
-    }))
+    (λ place def at faultless. defined_as (def_at defs place) def _ at (may_show def select faultless))
+serves defs (stmt.Explain select) said =
+    served_on defs select.table _ (λ def. query_judged select def.columns) said
+    (λ place def at faultless. defined_as (def_at defs place) def _ at (may_show def select faultless).judge)
+serves defs (stmt.Reclaim name) said = served_on defs name _ (λ def. no_fault) said (λ place def at faultless. subst IsSome (sym at) refl)
 serves defs statement said = tt
 
 -- so it may on valid definitions, where its form is built

@@ -69,4 +69,6 @@ MayBeDone db (bound.Insert place tuples) = IsThere (table_at db place) (MayInser
 MayBeDone db (bound.Update place sets pred) = IsThere (table_at db place) (MayUpdate sets pred)
 MayBeDone db (bound.Delete place pred) = IsThere (table_at db place) (MayFilter pred)
 MayBeDone db (bound.Query select) = IsThere (table_at db select.table) (MayShow select.outs select.pred)
+MayBeDone db (bound.Explain select) = IsThere (table_at db select.table) (MayFilter select.pred)
+MayBeDone db (bound.Reclaim place) = IsSome (table_at db place)
 MayBeDone db statement = Unit {0}

@@ -82,4 +82,6 @@ IsServed defs (bound.Insert place tuples) = IsDefined (def_at defs place) (MayPu
 IsServed defs (bound.Update place sets pred) = IsDefined (def_at defs place) (MaySet sets pred)
 IsServed defs (bound.Delete place pred) = IsDefined (def_at defs place) (MayJudge pred)
 IsServed defs (bound.Query select) = IsDefined (def_at defs select.table) (MayShowRows select.outs select.pred)
+IsServed defs (bound.Explain select) = IsDefined (def_at defs select.table) (MayJudge select.pred)
+IsServed defs (bound.Reclaim place) = IsSome (def_at defs place)
 IsServed defs statement = Unit {0}

@@ -41,7 +41,7 @@ module _ {S : Type 0} (g : Ghosts S) (old mid : S) (before : Tables) (statement 
       let done = does (ready_same g old mid before told same ready) in record {
         ready = done.ready;
         stands = λ db stands. done.stands db (subst (λ (pages : PageList). PagesStandFor before.shape pages db) (sym same) stands);
-        places = λ reply is place def changes at. subst (λ (pages : PageList). PlacesOnPages before.shape pages (pages_of g new) def statement) same (done.places reply is place def changes at);
+        places = λ reply is place def changes at. subst (λ (pages : PageList). PlacesOnPages before.shape pages (pages_of g new) before.settings.rollout def statement) same (done.places reply is place def changes at);
         others = subst (λ (pages : PageList). KeepsOthers before.shape pages (pages_of g new) before.catalog now.catalog (touched_place statement)) same done.others;
       }
 

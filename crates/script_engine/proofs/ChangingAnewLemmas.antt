@@ -1,15 +1,14 @@
 -- A statement that is tried once more, on the pages of the last commit, by what was read of them anew.
-use Rattle.std.proofs.Common.{◌≡◌, ◌⊎◌, ℕ, Bool, true, false, None, Result, Ok, Err, IsErrAnd, refl, sym, ap, subst, inl, inr, ◌∙◌}
+use Rattle.std.proofs.Common.{◌≡◌, Bool, true, false, None, Result, Ok, Err, IsErrAnd, refl, sym, ap, subst, inr, ◌∙◌}
 use Rattle.std.specs.Prelude.{IsErrOf, IsTrue}
 use Rattle.mdc_words.specs.Faults.{CountsFault}
 use Rattle.mdc_words.specs.Time.{OverTime}
-use Rattle.mdc_words.proofs.FaultsLemmas.{counts_fault_as, counts_fault_none, counts_fault_then}
+use Rattle.mdc_words.proofs.FaultsLemmas.{counts_fault_none, counts_fault_then}
 use Rattle.mdc_ast.specs.declared.refusal.Refusal.{Refusal}
 use Rattle.mdc_ast.specs.declared.reply.Outcome.{Outcome}
 use Rattle.mdc_ast.specs.declared.reply.Outcome.TheVariants as said
-use Rattle.mdc_ast.specs.declared.reply.Reply.{Reply}
 use Rattle.mdc_ast.specs.declared.statement.Stmt.{Stmt}
-use Rattle.statement_meaning.specs.Built.{are_built, is_built_step}
+use Rattle.statement_meaning.specs.Built.{are_built}
 use Rattle.statement_meaning.specs.Cause.{NotBuilt, refusal_of}
 use Rattle.statement_meaning.specs.Session.{is_refusal}
 use Rattle.store_api.specs.Calls.{RollsBack}
@@ -20,42 +19,38 @@ use Rattle.store_api.specs.declared.pages.Pages.{Ghosts}
 use Rattle.store_api.specs.declared.shape.Shape.{Shape}
 use Rattle.store_api.proofs.WorksLemmas.{steady_rollback, steady_then}
 use Rattle.table_trees.specs.ToldPages.{PageList}
-use Rattle.mdc_sound.specs.SoundDatabase.{IsSoundDatabase, KeepAllRules}
-use Rattle.mdc_sound.specs.StandingTable.{pages_of}
+use Rattle.mdc_sound.specs.SoundDatabase.{IsSoundDatabase}
 use Rattle.stored_catalog.specs.StoredDefinitions.{AreStored}
 use Rattle.script_engine.specs.Breaking.{NamesExactly}
 use Rattle.script_engine.specs.Committing.{CommitsWork, CountsPages}
-use Rattle.script_engine.specs.Controls.{control_of}
-use Rattle.script_engine.specs.Doing.{DoesStep, is_reading}
 use Rattle.script_engine.specs.Held.{KeepsBase}
-use Rattle.script_engine.specs.Listing.{is_listing}
-use Rattle.script_engine.specs.OnAnyPages.{ExecutesOnAny, IsGoingEngine, is_built_form, judged_pages}
-use Rattle.script_engine.specs.Ready.{AreServed, IsReady}
+use Rattle.script_engine.specs.OnAnyPages.{ExecutesOnAny, IsGoingEngine}
+use Rattle.script_engine.specs.Ready.{AreServed}
 use Rattle.script_engine.specs.Reloading.{Reloads}
-use Rattle.script_engine.specs.Serving.{IsReadyEngine, MayCall, held_by}
-use Rattle.script_engine.specs.Trying.{IsRefusedFull, KeepsCatalog, TriesStep}
+use Rattle.script_engine.specs.Roles.{is_built_form, is_tried, only_reads, role_of}
+use Rattle.script_engine.specs.Serving.{MayCall, held_by}
+use Rattle.script_engine.specs.Trying.{AnswersBySoundPages, Tries, TriesStep}
 use Rattle.script_engine.specs.Turns.{ComesUnready, Executes, LeavesOutside}
 use Rattle.script_engine.specs.declared.engine.Engine.{Engine}
 use Rattle.script_engine.specs.declared.stop.EngineStop.{EngineStop}
 use Rattle.script_engine.specs.declared.stop.EngineStop.TheVariants.{Damaged, Device, Output}
 use Rattle.script_engine.specs.declared.tables.Tables.{Tables}
-use Rattle.script_engine.specs.declared.transactions.Control.TheVariants as control
+use Rattle.script_engine.proofs.AnsweringAnewLemmas.{answered_ready}
 use Rattle.script_engine.proofs.CatalogLemmas.{served_of}
-use Rattle.script_engine.proofs.CommittingLemmas.{commits_behind}
-use Rattle.script_engine.proofs.FetchesForListingLemmas.{lists_other}
-use Rattle.script_engine.proofs.OnAnyLemmas.{any_answered, any_commit_stops, any_commits, any_halts, as_held, does_other, form_other, judged_other, made_on_any, not_refused, steps_any, stopped_at}
-use Rattle.script_engine.proofs.ReadyTablesLemmas.{ready_of_sound}
-use Rattle.script_engine.proofs.TurnsLemmas.{KeepsSettings, answers_other, executes_stop, outside_steady, outside_then, outside_value, same_settings, sound_root, ready_tried}
+use Rattle.script_engine.proofs.OnAnyLemmas.{any_answered, any_commit_stops, any_commits, any_halts, as_held, does_other, judged_other, made_on_any, not_refused, steps_any, stopped_at}
+use Rattle.script_engine.proofs.TurnsLemmas.{KeepsSettings, answers_other, executes_stop, outside_steady, outside_then, outside_value, same_settings, sets_other, sound_root}
+use Rattle.script_engine.proofs.TryingLemmas.{ready_tried}
 
 -- what is said in a refusal
 pub refusal_in : (outcome : Outcome) → is_refusal outcome ≡ true → (refusal : Refusal) × (outcome ≡ said.Refused refusal)
 refusal_in (said.Done reply) is = absurd (cc)
 refusal_in (said.Refused refusal) is = (refusal, refl)
 
-module _ {S : Type 0} (g : Ghosts S) (stmt : Stmt) (first here : Engine S) (comes : ComesUnready g first here) (other : control_of stmt ≡ control.Other) where
+module _ {S : Type 0} (g : Ghosts S) (stmt : Stmt) (first here : Engine S) (comes : ComesUnready g first here) (other : is_tried (role_of stmt) ≡ true)
+    (changing : only_reads (role_of stmt) ≡ false) where
   -- ---- an end
 
-  set_here : (new : Engine S) → new.settings ≡ here.settings → new.pass ≡ here.pass → KeepsSettings (held_by g first) (held_by g new)
+  set_here : (new : Engine S) → new.tables.settings ≡ here.tables.settings → new.pass ≡ here.pass → KeepsSettings (held_by g first) (held_by g new)
   set_here new settings pass = same_settings (settings ∙ comes.settings) (pass ∙ comes.pass)
 
   -- a stop, behind which the pages of the last commit are held where it is damage
@@ -63,15 +58,15 @@ module _ {S : Type 0} (g : Ghosts S) (stmt : Stmt) (first here : Engine S) (come
     steady_new : Steady g first.store new.store
     steady_new = steady_then comes.steady steady
 
-    pub anew_stops : {X : Type 0} (result : Result Outcome EngineStop) → IsErrAnd result (λ e. e ≡ stop) → new.tables.shape ≡ here.tables.shape
+    pub anew_stops : {X : Type 0} (result : Result Outcome EngineStop) → IsErrAnd result (λ e. e ≡ stop) → new.tables.shape ≡ here.tables.shape → new.tables.settings ≡ here.tables.settings
         → CountsFault (IsErrOf {T = X} (Err stop) Device) (g.disk_faults here.store) (g.disk_faults new.store) → (IsErrOf {T = X} (Err stop) Output → ⊥)
         → NamesExactly {X = X} g here.tables.shape (Err stop) new.store → ((damage : Damage) → stop ≡ Damaged damage → (g.state new.store).marked ≡ None) → (g.state here.store).ended ≡ false
         → Executes g stmt result first new
-    anew_stops {X} result is shape device output exact unmarked going =
+    anew_stops {X} result is shape settings device output exact unmarked going =
         executes_stop g {X = X} {Y = X} stmt result stop first new is (λ damage e ready. comes.unready ready)
         (subst (λ (of : Shape). NamesExactly {X = X} g of (Err stop) new.store) comes.shape exact)
         (λ damage e. record { base = steady_new.base; going = steady.ended ∙ going; unmarked = unmarked damage e; is_open = is_open ∙ comes.is_open })
-        (λ ready. absurd (comes.unready ready)) (shape ∙ comes.shape)
+        (λ ready. absurd (comes.unready ready)) (shape ∙ comes.shape) (settings ∙ comes.settings)
         (outside_steady g {X = X} (Err stop) first new steady_new (counts_fault_then comes.still device) output)
 
     pub anew_stops_any : {X : Type 0} (result : Result Outcome EngineStop) → IsErrAnd result (λ e. e ≡ stop)
@@ -86,16 +81,17 @@ module _ {S : Type 0} (g : Ghosts S) (stmt : Stmt) (first here : Engine S) (come
 
   -- an answer
   pub anew_answers : (outcome : Outcome) (new : Engine S) → MayCall g new → new.served ≡ are_built new.tables.catalog → KeepsBase (held_by g first) (held_by g new) → new.is_open ≡ here.is_open
-      → new.tables.shape ≡ here.tables.shape → is_listing stmt ≡ false → LeavesOutside g (Ok outcome) first new → Executes g stmt (Ok outcome) first new
-  anew_answers outcome new may served keeps is_open shape changing outside = record {
+      → new.tables.shape ≡ here.tables.shape → new.tables.settings ≡ here.tables.settings → LeavesOutside g (Ok outcome) first new → Executes g stmt (Ok outcome) first new
+  anew_answers outcome new may served keeps is_open shape settings outside = record {
     steps = λ ready. absurd (comes.unready ready);
     may = may;
     keeps = λ all. keeps;
-    controls = answers_other first.is_open stmt outcome other;
+    controls = answers_other first.is_open (role_of stmt) outcome other;
+    settings = sets_other (role_of stmt) first.served first.tables.settings outcome new.tables.settings other (settings ∙ comes.settings);
     built = λ was. served;
     leaves = λ ready. absurd (comes.unready ready);
     fetches = λ ready. absurd (comes.unready ready);
-    lists = λ ready. lists_other g first.store new.store first.tables.catalog stmt changing;
+    lists = λ ready. absurd (comes.unready ready);
     unserved = λ unserved is outcome e. let wrong : true ≡ false = sym comes.served ∙ unserved in absurd (cc);
     damaged = λ damage e ready. absurd (cc);
     exact = λ damage e. absurd (cc);
@@ -104,10 +100,9 @@ module _ {S : Type 0} (g : Ghosts S) (stmt : Stmt) (first here : Engine S) (come
     outside = outside;
   }
 
-  -- ---- it was gone back to the pages of the last commit, which are sound
+  -- ---- it was gone back to the pages of the last commit
 
-  module _ (back : S) (tables : Tables) (served : Bool) (reloads : Reloads g (Ok served) here.store back here.tables tables)
-      (sound : IsTrue (g.state here.store).is_told → IsSoundDatabase here.tables.shape (g.state here.store).base) where
+  module _ (back : S) (tables : Tables) (served : Bool) (reloads : Reloads g (Ok served) here.store back here.tables tables) where
     steady_back : Steady g first.store back
     steady_back = steady_then comes.steady reloads.steady
 
@@ -123,27 +118,18 @@ module _ {S : Type 0} (g : Ghosts S) (stmt : Stmt) (first here : Engine S) (come
     stored_back : IsTrue (g.state first.store).is_told → AreStored (g.state first.store).base tables.catalog
     stored_back told = subst (λ (pages : PageList). AreStored pages tables.catalog) comes.steady.base (reloads.stored (subst IsTrue (sym comes.steady.is_told) told))
 
-    -- they are ready
-    ready_back : are_built tables.catalog ≡ true → IsTrue (g.state back).is_told → IsReady g back tables
-    ready_back built told =
-        let told_here : IsTrue (g.state here.store).is_told = subst IsTrue reloads.steady.is_told told in
-        let is = sound told_here in
-        ready_of_sound g back tables is.0 (served_of tables.catalog reloads.limits reloads.names built) told
-        (subst (λ (pages : PageList). KeepAllRules tables.shape pages is.0) (sym reloads.work) (subst (λ (of : Shape). KeepAllRules of (g.state here.store).base is.0) (sym reloads.shape) is.1))
-        (subst (λ (pages : PageList). AreStored pages tables.catalog) (sym reloads.work) (reloads.stored told_here)) (reloads.notes is.0.owners) reloads.rooms
-
     -- they are those of a form that isn't built, or the statement was refused: nothing changed but the definitions
     module _ (outcome : Outcome) (refusal : Refusal) (is : outcome ≡ said.Refused refusal) (store : S) (now : Tables) (flag : Bool) (run : Steady g back store)
         (device : CountsFault (IsErrOf (Ok outcome) Device) (g.disk_faults back) (g.disk_faults store)) (work : (g.state store).work ≡ (g.state back).work)
-        (unmarked : (g.state store).marked ≡ None) (shape : now.shape ≡ tables.shape) (catalog : now.catalog ≡ tables.catalog) (flag_is : flag ≡ are_built now.catalog) where
+        (unmarked : (g.state store).marked ≡ None) (shape : now.shape ≡ tables.shape) (set : now.settings ≡ tables.settings) (catalog : now.catalog ≡ tables.catalog) (flag_is : flag ≡ are_built now.catalog) where
       abbrev refused_engine : Engine S
       refused_engine = record here { store = store; tables = now; served = flag }
 
       steady_refused : Steady g first.store store
       steady_refused = steady_then steady_back run
 
-      pub anew_refused : (g.state here.store).ended ≡ false → is_listing stmt ≡ false → Executes g stmt (Ok outcome) first refused_engine
-      anew_refused going changing =
+      pub anew_refused : (g.state here.store).ended ≡ false → Executes g stmt (Ok outcome) first refused_engine
+      anew_refused going =
           anew_answers outcome refused_engine
           (record {
             going = run.ended ∙ (reloads.steady.ended ∙ going);
@@ -153,40 +139,41 @@ module _ {S : Type 0} (g : Ghosts S) (stmt : Stmt) (first here : Engine S) (come
                 subst AreServed (sym catalog) (served_of tables.catalog reloads.limits reloads.names (ap are_built (sym catalog) ∙ built));
           }) flag_is
           (record { closed = λ shut. steady_refused.base ∙ (sym work_back ∙ sym work); is_open = λ opened. steady_refused.base }) refl
-          (shape ∙ reloads.shape) changing
+          (shape ∙ reloads.shape) (set ∙ reloads.settings)
           (outside_steady g (Ok outcome) first refused_engine steady_refused (counts_fault_then still_back device) (λ e. absurd (cc)))
 
-      pub anew_refused_any : IsGoingEngine g first → is_listing stmt ≡ false → (is_built_step stmt ≡ false → outcome ≡ said.Refused (refusal_of NotBuilt)) → ExecutesOnAny g stmt (Ok outcome) first refused_engine
-      anew_refused_any going changing unbuilt =
+      pub anew_refused_any : IsGoingEngine g first → (is_built_form stmt ≡ false → outcome ≡ said.Refused (refusal_of NotBuilt)) → ExecutesOnAny g stmt (Ok outcome) first refused_engine
+      anew_refused_any going unbuilt =
           let told = (g.state first.store).is_told in
           let same : (g.state first.store).base ≡ (g.state first.store).work = going.committed comes.shut in
-          any_answered g stmt first refused_engine outcome steady_refused (steps_any g stmt first refused_engine outcome (anew_refused (comes.steady.ended ∙ going.may.going) changing) going
+          any_answered g stmt first refused_engine outcome steady_refused (steps_any g stmt first refused_engine outcome (anew_refused (comes.steady.ended ∙ going.may.going)) going
           (λ reply e. absurd (cc))
-          (λ other_refusal e. as_held told (held_by g first) (held_by g refused_engine) steady_refused.base (work ∙ (work_back ∙ same)) comes.is_open (set_here refused_engine refl refl)
+          (λ other_refusal e. as_held told (held_by g first) (held_by g refused_engine) steady_refused.base (work ∙ (work_back ∙ same)) comes.is_open (set_here refused_engine (set ∙ reloads.settings) refl)
           (inr (λ is_told. subst (λ (pages : PageList). AreStored pages now.catalog) same (subst (λ (defs : _). AreStored (g.state first.store).base defs) (sym catalog) (stored_back is_told)))))
-          (λ form. unbuilt (form_other stmt other changing form)))
+          unbuilt)
 
-    -- the statement was tried on them
-    module _ (built : are_built tables.catalog ≡ true) (mid : S) (now : Tables) (flag : Bool) where
-      -- the execution stopped, and not at damage where the pages are told
-      module _ (result : Result Outcome EngineStop) (stop : EngineStop) (is : IsErrAnd result (λ e. e ≡ stop)) (tries : TriesStep g stmt (Err stop) back mid tables now) where
+    -- they were judged, and the statement was tried on them
+    module _ (mid : S) (now : Tables) (flag : Bool) where
+      -- they aren't sound, or the execution stopped
+      module _ (result : Result Outcome EngineStop) (stop : EngineStop) (is : IsErrAnd result (λ e. e ≡ stop)) (tries : Tries g stmt (Err stop) back mid tables now)
+          (exact : NamesExactly {X = Outcome} g tables.shape (Err stop) mid) where
         abbrev untried_engine : Engine S
         untried_engine = record here { store = mid; tables = now; served = flag }
 
-        whole_untried : NamesExactly {X = Outcome} g here.tables.shape (Err stop) mid
-        whole_untried damage e told = absurd (tries.damaged damage e (ready_back built (subst IsTrue tries.steady.is_told told)))
+        exact_here : NamesExactly {X = Outcome} g here.tables.shape (Err stop) mid
+        exact_here = subst (λ (of : Shape). NamesExactly {X = Outcome} g of (Err stop) mid) reloads.shape exact
 
         pub anew_untried : (g.state here.store).ended ≡ false → Executes g stmt result first untried_engine
         anew_untried going =
-            anew_stops stop untried_engine (steady_then reloads.steady tries.steady) refl {X = Outcome} result is (tries.shape ∙ reloads.shape) (counts_fault_then still_here tries.device) tries.output whole_untried
+            anew_stops stop untried_engine (steady_then reloads.steady tries.steady) refl {X = Outcome} result is (tries.shape ∙ reloads.shape) (tries.settings ∙ reloads.settings) (counts_fault_then still_here tries.device) tries.output exact_here
             (λ damage e. (tries.back damage (ap Err e)).unmarked) going
 
         pub anew_untried_any : IsGoingEngine g first → ExecutesOnAny g stmt result first untried_engine
         anew_untried_any going =
             anew_stops_any stop untried_engine (steady_then reloads.steady tries.steady) refl {X = Outcome} result is
-            (λ damage e. let left = tries.back damage (ap Err e) in (left.leaves.pages ∙ reloads.work, left.unmarked)) whole_untried going
+            (λ damage e. let left = tries.back damage (ap Err e) in (left.leaves.pages ∙ reloads.work, left.unmarked)) exact_here going
 
-      module _ (outcome : Outcome) (done : is_refusal outcome ≡ false) (tries : TriesStep g stmt (Ok outcome) back mid tables now) where
+      module _ (outcome : Outcome) (done : is_refusal outcome ≡ false) (tries : Tries g stmt (Ok outcome) back mid tables now) where
         steady_mid : Steady g first.store mid
         steady_mid = steady_then steady_back tries.steady
 
@@ -209,7 +196,7 @@ module _ {S : Type 0} (g : Ghosts S) (stmt : Stmt) (first here : Engine S) (come
 
           pub anew_unread : (g.state here.store).ended ≡ false → Executes g stmt result first unread_engine
           anew_unread going =
-              anew_stops stop unread_engine (steady_then steady_tried counts.reads.steady) refl {X = Bool} result is (tries.shape ∙ reloads.shape) (counts_fault_then still_tried counts.device) counts.output whole_unread
+              anew_stops stop unread_engine (steady_then steady_tried counts.reads.steady) refl {X = Bool} result is (tries.shape ∙ reloads.shape) (tries.settings ∙ reloads.settings) (counts_fault_then still_tried counts.device) counts.output whole_unread
               (λ damage e. absurd (counts.whole damage (ap Err e))) going
 
           pub anew_unread_any : IsGoingEngine g first → ExecutesOnAny g stmt result first unread_engine
@@ -217,7 +204,8 @@ module _ {S : Type 0} (g : Ghosts S) (stmt : Stmt) (first here : Engine S) (come
               anew_stops_any stop unread_engine (steady_then steady_tried counts.reads.steady) refl {X = Bool} result is (λ damage e. absurd (counts.whole damage (ap Err e))) whole_unread going
 
         -- it doesn't state how many pages there are, and it was gone back once more: pages that are told are counted
-        module _ (met : Damage) (looked again : S) (counts : CountsPages g (Ok false) mid looked) (rolls : RollsBack (g.state looked) (g.state again)) (count : g.disk_faults again ≡ g.disk_faults looked)
+        module _ (met : Damage) (sound : IsTrue (g.state back).is_told → IsSoundDatabase tables.shape (g.state back).work) (answers : AnswersBySoundPages g stmt (Ok outcome) back mid tables now)
+            (looked again : S) (counts : CountsPages g (Ok false) mid looked) (rolls : RollsBack (g.state looked) (g.state again)) (count : g.disk_faults again ≡ g.disk_faults looked)
             (say : g.say_faults again ≡ g.say_faults looked) (time : OverTime g.clock g.left (OnlyBase (g.state looked)) looked again) where
           abbrev again_engine : Engine S
           again_engine = record here { store = again; tables = now; served = flag }
@@ -228,14 +216,15 @@ module _ {S : Type 0} (g : Ghosts S) (stmt : Stmt) (first here : Engine S) (come
           whole_again : NamesExactly {X = Bool} g here.tables.shape (Err (Damaged met)) again
           whole_again damage e told =
               let told_back : IsTrue (g.state back).is_told = subst IsTrue (sym reloads.steady.is_told) (subst IsTrue steady_again.is_told told) in
-              absurd (counts.miscounted refl (sound_root g mid now (ready_tried g back mid tables now stmt outcome (tries.does (ready_back built told_back)))))
+              let made = answered_ready g stmt back mid tables now outcome (answers told_back (sound told_back)) (λ refusal. not_refused outcome refusal done) in
+              absurd (counts.miscounted refl (sound_root g mid made.0 made.1))
 
           still_again : CountsFault (IsErrOf {T = Bool} (Err (Damaged met)) Device) (g.disk_faults here.store) (g.disk_faults again)
           still_again = subst (λ n. CountsFault (IsErrOf {T = Bool} (Err (Damaged met)) Device) n (g.disk_faults again)) (count ∙ (counts.device.still (λ e. absurd (cc)) ∙ still_tried)) (counts_fault_none (λ e. absurd (cc)))
 
           pub anew_miscounted : (g.state here.store).ended ≡ false → Executes g stmt (Err (Damaged met)) first again_engine
           anew_miscounted going =
-              anew_stops (Damaged met) again_engine steady_again refl {X = Bool} (Err (Damaged met)) refl (tries.shape ∙ reloads.shape) still_again (λ e. absurd (cc)) whole_again (λ damage e. ap (λ s. s.marked) rolls) going
+              anew_stops (Damaged met) again_engine steady_again refl {X = Bool} (Err (Damaged met)) refl (tries.shape ∙ reloads.shape) (tries.settings ∙ reloads.settings) still_again (λ e. absurd (cc)) whole_again (λ damage e. ap (λ s. s.marked) rolls) going
 
           pub anew_miscounted_any : IsGoingEngine g first → ExecutesOnAny g stmt (Err (Damaged met)) first again_engine
           anew_miscounted_any going =
@@ -247,55 +236,45 @@ module _ {S : Type 0} (g : Ghosts S) (stmt : Stmt) (first here : Engine S) (come
           anew_engine = record here { store = store; tables = now; served = flag }
 
           -- its pages were committed
-          pub anew_done : CommitsWork {X = Unit {0}} g (Ok tt) mid store → (Rests g mid → Rests g store) → flag ≡ true → (g.state here.store).ended ≡ false → is_listing stmt ≡ false
-              → Executes g stmt (Ok outcome) first anew_engine
-          anew_done commits rests flag_is going changing =
+          pub anew_done : CommitsWork {X = Unit {0}} g (Ok tt) mid store → (Rests g mid → Rests g store) → flag ≡ true → (g.state here.store).ended ≡ false → Executes g stmt (Ok outcome) first anew_engine
+          anew_done commits rests flag_is going =
               anew_answers outcome anew_engine (record { going = commits.going (λ e. absurd (cc)) ∙ (tries.steady.ended ∙ (reloads.steady.ended ∙ going)); unmarked = commits.unmarked; served = λ e. tries.served }) (flag_is ∙ sym tries.served.built)
               (record { closed = λ shut. commits.base ∙ sym commits.work; is_open = λ opened. let wrong : true ≡ false = sym opened ∙ (comes.is_open ∙ comes.shut) in absurd (cc) }) refl
-              (tries.shape ∙ reloads.shape) changing (outside_value g first anew_engine (outside_then g (Ok tt) first anew_engine mid steady_mid still_mid commits rests))
+              (tries.shape ∙ reloads.shape) (tries.settings ∙ reloads.settings) (outside_value g first anew_engine (outside_then g (Ok tt) first anew_engine mid steady_mid still_mid commits rests))
 
-          pub anew_done_any : CommitsWork {X = Unit {0}} g (Ok tt) mid store → Executes g stmt (Ok outcome) first anew_engine → IsGoingEngine g first → is_listing stmt ≡ false
-              → ExecutesOnAny g stmt (Ok outcome) first anew_engine
-          anew_done_any commits does going changing =
-              let told = (g.state first.store).is_told in
-              let same : (g.state first.store).base ≡ (g.state first.store).work = going.committed comes.shut in
+          pub anew_done_any : CommitsWork {X = Unit {0}} g (Ok tt) mid store → Executes g stmt (Ok outcome) first anew_engine → IsGoingEngine g first → ExecutesOnAny g stmt (Ok outcome) first anew_engine
+          anew_done_any commits does going =
               any_commits g stmt first anew_engine mid steady_mid outcome commits (steps_any g stmt first anew_engine outcome does going
-              (λ reply e. does_other told (held_by g first) (held_by g anew_engine) stmt other changing
-              (λ reads. as_held told (held_by g first) (held_by g anew_engine) (commits.base ∙ (tries.reads reads ∙ work_back)) (commits.work ∙ (tries.reads reads ∙ (work_back ∙ same))) comes.is_open
-              (set_here anew_engine refl refl) (inr (λ is_told. subst (λ (pages : PageList). AreStored pages now.catalog) same (stored_read (tries.catalog reads) is_told))))
-              (record { is_open = comes.is_open; base = does.keeps going.committed; settings = comes.settings; pass = comes.pass }))
-              (λ refusal e. absurd (not_refused outcome refusal done e)) (λ form. tries.unbuilt (form_other stmt other changing form)))
-            where
-              -- a query leaves the definitions that were read, or reads them of the same pages
-              stored_read : KeepsCatalog g back tables now → IsTrue (g.state first.store).is_told → AreStored (g.state first.store).base now.catalog
-              stored_read (inl kept) is_told = subst (λ (defs : _). AreStored (g.state first.store).base defs) (sym kept) (stored_back is_told)
-              stored_read (inr read) is_told = subst (λ (pages : PageList). AreStored pages now.catalog) work_back (read (subst IsTrue (sym steady_back.is_told) is_told))
+              (λ reply e. does_other (g.state first.store).is_told (held_by g first) (held_by g anew_engine) (role_of stmt) other
+              (λ reads. let wrong : true ≡ false = sym reads ∙ changing in absurd (cc))
+              (λ changes. record { is_open = comes.is_open; base = does.keeps going.committed; settings = tries.settings ∙ (reloads.settings ∙ comes.settings); pass = comes.pass }))
+              (λ refusal e. absurd (not_refused outcome refusal done e)) tries.unbuilt)
 
           -- the commit stopped, and not at damage
           pub anew_uncommitted : (result : Result Outcome EngineStop) (stop : EngineStop) → IsErrAnd result (λ e. e ≡ stop) → CommitsWork {X = Unit {0}} g (Err stop) mid store
               → (Rests g mid → Rests g store) → ((damage : Damage) → stop ≡ Damaged damage → ⊥) → Executes g stmt result first anew_engine
           anew_uncommitted result stop is commits rests whole =
               executes_stop g {X = Unit {0}} {Y = Unit {0}} stmt result stop first anew_engine is (λ damage e ready. comes.unready ready) (λ damage e. absurd (whole damage (cc))) (λ damage e. absurd (whole damage e)) (λ ready. absurd (comes.unready ready))
-              (tries.shape ∙ (reloads.shape ∙ comes.shape)) (outside_then g (Err stop) first anew_engine mid steady_mid still_mid commits rests)
+              (tries.shape ∙ (reloads.shape ∙ comes.shape)) (tries.settings ∙ (reloads.settings ∙ comes.settings)) (outside_then g (Err stop) first anew_engine mid steady_mid still_mid commits rests)
 
           pub anew_uncommitted_any : (result : Result Outcome EngineStop) (stop : EngineStop) → IsErrAnd result (λ e. e ≡ stop) → CommitsWork {X = Unit {0}} g (Err stop) mid store
               → ((damage : Damage) → stop ≡ Damaged damage → ⊥) → IsGoingEngine g first → ExecutesOnAny g stmt result first anew_engine
           anew_uncommitted_any result stop is commits whole going =
               any_commit_stops g stmt first anew_engine mid steady_mid result stop is commits going.may.going
-              (made_on_any g (held_by g first) back mid tables now stmt outcome other done comes.shut work_back tries) (λ e. sym going.by_forms ∙ comes.served) (λ damage e. absurd (whole damage e))
+              (made_on_any g (held_by g first) back mid tables now stmt outcome other changing done comes.shut tries) (λ e. sym going.by_forms ∙ comes.served) (λ damage e. absurd (whole damage e))
 
 -- ---- a statement behind which page 0 doesn't state how many pages there are
 
 pub comes_unready : {S : Type 0} (g : Ghosts S) (first : Engine S) (mid counted : S) (tables : Tables) (stmt : Stmt) (outcome : Outcome) → first.served ≡ true → first.is_open ≡ false
     → TriesStep g stmt (Ok outcome) first.store mid first.tables tables → CountsPages g (Ok false) mid counted → ComesUnready g first (record first { store = counted; tables = tables })
-comes_unready g first mid counted tables stmt outcome served shut tries counts = record {
-  unready = λ ready. counts.miscounted refl (sound_root g mid tables (ready_tried g first.store mid first.tables tables stmt outcome (tries.does ready.work)));
+comes_unready g first mid counted tables stmt outcome served shut tried counts = record {
+  unready = λ ready. counts.miscounted refl (sound_root g mid tables (ready_tried g first.store mid first.tables tables stmt outcome (tried.does ready.work)));
   served = served;
   shut = shut;
-  steady = steady_then tries.steady counts.reads.steady;
-  still = counts.device.still (λ e. absurd (cc)) ∙ tries.device.still (λ e. absurd (cc));
+  steady = steady_then tried.tries.steady counts.reads.steady;
+  still = counts.device.still (λ e. absurd (cc)) ∙ tried.tries.device.still (λ e. absurd (cc));
   is_open = refl;
-  settings = refl;
+  settings = tried.tries.settings;
   pass = refl;
-  shape = tries.shape;
+  shape = tried.tries.shape;
 }

@@ -17,7 +17,7 @@ use Rattle.store_api.specs.declared.pages.Pages.{Ghosts}
 use Rattle.store_api.specs.declared.shape.Shape.{Shape}
 use Rattle.store_api.proofs.FetchingLemmas.{once_fetch, only_none, only_once, only_then}
 use Rattle.store_api.proofs.MomentsLemmas.{base_or_now-steady}
-use Rattle.store_api.proofs.WorksLemmas.{steady_none, steady_then, works_fetch}
+use Rattle.store_api.proofs.WorksLemmas.{steady_none, works_fetch}
 use Rattle.table_trees.specs.ToldPages.{PageList}
 use Rattle.mdc_sound.specs.SpaceRules.{IsRootSound}
 use Rattle.script_engine.specs.Breaking.{JudgesDamage, NamesExactly, OnlyReads}

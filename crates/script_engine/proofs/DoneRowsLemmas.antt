@@ -1,5 +1,5 @@
 -- What queries and DELETEs do to ready pages, and what any change of rows does.
-use Rattle.std.proofs.Common.{◌≡◌, ◌∙◌, ℕ, List, ◌∷◌, length, map, refl, sym, ap, subst, Option, Some, None}
+use Rattle.std.proofs.Common.{◌≡◌, ◌∙◌, ℕ, false, List, ◌∷◌, length, map, refl, sym, ap, subst, Option, Some, None}
 use Rattle.std.specs.Prelude.{filter, not}
 use Rattle.std.proofs.lemmas.List.{length-map}
 use Rattle.std.proofs.lemmas.Option.{same_Some}
@@ -48,7 +48,7 @@ use Rattle.statement_rows.specs.RowsAndSpace.{TakesRowsBy}
 use Rattle.statement_rows.specs.RowsOfStatement.{AnyPage, BreaksReady, ChangesRowsOf, HasTheseRows, IsReadyBetween, without_rows}
 use Rattle.table_query.specs.QueryAnswers.{AreQueryRows}
 use Rattle.table_scan.specs.FoundRows.{FindsRows}
-use Rattle.script_engine.specs.Doing.{DoesStatement, PlacesOnPages, PlacesRows, changed_place}
+use Rattle.script_engine.specs.Doing.{DoesStatement, PlacesOnPages, PlacesRows, changed_place, goes_by_blocks}
 use Rattle.script_engine.specs.NotedRooms.{KeepsOtherRooms, rooms_at}
 use Rattle.script_engine.specs.Others.{KeepsOthers}
 use Rattle.script_engine.specs.Ready.{AreServed, BreaksDatabase, IsReady}
@@ -145,13 +145,13 @@ module _ {S : Type 0} (g : Ghosts S) (old mid new : S) (before now : Tables) (pl
 
   module _ (ready : IsReady g old before) (owners : List Kind) (forests : TableForests) (mid_ready : IsReadyBetween g before.shape before.notes room mid def owners forests)
       (statement : Bound) (change : PlainTable → PlainTable) {room_now : Entry → RoomNote} (left : rooms_at now.rooms place ≡ room_now)
-      (changed : ChangesRowsOf g before.shape before.notes now.notes room_now mid new def def owners forests (λ was space is. PlacesRows def (block_slot_count before.shape def) was space is statement) change)
+      (changed : ChangesRowsOf g before.shape before.notes now.notes room_now mid new def def owners forests (λ was space is. PlacesRows before.settings.rollout def (block_slot_count before.shape def) was space is statement) change)
       (catalog : now.catalog ≡ before.catalog) (shape : now.shape ≡ before.shape) (rooms : KeepsOtherRooms before.rooms now.rooms place) (keys : KeepsKeys before.shape (pages_of g mid) place change) where
     pub rows_done : (outcome : Outcome) → changed_place statement ≡ Some place
         → ((db : Database) → PagesStandFor before.shape (pages_of g mid) db → (changed_at db place change ≡ (done db statement).0) × ((done db statement).1 ≡ answer_of outcome))
         → DoesStatement g old new before now statement outcome
     rows_done outcome is_changed means =
-        let Places : List Spot → List SpaceChange → List Spot → Type 0 = λ was space is. PlacesRows def (block_slot_count before.shape def) was space is statement in
+        let Places : List Spot → List SpaceChange → List Spot → Type 0 = λ was space is. PlacesRows before.settings.rollout def (block_slot_count before.shape def) was space is statement in
         let still = ready_still g old mid told same before ready in
         let ends = change_ends_unwritten g mid new before now place def owners forests Places change served shape still at
         (subst (λ (r : Entry → RoomNote). ChangesRowsOf g before.shape before.notes now.notes r mid new def def owners forests Places change) (sym left) changed) catalog rooms keys in
@@ -169,8 +169,8 @@ module _ {S : Type 0} (g : Ghosts S) (old mid new : S) (before now : Tables) (pl
           places = λ said is_said t other of there.
               let place_is : place ≡ t = same_Some place t (sym is_changed ∙ of) in
               let def_is : def ≡ other = same_Some def other (sym at ∙ ap (def_at before.catalog) place_is ∙ there) in
-              subst (λ (d : TableDef). PlacesOnPages before.shape (pages_of g old) (pages_of g new) d statement) def_is
-              (subst (λ pages. PlacesOnPages before.shape pages (pages_of g new) def statement) same shown);
+              subst (λ (d : TableDef). PlacesOnPages before.shape (pages_of g old) (pages_of g new) before.settings.rollout d statement) def_is
+              (subst (λ pages. PlacesOnPages before.shape pages (pages_of g new) before.settings.rollout def statement) same shown);
           others =
               subst (λ (found : Option ℕ). KeepsOthers before.shape (pages_of g old) (pages_of g new) before.catalog now.catalog found) (sym (touched_is statement place is_changed))
               (subst (λ pages. KeepsOthers before.shape pages (pages_of g new) before.catalog now.catalog (Some place)) same
@@ -199,11 +199,11 @@ hits_taken db place def pred found has table is =
 pub delete_does : {S : Type 0} {room room_now : Entry → RoomNote} (g : Ghosts S) (old mid new : S) (before now : Tables) (place : ℕ) (def : TableDef) (pred : Option Pred) (found items : List Hit) (count : ℕ) → AreServed before.catalog
     → def_at before.catalog place ≡ Some def → rooms_at before.rooms place ≡ room → rooms_at now.rooms place ≡ room_now
     → (g.state mid).is_told ≡ (g.state old).is_told → (g.state mid).work ≡ (g.state old).work
-    → ((owners : List Kind) (forests : TableForests) → StandsTable g before.shape old def owners forests → FindsRows g before.shape old def pred found forests) → items ≡ found → count ≡ length found
+    → ((owners : List Kind) (forests : TableForests) → StandsTable g before.shape old def owners forests → FindsRows g before.shape old def pred found forests) → items ≡ found → count ≡ length found → goes_by_blocks before.settings.rollout pred def ≡ false
     → ((owners : List Kind) (forests : TableForests) → IsReadyBetween g before.shape before.notes room mid def owners forests → HasTheseRows g before.shape mid def (map placed_row items) owners forests
     → ChangesRowsOf g before.shape before.notes now.notes room_now mid new def def owners forests (λ was space is. TakesRowsBy def was (map placed_row items) space is) (without_rows (map (λ hit. hit.row) items)))
     → now.catalog ≡ before.catalog → now.shape ≡ before.shape → KeepsOtherRooms before.rooms now.rooms place → IsReady g old before → DoesStatement g old new before now (bound.Delete place pred) (said.Done (reply.Deleted count))
-delete_does {room_now = room_now} g old mid new before now place def pred found items count served at lent left told same finds are counts deletes catalog shape rooms ready =
+delete_does {room_now = room_now} g old mid new before now place def pred found items count served at lent left told same finds are counts by_rows deletes catalog shape rooms ready =
     let mid_ready = ready_mid g old mid new before now place def served at lent told same ready in
     let forests = mid_ready.forests in
     let owners = mid_ready.owners in
@@ -226,7 +226,7 @@ delete_does {room_now = room_now} g old mid new before now place def pred found 
       now = changed.now;
       space = changed.space;
       makes = changed.makes;
-      places = PlacesRows.delete (map placed_row found) (qualifying g before.shape mid def owners forests st pred found hits_here mid_ready.between.sound) changed.places;
+      places = PlacesRows.delete (map placed_row found) by_rows (qualifying g before.shape mid def owners forests st pred found hits_here mid_ready.between.sound) changed.places;
       stands_for = changed.stands_for;
       table_pages = changed.table_pages;
       others = changed.others;

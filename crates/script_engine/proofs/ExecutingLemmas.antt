@@ -10,7 +10,7 @@ use Rattle.mdc_ast.specs.declared.reply.Outcome.{Outcome}
 use Rattle.mdc_ast.specs.declared.reply.Outcome.TheVariants as said
 use Rattle.mdc_ast.specs.declared.reply.Reply.TheVariants as reply
 use Rattle.mdc_ast.specs.declared.statement.Stmt.{Stmt}
-use Rattle.mdc_ast.specs.declared.statement.Stmt.TheVariants.{Query}
+use Rattle.mdc_ast.specs.declared.statement.Stmt.TheVariants.{CreateTable, Explain, ListBlocks, Query}
 use Rattle.statement_meaning.specs.Binding.{bound_of, columns_of, on_place}
 use Rattle.statement_meaning.specs.Cause.{Cause, NotBuilt, refusal_of}
 use Rattle.mdc_ast.specs.Database.{Database}
@@ -36,10 +36,11 @@ use Rattle.binder.specs.declared.binding.BindFault.TheVariants as bind_fault
 use Rattle.row_checks.specs.Executing.{done}
 use Rattle.statement_rows.specs.RowsOfStatement.{AnyPage}
 use Rattle.script_engine.specs.Defining.{IsBoundOn, MayBeExecuted}
-use Rattle.script_engine.specs.Doing.{DoesStatement, DoesStep, LeavesAll, RunsFullAlone, StandsAfter, StepRunsFull, changed_place, is_query, is_reading}
+use Rattle.script_engine.specs.Doing.{DoesReady, DoesStatement, DoesStep, LeavesAll, RunsFullAlone, StandsAfter, StepRunsFull, changed_place, is_query}
 use Rattle.script_engine.specs.Held.{IsWritten}
 use Rattle.script_engine.specs.Others.{touched_place}
 use Rattle.script_engine.specs.Ready.{AreServed, BreaksDatabase, IsReady}
+use Rattle.script_engine.specs.Roles.{Explains, Lists, Role, is_built_form, is_explain, is_listing, only_reads, role_of, tells_pages}
 use Rattle.script_engine.specs.declared.tables.Tables.{Tables}
 use Rattle.row_checks.proofs.ServedLemmas.{served}
 use Rattle.script_engine.proofs.OthersLemmas.{keeps_others_itself}
@@ -103,18 +104,47 @@ full_as_bound g old before stmt statement (Err fault) served bound full = full_i
 -- ---- queries
 
 -- a query that nothing is said against is bound to one
-query_is_bound : (defs : Definitions) (stmt : Stmt) → in_order (judged_of defs stmt) ≡ [] → is_reading stmt ≡ true → is_query (bound_of defs stmt) ≡ true
-query_is_bound defs (Query select) said reads = by_place (place_of defs select.table) _ said
+query_is_bound : (defs : Definitions) (stmt : Stmt) → is_built_step stmt ≡ true → in_order (judged_of defs stmt) ≡ [] → only_reads (role_of stmt) ≡ true → is_query (bound_of defs stmt) ≡ true
+query_is_bound defs (Query select) built said reads = by_place (place_of defs select.table) _ said
   where
     by_place : (found : Option ℕ) (bind : ℕ → List ColumnDef → BoundSelect) → in_order (on_table select.table (option_and_then (def_at defs) found) (query_judged select)) ≡ []
         → is_query (on_place found (columns_of (option_and_then (def_at defs) found)) (λ place columns. bound.Query (bind place columns))) ≡ true
     by_place None bind none = absurd cc
     by_place (Some place) bind none = refl
-query_is_bound defs stmt said reads = absurd cc
+query_is_bound defs stmt built said reads = absurd cc
 
 -- what a bound query leaves, its text leaves
-pub reads_as_bound : (defs : Definitions) (stmt : Stmt) (statement : Bound) {Leaves : Type 0} → IsBoundOn defs stmt statement → (is_query statement ≡ true → Leaves) → is_reading stmt ≡ true → Leaves
-reads_as_bound defs stmt statement bound leaves reads = leaves (ap is_query bound.is ∙ query_is_bound defs stmt bound.said reads)
+pub reads_as_bound : (defs : Definitions) (stmt : Stmt) (statement : Bound) {Leaves : Type 0} → IsBoundOn defs stmt statement → (is_query statement ≡ true → Leaves) → only_reads (role_of stmt) ≡ true → Leaves
+reads_as_bound defs stmt statement bound leaves reads = leaves (ap is_query bound.is ∙ query_is_bound defs stmt bound.built bound.said reads)
+
+-- a statement by which a database steps is none of which the pages tell the reply
+pub steps_other : (stmt : Stmt) → is_built_step stmt ≡ true → tells_pages (role_of stmt) ≡ false
+steps_other (ListBlocks name) built = absurd cc
+steps_other (Explain select) built = absurd cc
+steps_other stmt built = refl
+
+-- and one whose form isn't built and that is none either doesn't step
+pub form_other : (stmt : Stmt) → tells_pages (role_of stmt) ≡ false → is_built_form stmt ≡ false → is_built_step stmt ≡ false
+form_other (CreateTable name columns dims) other unbuilt = unbuilt
+form_other stmt other unbuilt = cc
+
+-- neither is one that is neither LIST BLOCKS nor EXPLAIN
+pub none_told : (role : Role) → is_listing role ≡ false → is_explain role ≡ false → tells_pages role ≡ false
+none_told (Lists name) listing explain = absurd cc
+none_told (Explains select) listing explain = absurd cc
+none_told role listing explain = refl
+
+-- such a statement is executed on ready pages by its step
+pub executes_step : {S : Type 0} (g : Ghosts S) (old new : S) (before now : Tables) (stmt : Stmt) (result : Result Outcome SpaceFault) → tells_pages (role_of stmt) ≡ false
+    → IfOk result (λ outcome. IsReady g old before → DoesStep g old new before now stmt outcome) → IfOk result (λ outcome. IsReady g old before → DoesReady g old new before now stmt outcome)
+executes_step g old new before now stmt (Ok outcome) other does = λ ready. DoesReady.steps other (does ready)
+executes_step g old new before now stmt (Err fault) other does = tt
+
+-- what isn't built is refused
+pub unbuilt_step : (stmt : Stmt) (result : Result Outcome SpaceFault) → tells_pages (role_of stmt) ≡ false
+    → (is_built_step stmt ≡ false → MatchResult result (λ outcome. outcome ≡ said.Refused (refusal_of NotBuilt)) (λ fault. IfFull fault (λ cap. ⊥)))
+    → is_built_form stmt ≡ false → MatchResult result (λ outcome. outcome ≡ said.Refused (refusal_of NotBuilt)) (λ fault. IfFull fault (λ cap. ⊥))
+unbuilt_step stmt result other unbuilt form = unbuilt (form_other stmt other form)
 
 -- ---- the end of a statement that is refused before a call
 
@@ -135,12 +165,12 @@ pub steps_not_built : {S : Type 0} (g : Ghosts S) (s : S) (tables : Tables) (stm
     → DoesStep g s s tables tables stmt (said.Refused refusal)
 steps_not_built g s tables stmt refusal built is ready = stays g s tables stmt refusal ready (λ db stands. step_not_built db stmt built ∙ ap (λ r. (db, Refused r)) (sym is))
 
-first_cause : (causes : List Cause) (refusal : Refusal) → option_map refusal_of (first_of causes) ≡ Some refusal → (cause : Cause) × (first_of causes ≡ Some cause) × (refusal_of cause ≡ refusal)
+pub first_cause : (causes : List Cause) (refusal : Refusal) → option_map refusal_of (first_of causes) ≡ Some refusal → (cause : Cause) × (first_of causes ≡ Some cause) × (refusal_of cause ≡ refusal)
 first_cause [] refusal e = cc
 first_cause (cause ∷ causes) refusal e = (cause, refl, some_is _ _ e)
 
 -- the binder's refusal is the one for what is said first
-refused_first : (causes : List Cause) (fault : BindFault) (refusal : Refusal) → fault ≡ bind_fault.Refused refusal → IsRefusedFor causes (Err fault) → option_map refusal_of (first_of causes) ≡ Some refusal
+pub refused_first : (causes : List Cause) (fault : BindFault) (refusal : Refusal) → fault ≡ bind_fault.Refused refusal → IsRefusedFor causes (Err fault) → option_map refusal_of (first_of causes) ≡ Some refusal
 refused_first causes fault refusal is refused = subst (λ f. IsRefusedFor causes (Err f)) is refused
 
 pub steps_refused : {S : Type 0} (g : Ghosts S) (s : S) (tables : Tables) (stmt : Stmt) (fault : BindFault) (refusal : Refusal) → are_built tables.catalog ≡ true → is_built_step stmt ≡ true

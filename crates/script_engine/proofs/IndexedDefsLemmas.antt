@@ -12,6 +12,7 @@ use Rattle.mdc_ast.specs.TableLimits.{IsGoodIndex}
 use Rattle.mdc_ast.specs.ValidDatabase.{AreValidDefs, AreValidFrom, IsValidDef, IsValidIndex, IsValidPlace, index_names}
 use Rattle.mdc_ast.proofs.DefinitionsLemmas.{own_name, put_keeps_defs}
 use Rattle.statement_meaning.proofs.IndexNamesLemmas.{IsThinner, all_kept, free_name, names_put, names_with_index, removed_thinner}
+use Rattle.statement_meaning.proofs.KeepingLemmas.{with_indexes_valid}
 use Rattle.statement_meaning.proofs.KeysLemmas.{all-last, all-remove}
 use Rattle.table_page.proofs.LimitsLemmas.{short_name}
 
@@ -21,27 +22,11 @@ good_are_valid columns [] good = tt
 good_are_valid columns (index ∷ indexes) good =
     (record { short = short_name index.name good.0.name; there = good.0.there; apart = good.0.apart; short_key = good.0.short }, good_are_valid columns indexes good.1)
 
--- a definition with other record indexes
-with_indexes_valid : (place : ℕ) (def : TableDef) (indexes : List IndexDef) → IsValidDef place def → length indexes ≤ 8 → AllByRecursion (IsValidIndex def.columns) indexes
+-- a definition with its place as its number and other record indexes
+indexed_valid : (place : ℕ) (def : TableDef) (indexes : List IndexDef) → IsValidDef place def → length indexes ≤ 8 → AllByRecursion (IsValidIndex def.columns) indexes
     → IsValidDef place (record def { number = place; indexes = indexes })
-with_indexes_valid place def indexes is few valid = record {
-  stands = refl;
-  short = is.short;
-  few = is.few;
-  short_names = is.short_names;
-  good_types = is.good_types;
-  names_differ = is.names_differ;
-  narrow = is.narrow;
-  few_dims = is.few_dims;
-  dims_there = is.dims_there;
-  dims_apart = is.dims_apart;
-  short_keys = is.short_keys;
-  short_composite = is.short_composite;
-  sources = is.sources;
-  few_indexes = few;
-  indexes = valid;
-  few_rows = is.few_rows;
-}
+indexed_valid place def indexes is few valid =
+    subst (λ n. IsValidDef place (record def { number = n; indexes = indexes })) is.stands (with_indexes_valid place def indexes is few valid)
 
 -- the definition in a place is valid
 valid_from : (from : ℕ) (defs : Definitions) (place : ℕ) (def : TableDef) → AreValidFrom from defs → def_at defs place ≡ Some def → IsValidDef (from + place) def
@@ -67,7 +52,7 @@ valid_with_index defs place def index valid at few is free =
     let count : length more ≤ 8 = omega (arith, length-append def.indexes (index ∷ []), few) in
     let own : record (with_index def index) { number = place } ≡ with_index def index = ap (λ n. record (with_index def index) { number = n }) (sym was.stands) in
     put_keeps_defs defs place (Some (record (with_index def index) { number = place })) valid
-    (with_indexes_valid place def more was count (all-last (IsValidIndex def.columns) def.indexes index was.indexes is))
+    (indexed_valid place def more was count (all-last (IsValidIndex def.columns) def.indexes index was.indexes is))
     (own_name defs place def valid.differ at)
     (subst (λ (d : TableDef). AllNamesDiffer (flat_map index_names (set defs place (Some d)))) (sym own)
     (names_with_index defs place def index at valid.index_names_differ (free_name defs index.name free)))
@@ -80,7 +65,7 @@ valid_without_index defs place def index valid at low =
     let fewer : List IndexDef = remove def.indexes index in
     let count : length fewer ≤ 8 = omega (arith, length-remove def.indexes index low, was.few_indexes) in
     put_keeps_defs defs place (Some (record (without_index def index) { number = place })) valid
-    (with_indexes_valid place def fewer was count (all-remove (IsValidIndex def.columns) def.indexes index was.indexes))
+    (indexed_valid place def fewer was count (all-remove (IsValidIndex def.columns) def.indexes index was.indexes))
     (own_name defs place def valid.differ at)
     (names_put defs place def (record (without_index def index) { number = place }) at (removed_thinner def.indexes index) valid.index_names_differ)
 

@@ -196,7 +196,7 @@ pub does_since : {S : Type 0} (g : Ghosts S) (old mid new : S) (before now : Tab
 does_since g old mid new before now statement outcome same does = record {
   ready = does.ready;
   stands = λ db stands. does.stands db (subst (λ (pages : PageList). PagesStandFor before.shape pages db) (sym same) stands);
-  places = λ reply is place def changed at. subst (λ (pages : PageList). PlacesOnPages before.shape pages (pages_of g new) def statement) same (does.places reply is place def changed at);
+  places = λ reply is place def changed at. subst (λ (pages : PageList). PlacesOnPages before.shape pages (pages_of g new) before.settings.rollout def statement) same (does.places reply is place def changed at);
   others = subst (λ (pages : PageList). KeepsOthers before.shape pages (pages_of g new) before.catalog now.catalog (touched_place statement)) same does.others;
 }
 

@@ -151,7 +151,7 @@ module _ {S : Type 0} (g : Ghosts S) (old mid new : S) (before now : Tables) (pl
         → done db (bound.Insert place tuples) ≡ (changed_at db place (appended tuples), Replied (reply.Inserted (length tuples)))
     done_is db stands = ap (λ causes. step_by db causes (effect db (bound.Insert place tuples))) (is.silent ready db stands)
 
-    here : PlacesOnPages before.shape (pages_of g old) (pages_of g new) def (bound.Insert place tuples)
+    here : PlacesOnPages before.shape (pages_of g old) (pages_of g new) before.settings.rollout def (bound.Insert place tuples)
     here =
         places_shown g old mid new before now def def_now ready.view.owners between.0 Puts (appended tuples) (bound.Insert place tuples)
         ready refl between.1 changed written (λ was space is puts. PlacesRows.insert puts)
@@ -167,6 +167,6 @@ module _ {S : Type 0} (g : Ghosts S) (old mid new : S) (before now : Tables) (pl
       places = λ reply done t other changes at.
           let same_place : place ≡ t = same_Some place t changes in
           let same_def : def ≡ other = same_Some def other (sym is.at ∙ (ap (def_at before.catalog) same_place ∙ at)) in
-          subst (λ d. PlacesOnPages before.shape (pages_of g old) (pages_of g new) d (bound.Insert place tuples)) same_def here;
+          subst (λ d. PlacesOnPages before.shape (pages_of g old) (pages_of g new) before.settings.rollout d (bound.Insert place tuples)) same_def here;
       others = others_written g old mid before now place def.number number is.served ready changed.others new def_now number is.shape ends.ready written def is.at is.catalog refl;
     }

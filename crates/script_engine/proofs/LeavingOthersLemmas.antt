@@ -2,7 +2,6 @@
 use Rattle.std.proofs.Common.{ℕ, ◌≡◌, Option, subst, sym}
 use Rattle.mdc_ast.specs.declared.reply.Outcome.{Outcome}
 use Rattle.mdc_ast.specs.declared.statement.Stmt.{Stmt}
-use Rattle.mdc_ast.specs.declared.statement.Stmt.TheVariants.{Rollback}
 use Rattle.statement_meaning.specs.Binding.{bound_of}
 use Rattle.store_api.specs.declared.pages.Pages.{Ghosts}
 use Rattle.store_api.specs.declared.shape.Shape.{Shape}
@@ -18,8 +17,7 @@ use Rattle.script_engine.proofs.OthersLemmas.{keeps_others_itself}
 
 -- whatever a statement is, it leaves the tables that are kept; and ROLLBACK owes nothing
 pub leaves_others_of : (shape : Shape) (stmt : Stmt) (old new : HeldPages) → KeepsOthers shape old.work new.work old.defs new.defs (touched_place (bound_of old.defs stmt)) → LeavesOthers shape stmt old new
-leaves_others_of shape Rollback old new keeps = tt
-leaves_others_of shape stmt old new keeps = keeps
+leaves_others_of shape stmt old new keeps = λ goes. keeps
 
 -- one that changes neither pages nor definitions leaves all tables
 pub leaves_others_still : (shape : Shape) (stmt : Stmt) (old new : HeldPages) → new.work ≡ old.work → new.defs ≡ old.defs → LeavesOthers shape stmt old new

@@ -1,8 +1,8 @@
 -- What statements do to an engine whatever the pages are.
-use Rattle.std.proofs.Common.{◌≡◌, ◌⊎◌, Bool, true, false, List, Some, None, Result, Ok, Err, IsErrAnd, IfSome, refl, sym, ap, subst, inl, inr, ◌∙◌}
-use Rattle.std.specs.Prelude.{IsErrOf, IsTrue}
+use Rattle.std.proofs.Common.{◌≡◌, ◌⊎◌, Bool, true, false, Some, None, Result, Ok, Err, IsErrAnd, IfSome, refl, sym, ap, subst, inl, inr, ◌∙◌}
+use Rattle.std.specs.Prelude.{IsTrue, if◌then◌else◌}
 use Rattle.mdc_words.specs.Time.{OverTime}
-use Rattle.mdc_words.proofs.TimeLemmas.{over_time_none, over_time_then, over_time_wider}
+use Rattle.mdc_words.proofs.TimeLemmas.{over_time_then, over_time_wider}
 use Rattle.mdc_ast.specs.declared.refusal.Refusal.{Refusal}
 use Rattle.mdc_ast.specs.declared.reply.Outcome.{Outcome}
 use Rattle.mdc_ast.specs.declared.reply.Outcome.TheVariants as said
@@ -10,7 +10,7 @@ use Rattle.mdc_ast.specs.declared.reply.Reply.{Reply}
 use Rattle.mdc_ast.specs.declared.reply.Reply.TheVariants as reply
 use Rattle.mdc_ast.specs.declared.statement.Stmt.{Stmt}
 use Rattle.mdc_ast.specs.declared.statement.Stmt.TheVariants as statement
-use Rattle.statement_meaning.specs.Built.{are_built, is_built_step}
+use Rattle.statement_meaning.specs.Built.{are_built}
 use Rattle.statement_meaning.specs.Cause.{NotBuilt, refusal_of}
 use Rattle.statement_meaning.specs.Session.{is_refusal}
 use Rattle.store_api.specs.Works.{Steady}
@@ -19,25 +19,22 @@ use Rattle.store_api.specs.declared.pages.Pages.{Ghosts}
 use Rattle.store_api.proofs.WorksLemmas.{steady_none}
 use Rattle.table_trees.specs.ToldPages.{PageList}
 use Rattle.mdc_sound.specs.Breaks.{IsFirstBreak}
-use Rattle.mdc_sound.specs.StandingTable.{pages_of}
 use Rattle.stored_catalog.specs.StoredDefinitions.{AreStored}
 use Rattle.script_engine.specs.Breaking.{IsExactDamage, NamesExactly}
 use Rattle.script_engine.specs.Committing.{CommitsWork}
-use Rattle.script_engine.specs.Controls.{AnswersControl, control_of}
-use Rattle.script_engine.specs.Doing.{is_reading}
+use Rattle.script_engine.specs.Controls.{AnswersControl, AnswersSetting}
 use Rattle.script_engine.specs.Held.{HeldPages}
-use Rattle.script_engine.specs.Listing.{is_listing}
-use Rattle.script_engine.specs.OnAnyPages.{BaseBeforeOrAfter, ChangesPages, DoesOnAny, ExecutesOnAny, IsGoingEngine, LeftWithinOnAny, MayBeLeftOnAny, MayCommit, StaysAsHeld, StepsOnAny, StopsAtDamage, is_built_form, judged_pages, may_change}
+use Rattle.script_engine.specs.OnAnyPages.{ChangesPages, DoesOnAny, ExecutesOnAny, IsGoingEngine, LeftWithinOnAny, MayBeLeftOnAny, MayCommit, StaysAsHeld, StepsOnAny, StopsAtDamage, judged_pages}
 use Rattle.script_engine.specs.Reloading.{Reloads}
+use Rattle.script_engine.specs.Roles.{Begins, Commits, Explains, GoesBack, Lists, Queries, Role, Sets, is_built_form, is_control, is_going_back, is_tried, only_reads, role_of}
 use Rattle.script_engine.specs.Serving.{held_by}
-use Rattle.script_engine.specs.Trying.{TriesStep}
+use Rattle.script_engine.specs.Trying.{Tries, TriesStep}
 use Rattle.script_engine.specs.Turns.{Executes}
 use Rattle.script_engine.specs.declared.engine.Engine.{Engine}
 use Rattle.script_engine.specs.declared.stop.EngineStop.{EngineStop}
-use Rattle.script_engine.specs.declared.stop.EngineStop.TheVariants.{Damaged, Device}
+use Rattle.script_engine.specs.declared.stop.EngineStop.TheVariants.{Damaged}
 use Rattle.script_engine.specs.declared.tables.Tables.{Tables}
-use Rattle.script_engine.specs.declared.transactions.Control.TheVariants as control
-use Rattle.script_engine.proofs.TurnsLemmas.{KeepsSettings, same_held, same_settings}
+use Rattle.script_engine.proofs.TurnsLemmas.{KeepsSettings, held_left, tried_reading, same_held, same_settings}
 
 -- ---- what is held
 
@@ -53,67 +50,58 @@ as_held told old new base work is_open set defs = record {
 pub as_it_was : (told : Bool) (old new : HeldPages) → new ≡ old → StaysAsHeld told old new
 as_it_was told old new is = subst (λ (held : HeldPages). StaysAsHeld told old held) (sym is) (record { same = refl; defs = inl refl })
 
--- ---- any statement but BEGIN, COMMIT, ROLLBACK and LIST BLOCKS
+-- ---- a statement that is tried on the pages
 
--- it changes pages, or stays as held where it is a query
-pub does_other : (told : Bool) (old new : HeldPages) (stmt : Stmt) → control_of stmt ≡ control.Other → is_listing stmt ≡ false → (is_reading stmt ≡ true → StaysAsHeld told old new) → ChangesPages old new
-    → DoesOnAny told stmt old new
-does_other told old new statement.Begin other changing reads changes = absurd (cc)
-does_other told old new statement.Commit other changing reads changes = absurd (cc)
-does_other told old new statement.Rollback other changing reads changes = absurd (cc)
-does_other told old new (statement.Query select) other changing reads changes = reads refl
-does_other told old new (statement.ListBlocks name) other changing reads changes = absurd (cc)
-does_other told old new stmt other changing reads changes = changes
-
--- its form is built where a database steps by it
-pub form_other : (stmt : Stmt) → control_of stmt ≡ control.Other → is_listing stmt ≡ false → is_built_form stmt ≡ false → is_built_step stmt ≡ false
-form_other statement.Begin other changing unbuilt = absurd (cc)
-form_other statement.Commit other changing unbuilt = absurd (cc)
-form_other statement.Rollback other changing unbuilt = absurd (cc)
-form_other (statement.ListBlocks name) other changing unbuilt = absurd (cc)
-form_other stmt other changing unbuilt = unbuilt
+-- it leaves all where it reads alone, and else changes pages
+pub does_other : (told : Bool) (old new : HeldPages) (role : Role) → is_tried role ≡ true → (only_reads role ≡ true → new ≡ old) → (only_reads role ≡ false → ChangesPages old new) → DoesOnAny told role old new
+does_other told old new Begins tried reads changes = absurd (cc)
+does_other told old new Commits tried reads changes = absurd (cc)
+does_other told old new GoesBack tried reads changes = absurd (cc)
+does_other told old new (Sets setting) tried reads changes = absurd (cc)
+does_other told old new (Lists name) tried reads changes = reads refl
+does_other told old new (Explains select) tried reads changes = reads refl
+does_other told old new Queries tried reads changes = reads refl
+does_other told old new role tried reads changes = changes refl
 
 -- damage is that of the pages that are held
-pub judged_other : (stmt : Stmt) (held : HeldPages) → control_of stmt ≡ control.Other → judged_pages stmt held ≡ held.work
-judged_other statement.Rollback held other = absurd (cc)
-judged_other stmt held other = refl
+pub judged_other : (stmt : Stmt) (held : HeldPages) → is_tried (role_of stmt) ≡ true → judged_pages stmt held ≡ held.work
+judged_other stmt held tried = ap (λ (b : Bool). if b then held.base else held.work) (none_back (role_of stmt) tried)
+  where
+    none_back : (role : Role) → is_tried role ≡ true → is_going_back role ≡ false
+    none_back GoesBack tried = absurd (cc)
+    none_back role tried = refl
 
--- one that steps, and isn't a query, may change pages
-changes_built : (stmt : Stmt) → is_built_step stmt ≡ true → is_reading stmt ≡ false → may_change stmt ≡ true
-changes_built (statement.CreateTable name columns dims) built reads = refl
-changes_built (statement.CreateIndex name unique table parts) built reads = refl
-changes_built (statement.DropTable name) built reads = refl
-changes_built (statement.DropIndex name) built reads = refl
-changes_built (statement.Insert name listed tuples) built reads = refl
-changes_built (statement.Update name sets pred) built reads = refl
-changes_built (statement.Delete name pred) built reads = refl
-changes_built stmt built reads = absurd (cc)
-
--- and outside a transaction it may commit any
-may_commit : (stmt : Stmt) (held : HeldPages) (pages : PageList) → control_of stmt ≡ control.Other → held.open_ ≡ false → may_change stmt ≡ true → MayCommit stmt held pages
-may_commit statement.Commit held pages other shut changes = absurd (cc)
-may_commit stmt held pages other shut changes = (shut, changes)
+-- one of a built form that doesn't read alone may commit any pages, outside a transaction
+may_commit : (stmt : Stmt) (held : HeldPages) (pages : PageList) → is_tried (role_of stmt) ≡ true → only_reads (role_of stmt) ≡ false → is_built_form stmt ≡ true → held.open_ ≡ false → MayCommit stmt held pages
+may_commit (statement.CreateTable name columns dims) held pages tried changing built shut = shut
+may_commit (statement.CreateIndex name unique table parts) held pages tried changing built shut = shut
+may_commit (statement.DropTable name) held pages tried changing built shut = shut
+may_commit (statement.DropIndex name) held pages tried changing built shut = shut
+may_commit (statement.Insert name listed tuples) held pages tried changing built shut = shut
+may_commit (statement.Update name sets pred) held pages tried changing built shut = shut
+may_commit (statement.Delete name pred) held pages tried changing built shut = shut
+may_commit (statement.Reclaim name) held pages tried changing built shut = shut
+may_commit stmt held pages tried changing built shut = absurd (cc)
 
 pub not_refused : (outcome : Outcome) (refusal : Refusal) → is_refusal outcome ≡ false → outcome ≡ said.Refused refusal → ⊥
 not_refused outcome refusal done is = let wrong : true ≡ false = sym (ap is_refusal is) ∙ done in cc
 
 module _ {S : Type 0} (g : Ghosts S) where
   -- the pages that a statement made, which was done outside a transaction on those of the last commit, may be left
-  pub made_on_any : (held : HeldPages) (start mid : S) (before tables : Tables) (stmt : Stmt) (outcome : Outcome) → control_of stmt ≡ control.Other → is_refusal outcome ≡ false → held.open_ ≡ false
-      → pages_of g start ≡ held.base → TriesStep g stmt (Ok outcome) start mid before tables → MayBeLeftOnAny held stmt (g.state mid).work
-  made_on_any held start mid before tables stmt outcome other done shut same tries = by_form (is_reading stmt) refl (is_built_step stmt) refl
+  pub made_on_any : (held : HeldPages) (start mid : S) (before tables : Tables) (stmt : Stmt) (outcome : Outcome) → is_tried (role_of stmt) ≡ true → only_reads (role_of stmt) ≡ false → is_refusal outcome ≡ false
+      → held.open_ ≡ false → Tries g stmt (Ok outcome) start mid before tables → MayBeLeftOnAny held stmt (g.state mid).work
+  made_on_any held start mid before tables stmt outcome other changing done shut tries = by_form (is_built_form stmt) refl
     where
-      by_form : (reads : Bool) → is_reading stmt ≡ reads → (built : Bool) → is_built_step stmt ≡ built → MayBeLeftOnAny held stmt (g.state mid).work
-      by_form true reads built form = inl (tries.reads reads ∙ same)
-      by_form false reads true form = inr (may_commit stmt held (g.state mid).work other shut (changes_built stmt form reads))
-      by_form false reads false form = absurd (not_refused outcome (refusal_of NotBuilt) done (tries.unbuilt form))
+      by_form : (built : Bool) → is_built_form stmt ≡ built → MayBeLeftOnAny held stmt (g.state mid).work
+      by_form true form = inr (may_commit stmt held (g.state mid).work other changing form shut)
+      by_form false form = absurd (not_refused outcome (refusal_of NotBuilt) done (tries.unbuilt form))
 
   -- ---- an answer, and a stop
 
   module _ (stmt : Stmt) where
     -- what is left to be shown of an answer, of which the rest is known
     pub steps_any : (old new : Engine S) (outcome : Outcome) → Executes g stmt (Ok outcome) old new → IsGoingEngine g old
-        → ((reply : Reply) → outcome ≡ said.Done reply → DoesOnAny (g.state old.store).is_told stmt (held_by g old) (held_by g new))
+        → ((reply : Reply) → outcome ≡ said.Done reply → DoesOnAny (g.state old.store).is_told (role_of stmt) (held_by g old) (held_by g new))
         → ((refusal : Refusal) → outcome ≡ said.Refused refusal → StaysAsHeld (g.state old.store).is_told (held_by g old) (held_by g new))
         → (is_built_form stmt ≡ false → outcome ≡ said.Refused (refusal_of NotBuilt))
         → StepsOnAny (g.state old.store).is_told (held_by g old) stmt outcome (held_by g new) × IsGoingEngine g new
@@ -122,6 +110,7 @@ module _ {S : Type 0} (g : Ghosts S) where
         done = done;
         refused = refused;
         controls = does.controls;
+        settings = subst (λ (served : Bool). AnswersSetting (role_of stmt) served old.tables.settings outcome new.tables.settings) going.by_forms does.settings;
         unbuilt_form = unbuilt;
         unbuilt_tables = λ other form. does.unserved (going.by_forms ∙ form) other outcome refl;
       },
@@ -151,7 +140,7 @@ module _ {S : Type 0} (g : Ghosts S) where
     any_as (Err e) stop old new is any = subst (λ (x : EngineStop). ExecutesOnAny g stmt (Err x) old new) (sym is) any
 
     pub any_halts : (result : Result Outcome EngineStop) (stop : EngineStop) (old new : Engine S) → IsErrAnd result (λ e. e ≡ stop) → Steady g old.store new.store → (g.state old.store).ended ≡ false
-        → (control_of stmt ≡ control.Other → are_built old.tables.catalog ≡ true) → ((damage : Damage) → stop ≡ Damaged damage → StopsAtDamage g stmt old new damage) → ExecutesOnAny g stmt result old new
+        → (is_control (role_of stmt) ≡ false → are_built old.tables.catalog ≡ true) → ((damage : Damage) → stop ≡ Damaged damage → StopsAtDamage g stmt old new damage) → ExecutesOnAny g stmt result old new
     any_halts result stop old new is steady going built damage = any_as result stop old new is (record {
       steps = tt;
       answered = tt;
@@ -183,7 +172,7 @@ module _ {S : Type 0} (g : Ghosts S) where
       }
 
       pub any_commit_stops : (result : Result Outcome EngineStop) (stop : EngineStop) → IsErrAnd result (λ e. e ≡ stop) → CommitsWork {X = Unit {0}} g (Err stop) mid new.store → (g.state old.store).ended ≡ false
-          → MayBeLeftOnAny (held_by g old) stmt (g.state mid).work → (control_of stmt ≡ control.Other → are_built old.tables.catalog ≡ true)
+          → MayBeLeftOnAny (held_by g old) stmt (g.state mid).work → (is_control (role_of stmt) ≡ false → are_built old.tables.catalog ≡ true)
           → ((damage : Damage) → stop ≡ Damaged damage → StopsAtDamage g stmt old new damage) → ExecutesOnAny g stmt result old new
       any_commit_stops result stop is commits going made built damage = any_as result stop old new is (record {
         steps = tt;
@@ -220,14 +209,16 @@ module _ {S : Type 0} (g : Ghosts S) where
 
   -- ---- a refusal that changes nothing
 
-  pub any_refused : (stmt : Stmt) (old : Engine S) (refusal : Refusal) → IsGoingEngine g old → AnswersControl (control_of stmt) old.is_open (said.Refused refusal)
+  pub any_refused : (stmt : Stmt) (old : Engine S) (refusal : Refusal) → IsGoingEngine g old → AnswersControl (role_of stmt) old.is_open (said.Refused refusal)
       → (is_built_form stmt ≡ false → said.Refused refusal ≡ said.Refused (refusal_of NotBuilt))
-      → (control_of stmt ≡ control.Other → are_built old.tables.catalog ≡ false → said.Refused refusal ≡ said.Refused (refusal_of NotBuilt)) → ExecutesOnAny g stmt (Ok (said.Refused refusal)) old old
-  any_refused stmt old refusal going controls form tables = any_answered stmt old old (said.Refused refusal) steady_none (
+      → (is_control (role_of stmt) ≡ false → are_built old.tables.catalog ≡ false → said.Refused refusal ≡ said.Refused (refusal_of NotBuilt))
+      → AnswersSetting (role_of stmt) (are_built old.tables.catalog) old.tables.settings (said.Refused refusal) old.tables.settings → ExecutesOnAny g stmt (Ok (said.Refused refusal)) old old
+  any_refused stmt old refusal going controls form tables settings = any_answered stmt old old (said.Refused refusal) steady_none (
     record {
       done = λ reply e. absurd (cc);
       refused = λ other e. record { same = refl; defs = inl refl };
       controls = controls;
+      settings = settings;
       unbuilt_form = form;
       unbuilt_tables = tables;
     },
@@ -237,9 +228,11 @@ module _ {S : Type 0} (g : Ghosts S) where
   -- ---- BEGIN, COMMIT and ROLLBACK
 
   -- the answer 12
-  pub any_out_of_state : (stmt : Stmt) (old : Engine S) (refusal : Refusal) → is_built_form stmt ≡ true → (control_of stmt ≡ control.Other → ⊥) → IsGoingEngine g old
-      → AnswersControl (control_of stmt) old.is_open (said.Refused refusal) → ExecutesOnAny g stmt (Ok (said.Refused refusal)) old old
-  any_out_of_state stmt old refusal built none going controls = any_refused stmt old refusal going controls (λ unbuilt. let wrong : true ≡ false = sym built ∙ unbuilt in absurd (cc)) (λ other. absurd (none other))
+  pub any_out_of_state : (stmt : Stmt) (old : Engine S) (refusal : Refusal) → is_built_form stmt ≡ true → (is_control (role_of stmt) ≡ false → ⊥) → IsGoingEngine g old
+      → AnswersControl (role_of stmt) old.is_open (said.Refused refusal) → AnswersSetting (role_of stmt) (are_built old.tables.catalog) old.tables.settings (said.Refused refusal) old.tables.settings
+      → ExecutesOnAny g stmt (Ok (said.Refused refusal)) old old
+  any_out_of_state stmt old refusal built none going controls settings =
+      any_refused stmt old refusal going controls (λ unbuilt. let wrong : true ≡ false = sym built ∙ unbuilt in absurd (cc)) (λ other. absurd (none other)) settings
 
   pub begun_any : (old : Engine S) → old.is_open ≡ false → IsGoingEngine g old → ExecutesOnAny g statement.Begin (Ok (said.Done reply.Done)) old (record old { is_open = true })
   begun_any old shut going = any_answered statement.Begin old (record old { is_open = true }) (said.Done reply.Done) steady_none (
@@ -247,6 +240,7 @@ module _ {S : Type 0} (g : Ghosts S) where
       done = λ reply e. refl;
       refused = λ refusal e. absurd (cc);
       controls = rw shut refl;
+      settings = refl;
       unbuilt_form = λ e. absurd (cc);
       unbuilt_tables = λ e. absurd (cc);
     },
@@ -283,7 +277,7 @@ module _ {S : Type 0} (g : Ghosts S) where
       let new : Engine S = record old { store = store; tables = tables; served = served; is_open = false } in
       any_answered statement.Rollback old new (said.Done reply.Done) reloads.steady (steps_any statement.Rollback old new (said.Done reply.Done) does going
       (λ reply e. record {
-        same = same_held (record (held_by g old) { open_ = false; work = (g.state old.store).base; defs = tables.catalog }) (held_by g new) reloads.steady.base reloads.work refl refl (same_settings refl refl);
+        same = same_held (record (held_by g old) { open_ = false; work = (g.state old.store).base; defs = tables.catalog }) (held_by g new) reloads.steady.base reloads.work refl refl (same_settings reloads.settings refl);
         stored = reloads.stored;
       })
       (λ refusal e. absurd (cc)) (λ e. absurd (cc)))
@@ -298,14 +292,14 @@ module _ {S : Type 0} (g : Ghosts S) where
 
   -- ---- any other statement
 
-  module _ (old : Engine S) (stmt : Stmt) (going : IsGoingEngine g old) (served : old.served ≡ true) (other : control_of stmt ≡ control.Other) where
+  module _ (old : Engine S) (stmt : Stmt) (going : IsGoingEngine g old) (served : old.served ≡ true) (other : is_tried (role_of stmt) ≡ true) where
     -- all tables are of built forms
-    forms_built : control_of stmt ≡ control.Other → are_built old.tables.catalog ≡ true
+    forms_built : is_control (role_of stmt) ≡ false → are_built old.tables.catalog ≡ true
     forms_built is = sym going.by_forms ∙ served
 
     -- the execution stopped
     pub untried_any : (result : Result Outcome EngineStop) (stop : EngineStop) (store : S) (tables : Tables) → IsErrAnd result (λ e. e ≡ stop)
-        → TriesStep g stmt (Err stop) old.store store old.tables tables → NamesExactly {X = Outcome} g old.tables.shape (Err stop) store
+        → Tries g stmt (Err stop) old.store store old.tables tables → NamesExactly {X = Outcome} g old.tables.shape (Err stop) store
         → ExecutesOnAny g stmt result old (record old { store = store; tables = tables })
     untried_any result stop store tables is tries exact =
         let new : Engine S = record old { store = store; tables = tables } in
@@ -314,22 +308,18 @@ module _ {S : Type 0} (g : Ghosts S) where
         let back = tries.back damage (ap Err e) in
         stopped_at stmt old new damage (exact damage (ap Err e)) tries.steady (back.leaves.pages ∙ sym (judged_other stmt (held_by g old) other)) back.unmarked going.may.going refl)
 
-    module _ (changing : is_listing stmt ≡ false) (mid : S) (tables : Tables) (outcome : Outcome) (tries : TriesStep g stmt (Ok outcome) old.store mid old.tables tables) where
+    module _ (mid : S) (tables : Tables) (outcome : Outcome) (tries : Tries g stmt (Ok outcome) old.store mid old.tables tables) where
       -- it wasn't committed
       pub kept_any : Executes g stmt (Ok outcome) old (record old { store = mid; tables = tables }) → ExecutesOnAny g stmt (Ok outcome) old (record old { store = mid; tables = tables })
       kept_any does =
           let new : Engine S = record old { store = mid; tables = tables } in
-          let told = (g.state old.store).is_told in
           any_answered stmt old new outcome tries.steady (steps_any stmt old new outcome does going
-          (λ reply e. does_other told (held_by g old) (held_by g new) stmt other changing
-          (λ reads. as_held told (held_by g old) (held_by g new) tries.steady.base (tries.reads reads) refl (same_settings refl refl) (tries.catalog reads))
-          (record { is_open = refl; base = does.keeps going.committed; settings = refl; pass = refl }))
-          (λ refusal e.
-          let left = tries.refused refusal (ap Ok e) in
-          as_held told (held_by g old) (held_by g new) tries.steady.base left.pages refl (same_settings refl refl) (inl left.catalog))
-          (λ form. tries.unbuilt (form_other stmt other changing form)))
+          (λ reply e. does_other (g.state old.store).is_told (held_by g old) (held_by g new) (role_of stmt) other
+          (λ reads. held_left g old mid tables tries.steady (tries.reads reads) tries.settings)
+          (λ changing. record { is_open = refl; base = does.keeps going.committed; settings = tries.settings; pass = refl }))
+          (λ refusal e. as_it_was (g.state old.store).is_told (held_by g old) (held_by g new) (held_left g old mid tables tries.steady (tries.refused refusal (ap Ok e)) tries.settings)) tries.unbuilt)
 
-      module _ (shut : old.is_open ≡ false) (done : is_refusal outcome ≡ false) (store : S) where
+      module _ (changing : only_reads (role_of stmt) ≡ false) (shut : old.is_open ≡ false) (done : is_refusal outcome ≡ false) (store : S) where
         abbrev new : Engine S
         new = record old { store = store; tables = tables }
 
@@ -337,17 +327,22 @@ module _ {S : Type 0} (g : Ghosts S) where
         pub changed_any : CommitsWork {X = Unit {0}} g (Ok tt) mid store → Executes g stmt (Ok outcome) old (record old { store = store; tables = tables })
             → ExecutesOnAny g stmt (Ok outcome) old (record old { store = store; tables = tables })
         changed_any commits does =
-            let told = (g.state old.store).is_told in
             any_commits stmt old new mid tries.steady outcome commits (steps_any stmt old new outcome does going
-            (λ reply e. does_other told (held_by g old) (held_by g new) stmt other changing
-            (λ reads. as_held told (held_by g old) (held_by g new) (commits.base ∙ (tries.reads reads ∙ sym (going.committed shut))) (commits.work ∙ tries.reads reads) refl (same_settings refl refl) (tries.catalog reads))
-            (record { is_open = refl; base = does.keeps going.committed; settings = refl; pass = refl }))
-            (λ refusal e. absurd (not_refused outcome refusal done e))
-            (λ form. tries.unbuilt (form_other stmt other changing form)))
+            (λ reply e. does_other (g.state old.store).is_told (held_by g old) (held_by g new) (role_of stmt) other
+            (λ reads. let wrong : true ≡ false = sym reads ∙ changing in absurd (cc))
+            (λ changes. record { is_open = refl; base = does.keeps going.committed; settings = tries.settings; pass = refl }))
+            (λ refusal e. absurd (not_refused outcome refusal done e)) tries.unbuilt)
 
         -- the commit stopped, and not at damage
         pub change_stops_any : (result : Result Outcome EngineStop) (stop : EngineStop) → IsErrAnd result (λ e. e ≡ stop) → CommitsWork {X = Unit {0}} g (Err stop) mid store
             → ((damage : Damage) → stop ≡ Damaged damage → ⊥) → ExecutesOnAny g stmt result old (record old { store = store; tables = tables })
         change_stops_any result stop is commits whole =
             any_commit_stops stmt old new mid tries.steady result stop is commits going.may.going
-            (made_on_any (held_by g old) old.store mid old.tables tables stmt outcome other done shut (sym (going.committed shut)) tries) forms_built (λ damage e. absurd (whole damage e))
+            (made_on_any (held_by g old) old.store mid old.tables tables stmt outcome other changing done shut tries) forms_built (λ damage e. absurd (whole damage e))
+
+  -- a statement that reads alone was tried
+  pub read_any : (result : Result Outcome EngineStop) (old : Engine S) (store : S) (tables : Tables) (stmt : Stmt) → only_reads (role_of stmt) ≡ true → old.served ≡ true
+      → TriesStep g stmt result old.store store old.tables tables → NamesExactly g old.tables.shape result store → Executes g stmt result old (record old { store = store; tables = tables })
+      → IsGoingEngine g old → ExecutesOnAny g stmt result old (record old { store = store; tables = tables })
+  read_any (Ok outcome) old store tables stmt reads served tried exact does going = kept_any old stmt going served (tried_reading (role_of stmt) reads) store tables outcome tried.tries does
+  read_any (Err stop) old store tables stmt reads served tried exact does going = untried_any old stmt going served (tried_reading (role_of stmt) reads) (Err stop) stop store tables refl tried.tries exact

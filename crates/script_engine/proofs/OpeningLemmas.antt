@@ -56,7 +56,7 @@ module _ {S : Type 0} (g : Ghosts S) where
 
   -- the catalog was read into an engine
   module _ (shape : Shape) (old read : S) (engine : Engine S) (catalog : Definitions) (reads : OnlyReads g old read)
-      (is : engine ≡ record { store = read; tables = engine.tables; served = are_built catalog; is_open = false; settings = first_settings; pass = Idle }) (has : engine.tables.catalog ≡ catalog) (limits : AreWithinLimits catalog) (differ : DoNamesDiffer catalog) where
+      (is : engine ≡ record { store = read; tables = engine.tables; served = are_built catalog; is_open = false; pass = Idle }) (has : engine.tables.catalog ≡ catalog) (limits : AreWithinLimits catalog) (differ : DoNamesDiffer catalog) where
     store_is : engine.store ≡ read
     store_is = ap (λ (e : Engine S). e.store) is
 

@@ -53,6 +53,7 @@ pub touched_is : (statement : Bound) (place : ℕ) → changed_place statement �
 touched_is (bound.Insert table tuples) place is = is
 touched_is (bound.Delete table pred) place is = is
 touched_is (bound.Update table sets pred) place is = is
+touched_is (bound.Reclaim table) place is = is
 touched_is statement place is = absurd (cc)
 
 -- a definition that is there stands in one of the 16 places

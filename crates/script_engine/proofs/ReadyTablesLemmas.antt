@@ -223,8 +223,8 @@ shown_written g shape mid pages def def_now owners forests same low stands writt
 pub places_shown : {S : Type 0} {room room_now : Entry → RoomNote} (g : Ghosts S) (old mid new : S) (before now : Tables) (def def_now : TableDef) (owners : List Kind) (forests : TableForests) (Places : List Spot → List SpaceChange → List Spot → Type 0) (change : PlainTable → PlainTable) (statement : Bound)
     → IsReady g old before → def_now ≡ record def { next = def_now.next } → IsReadyBetween g before.shape before.notes room old def owners forests
     → ChangesRowsOf g before.shape before.notes now.notes room_now old mid def def_now owners forests Places change
-    → pages_of g new ≡ with_table_page def_now (pages_of g mid) → ((was : List Spot) (space : List SpaceChange) (is : List Spot) → Places was space is → PlacesRows def (block_slot_count before.shape def) was space is statement)
-    → PlacesOnPages before.shape (pages_of g old) (pages_of g new) def statement
+    → pages_of g new ≡ with_table_page def_now (pages_of g mid) → ((was : List Spot) (space : List SpaceChange) (is : List Spot) → Places was space is → PlacesRows before.settings.rollout def (block_slot_count before.shape def) was space is statement)
+    → PlacesOnPages before.shape (pages_of g old) (pages_of g new) before.settings.rollout def statement
 places_shown g old mid new before now def def_now owners forests Places change statement ready same between changed written turns = record {
   was = spots_of g before.shape old def owners forests;
   is = spots_of g before.shape mid def_now changed.owners_now changed.forests_now;

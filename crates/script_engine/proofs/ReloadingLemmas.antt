@@ -31,7 +31,7 @@ module _ {S : Type 0} (g : Ghosts S) where
   no_damage s shape damage told sound broken = no_broken_pages g s shape sound.0 told sound.1 damage broken
 
   module _ (old back new : S) (before now : Tables) (rolls : RollsBack (g.state old) (g.state back)) (count : g.disk_faults back ≡ g.disk_faults old) (say : g.say_faults back ≡ g.say_faults old)
-      (time : OverTime g.clock g.left (OnlyBase (g.state old)) old back) (same_shape : now.shape ≡ before.shape) (notes : (owners : List Kind) → AreRightNotes now.shape now.notes owners) (rooms : AreForgotten now.rooms) where
+      (time : OverTime g.clock g.left (OnlyBase (g.state old)) old back) (same_shape : now.shape ≡ before.shape) (same_settings : now.settings ≡ before.settings) (notes : (owners : List Kind) → AreRightNotes now.shape now.notes owners) (rooms : AreForgotten now.rooms) where
     went_back : Steady g old back
     went_back = steady_rollback rolls count say time
 
@@ -53,6 +53,7 @@ module _ {S : Type 0} (g : Ghosts S) where
       work = loads.reads.work ∙ base_again;
       unmarked = loads.reads.marked ∙ ap (λ s. s.marked) rolls;
       shape = same_shape;
+      settings = same_settings;
       notes = notes;
       rooms = rooms;
       stored = tt;
@@ -70,6 +71,7 @@ module _ {S : Type 0} (g : Ghosts S) where
       work = loads.reads.work ∙ base_again;
       unmarked = loads.reads.marked ∙ ap (λ s. s.marked) rolls;
       shape = same_shape;
+      settings = same_settings;
       notes = notes;
       rooms = rooms;
       stored = λ told. subst (λ (pages : PageList). AreStored pages now.catalog) base_again (loads.stored (subst IsTrue (sym went_back.is_told) told));

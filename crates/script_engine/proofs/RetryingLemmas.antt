@@ -1,10 +1,10 @@
 -- Calls that are tried once more, by the catalog of the pages themselves.
-use Rattle.std.proofs.Common.{◌≡◌, ◌⊎◌, List, Some, None, Result, Ok, Err, IsErrAnd, IfOk, OnOk, refl, sym, ap, subst, inl, inr, ◌∙◌}
-use Rattle.std.specs.Prelude.{true, IsTrue}
-use Rattle.mdc_words.proofs.FaultsLemmas.{counts_fault_as, counts_fault_then}
+use Rattle.std.proofs.Common.{◌≡◌, ◌⊎◌, Bool, List, Some, None, Result, Ok, Err, IsErrAnd, IfOk, OnOk, refl, sym, ap, subst, ◌∙◌}
+use Rattle.std.specs.Prelude.{true, false, not, IsErrOf, IsTrue}
+use Rattle.mdc_words.specs.Faults.{CountsFault}
+use Rattle.mdc_words.proofs.FaultsLemmas.{counts_fault_then}
 use Rattle.mdc_ast.specs.declared.reply.Outcome.{Outcome}
 use Rattle.mdc_ast.specs.declared.reply.Outcome.TheVariants as said
-use Rattle.mdc_ast.specs.declared.reply.Reply.{Reply}
 use Rattle.mdc_ast.specs.declared.statement.Stmt.{Stmt}
 use Rattle.statement_meaning.specs.Binding.{bound_of}
 use Rattle.mdc_ast.specs.Definitions.{Definitions}
@@ -22,21 +22,20 @@ use Rattle.table_trees.specs.ToldPages.{PageList}
 use Rattle.mdc_sound.specs.SoundDatabase.{IsSoundDatabase, KeepAllRules}
 use Rattle.mdc_sound.specs.StandingTable.{pages_of}
 use Rattle.stored_catalog.specs.StoredDefinitions.{AreStored, AreWithinLimits, BreaksTablePages, IsAnyTablePage}
-use Rattle.statement_rows.specs.RowsOfStatement.{AnyPage}
-use Rattle.script_engine.specs.Doing.{DoesStep, LeavesAll, is_reading}
-use Rattle.script_engine.specs.Fetching.{FetchesForQuery}
+use Rattle.script_engine.specs.Doing.{DoesReady, LeavesAll}
+use Rattle.script_engine.specs.Fetching.{FetchesForListing, FetchesForQuery}
 use Rattle.script_engine.specs.NotedRooms.{AreForgotten}
 use Rattle.statement_meaning.specs.Built.{are_built}
-use Rattle.script_engine.specs.Ready.{AreServed, BreaksDatabase, DoNamesDiffer, IsReady}
+use Rattle.script_engine.specs.Ready.{AreServed, DoNamesDiffer, IsReady}
+use Rattle.script_engine.specs.Roles.{only_reads, role_of}
 use Rattle.script_engine.specs.Stops.{stop_of}
-use Rattle.script_engine.specs.Trying.{IsRefusedFull, KeepsCatalog, TriesAnew, TriesStep}
+use Rattle.script_engine.specs.Trying.{IsRefusedFull, Tries, TriesStep, has_changed}
 use Rattle.script_engine.specs.declared.stop.EngineStop.{EngineStop}
-use Rattle.script_engine.specs.declared.stop.EngineStop.TheVariants.{Damaged}
+use Rattle.script_engine.specs.declared.stop.EngineStop.TheVariants.{Damaged, Device}
 use Rattle.script_engine.specs.declared.tables.Tables.{Tables}
 use Rattle.script_engine.proofs.CatalogLemmas.{served_of}
 use Rattle.script_engine.proofs.OpeningLemmas.{unopened_names}
 use Rattle.script_engine.proofs.ReadyTablesLemmas.{ready_of_sound}
-use Rattle.script_engine.proofs.TryingLemmas.{stop_names}
 
 -- a catalog that was read, and put into the place of another
 pub served_read : (catalog now : Definitions) → now ≡ catalog → AreWithinLimits catalog → DoNamesDiffer catalog → are_built catalog ≡ true → AreServed now
@@ -60,101 +59,124 @@ module _ {S : Type 0} (g : Ghosts S) (old read : S) (before tables : Tables) whe
       (subst (λ (pages : PageList). AreStored pages tables.catalog) (sym same) (subst (λ (defs : Definitions). AreStored (g.state old).work defs) (sym is) (stored told)))
       (notes sound.0.owners) rooms
 
--- a catalog that is kept, or is that of the pages, behind one that is
-pub keeps_along : {S : Type 0} (g : Ghosts S) (old mid : S) (before tables now : Tables) → (g.state mid).is_told ≡ (g.state old).is_told → pages_of g mid ≡ pages_of g old
-    → KeepsCatalog g old before tables → KeepsCatalog g mid tables now → KeepsCatalog g old before now
-keeps_along g old mid before tables now told same (inl first) (inl second) = inl (second ∙ first)
-keeps_along g old mid before tables now told same (inr first) (inl second) = inr (λ is. subst (λ (defs : Definitions). AreStored (pages_of g old) defs) (sym second) (first is))
-keeps_along g old mid before tables now told same first (inr second) = inr (λ is. subst (λ (pages : PageList). AreStored pages now.catalog) same (second (subst IsTrue (sym told) is)))
+-- ---- what was tried
 
--- a statement was done by the catalog of the pages, which were read before
-pub tried_read : {S : Type 0} (g : Ghosts S) (stmt : Stmt) (old mid new : S) (before read now : Tables) (catalog : Definitions) (field : Outcome) (reply : Reply)
-    → RunsOverPages g NoPage IsAnyTablePage (BreaksTablePages g old) old mid None → (g.state mid).work ≡ (g.state old).work → (IsTrue (g.state old).is_told → AreStored (g.state old).work catalog)
-    → read.catalog ≡ catalog → read.shape ≡ before.shape → TriesStep g stmt (Ok field) mid new read now → field ≡ said.Done reply → TriesAnew g stmt (Ok (said.Done reply)) old new before now
-tried_read g stmt old mid new before read now catalog field reply runs same stored is shape tries field_is = record {
-  steady = steady_then runs.works.steady tries.steady;
+-- a statement that wasn't to change pages, or was refused, left them
+not_read : (reads : Bool) → not reads ≡ false → reads ≡ true
+not_read true is = refl
+not_read false is = absurd (cc)
+
+module _ {S : Type 0} (g : Ghosts S) (stmt : Stmt) (old mid new : S) (before read made : Tables) (runs : RunsOverPages g NoPage IsAnyTablePage (BreaksTablePages g old) old mid None)
+    (same : (g.state mid).work ≡ (g.state old).work) (shape : read.shape ≡ before.shape) (settings : read.settings ≡ before.settings) where
+  steady_read : {result : Result Outcome EngineStop} → Tries g stmt result mid new read made → Steady g old new
+  steady_read tries = steady_then runs.works.steady tries.steady
+
+  counts_read : {result : Result Outcome EngineStop} → Tries g stmt result mid new read made → CountsFault (IsErrOf result Device) (g.disk_faults old) (g.disk_faults new)
+  counts_read tries = counts_fault_then (runs.cause.device.still (λ r. absurd (cc))) tries.device
+
+  -- a statement was done by the catalog of the pages, which were read before, and may have changed them
+  pub tried_read : (outcome : Outcome) → has_changed (role_of stmt) outcome ≡ true → TriesStep g stmt (Ok outcome) mid new read made → Tries g stmt (Ok outcome) old new before made
+  tried_read (said.Refused refusal) changed tried = absurd (cc)
+  tried_read (said.Done reply) changed tried =
+      let tries = tried.tries in
+      record {
+        steady = steady_read tries;
+        unmarked = tries.unmarked;
+        served = tries.served;
+        shape = tries.shape ∙ shape;
+        settings = tries.settings ∙ settings;
+        back = λ damage r. absurd (cc);
+        refused = λ refusal r. absurd (cc);
+        reads = λ reads. let wrong : false ≡ true = ap not (sym reads) ∙ changed in absurd (cc);
+        unbuilt = tries.unbuilt;
+        device = counts_read tries;
+        output = λ r. absurd (cc);
+      }
+
+  -- it changed nothing, and the catalog is put back that there was
+  module _ (now : Tables) (kept : now.catalog ≡ before.catalog) (shape_now : now.shape ≡ made.shape) (set_now : now.settings ≡ made.settings) where
+    unchanged : (outcome : Outcome) → has_changed (role_of stmt) outcome ≡ false → Tries g stmt (Ok outcome) mid new read made → pages_of g new ≡ pages_of g mid
+    unchanged (said.Done reply) still tries = (tries.reads (not_read (only_reads (role_of stmt)) still)).pages
+    unchanged (said.Refused refusal) still tries = (tries.refused refusal refl).pages
+
+    pub tried_unchanged : (outcome : Outcome) → AreServed before.catalog → has_changed (role_of stmt) outcome ≡ false → TriesStep g stmt (Ok outcome) mid new read made → Tries g stmt (Ok outcome) old new before now
+    tried_unchanged outcome served still tried =
+        let tries = tried.tries in
+        let leaves : LeavesAll g old new before now = record { pages = unchanged outcome still tries ∙ same; catalog = kept } in
+        record {
+          steady = steady_read tries;
+          unmarked = tries.unmarked;
+          served = subst AreServed (sym kept) served;
+          shape = shape_now ∙ (tries.shape ∙ shape);
+          settings = set_now ∙ (tries.settings ∙ settings);
+          back = λ damage r. absurd (cc);
+          refused = λ refusal r. leaves;
+          reads = λ reads. leaves;
+          unbuilt = tries.unbuilt;
+          device = counts_read tries;
+          output = λ r. absurd (cc);
+        }
+
+    pub tried_stopped : (stop : EngineStop) → TriesStep g stmt (Err stop) mid new read made → Tries g stmt (Err stop) old new before now
+    tried_stopped stop tried =
+        let tries = tried.tries in
+        record {
+          steady = steady_read tries;
+          unmarked = tt;
+          served = tt;
+          shape = shape_now ∙ (tries.shape ∙ shape);
+          settings = set_now ∙ (tries.settings ∙ settings);
+          back = λ damage r.
+              let back = tries.back damage r in
+              record { leaves = record { pages = back.leaves.pages ∙ same; catalog = kept }; unmarked = back.unmarked };
+          refused = λ refusal r. absurd (cc);
+          reads = tt;
+          unbuilt = tries.unbuilt;
+          device = counts_read tries;
+          output = tries.output;
+        }
+
+-- what was tried behind a run that left all was tried from before it
+pub tries_along : {S : Type 0} (g : Ghosts S) (stmt : Stmt) (result : Result Outcome EngineStop) (old mid new : S) (before tables now : Tables) → Steady g old mid → g.disk_faults mid ≡ g.disk_faults old
+    → LeavesAll g old mid before tables → tables.shape ≡ before.shape → tables.settings ≡ before.settings → Tries g stmt result mid new tables now → Tries g stmt result old new before now
+tries_along g stmt result old mid new before tables now steady still left shape settings tries = record {
+  steady = steady_then steady tries.steady;
   unmarked = tries.unmarked;
   served = tries.served;
   shape = tries.shape ∙ shape;
-  back = λ damage r. absurd (cc);
-  refused = λ refusal r. absurd (cc);
-  unbuilt = λ form. sym field_is ∙ tries.unbuilt form;
-  reads = λ reads. tries.reads reads ∙ same;
-  catalog = λ reads. keeps_along g old mid before read now runs.works.steady.is_told same (inr (λ told. subst (λ (defs : Definitions). AreStored (g.state old).work defs) (sym is) (stored told))) (tries.catalog reads);
-  device = counts_fault_as (λ r. absurd (cc)) (λ r. absurd (cc)) (counts_fault_then (runs.cause.device.still (λ r. absurd (cc))) tries.device);
-  output = λ r. absurd (cc);
-}
-
--- the pages were read before it was tried once more
-pub anew_along : {S : Type 0} (g : Ghosts S) (stmt : Stmt) (result : Result Outcome EngineStop) (old mid new : S) (before now : Tables) → Steady g old mid → (g.state mid).work ≡ (g.state old).work
-    → g.disk_faults mid ≡ g.disk_faults old → TriesAnew g stmt result mid new before now → TriesAnew g stmt result old new before now
-anew_along g stmt result old mid new before now steady same still anew = record {
-  steady = steady_then steady anew.steady;
-  unmarked = anew.unmarked;
-  served = anew.served;
-  shape = anew.shape;
-  back = λ damage r. let back = anew.back damage r in record { leaves = left_along back.leaves; unmarked = back.unmarked };
-  refused = λ refusal r. left_along (anew.refused refusal r);
-  unbuilt = anew.unbuilt;
-  reads = reads_along result anew.reads;
-  catalog = catalog_along result anew.catalog;
-  device = counts_fault_then still anew.device;
-  output = anew.output;
+  settings = tries.settings ∙ settings;
+  back = λ damage r. let back = tries.back damage r in record { leaves = left_twice back.leaves; unmarked = back.unmarked };
+  refused = λ refusal r. left_twice (tries.refused refusal r);
+  reads = reads_twice result tries.reads;
+  unbuilt = tries.unbuilt;
+  device = counts_fault_then still tries.device;
+  output = tries.output;
 }
   where
-    left_along : LeavesAll g mid new before now → LeavesAll g old new before now
-    left_along left = record { pages = left.pages ∙ same; catalog = left.catalog }
+    left_twice : LeavesAll g mid new tables now → LeavesAll g old new before now
+    left_twice then = record { pages = then.pages ∙ left.pages; catalog = then.catalog ∙ left.catalog }
 
-    reads_along : (result : Result Outcome EngineStop) → OnOk result (is_reading stmt ≡ true → pages_of g new ≡ pages_of g mid) → OnOk result (is_reading stmt ≡ true → pages_of g new ≡ pages_of g old)
-    reads_along (Ok outcome) reads = λ is. reads is ∙ same
-    reads_along (Err stop) reads = tt
-
-    catalog_along : (result : Result Outcome EngineStop) → OnOk result (is_reading stmt ≡ true → KeepsCatalog g mid before now) → OnOk result (is_reading stmt ≡ true → KeepsCatalog g old before now)
-    catalog_along (Ok outcome) keeps = λ is. keeps_along g old mid before before now steady.is_told same (inl refl) (keeps is)
-    catalog_along (Err stop) keeps = tt
+    reads_twice : (result : Result Outcome EngineStop) → OnOk result (only_reads (role_of stmt) ≡ true → LeavesAll g mid new tables now) → OnOk result (only_reads (role_of stmt) ≡ true → LeavesAll g old new before now)
+    reads_twice (Ok outcome) reads = λ is. left_twice (reads is)
+    reads_twice (Err stop) reads = tt
 
 -- a statement that met damage, as none does on ready pages, was judged or tried once more
 pub tries_again : {S : Type 0} (g : Ghosts S) (stmt : Stmt) (first second : Result Outcome EngineStop) (met : Damage) (old mid new : S) (before tables now : Tables) → first ≡ Err (Damaged met)
-    → TriesStep g stmt first old mid before tables → TriesAnew g stmt second mid new tables now → TriesStep g stmt second old new before now
-tries_again g stmt first second met old mid new before tables now is tries anew =
-    let was = tries.back met is in
-    let unready : IsReady g old before → ⊥ = tries.damaged met is in
-    let ends = by_result was.leaves.pages unready second anew in
+    → TriesStep g stmt first old mid before tables → Tries g stmt second mid new tables now → TriesStep g stmt second old new before now
+tries_again g stmt first second met old mid new before tables now is tried anew =
+    let unready : IsReady g old before → ⊥ = tried.damaged met is in
+    let ends = by_result unready second in
     record {
-      steady = steady_then tries.steady anew.steady;
-      unmarked = anew.unmarked;
-      served = anew.served;
-      shape = anew.shape ∙ tries.shape;
-      back = λ damage r.
-          let back = anew.back damage r in
-          record { leaves = left_twice was.leaves back.leaves; unmarked = back.unmarked };
+      tries = tries_along g stmt second old mid new before tables now tried.tries.steady (tried.tries.device.still (λ r. absurd (cc))) (tried.tries.back met is).leaves tried.tries.shape tried.tries.settings anew;
       does = ends.0;
-      refused = λ refusal r. left_twice was.leaves (anew.refused refusal r);
-      unbuilt = anew.unbuilt;
-      reads = ends.2;
-      catalog = catalog_read second anew.catalog;
       fetches = ends.1;
-      device = counts_fault_then (tries.device.still (λ r. absurd (cc))) anew.device;
+      lists = ends.2;
       damaged = λ damage r ready. unready ready;
-      output = anew.output;
     }
   where
-    left_twice : LeavesAll g old mid before tables → LeavesAll g mid new tables now → LeavesAll g old new before now
-    left_twice one two = record { pages = two.pages ∙ one.pages; catalog = two.catalog ∙ one.catalog }
-
-    -- the catalog that it leaves is the first one, or that of the same pages
-    catalog_read : (result : Result Outcome EngineStop) → OnOk result (is_reading stmt ≡ true → KeepsCatalog g mid tables now) → OnOk result (is_reading stmt ≡ true → KeepsCatalog g old before now)
-    catalog_read (Ok outcome) keeps = λ reads. keeps_along g old mid before tables now tries.steady.is_told (tries.back met is).leaves.pages (inl (tries.back met is).leaves.catalog) (keeps reads)
-    catalog_read (Err stop) keeps = tt
-
-    by_result : pages_of g mid ≡ pages_of g old → (IsReady g old before → ⊥) → (result : Result Outcome EngineStop) → TriesAnew g stmt result mid new tables now
-        → IfOk result (λ outcome. IsReady g old before → DoesStep g old new before now stmt outcome ⊎ IsRefusedFull g old new before now stmt outcome)
-        × OnOk result (IsReady g old before → FetchesForQuery g before.shape old new before.catalog (bound_of before.catalog stmt)) × OnOk result (is_reading stmt ≡ true → pages_of g new ≡ pages_of g old)
-    by_result pages unready (Ok outcome) again = (λ ready. absurd (unready ready), (λ ready. absurd (unready ready)), λ reads. again.reads reads ∙ pages)
-    by_result pages unready (Err stop) again = (tt, tt, tt)
-
--- a call on ready pages meets no damage
-pub unready_stop : {S X : Type 0} (g : Ghosts S) (read new : S) (tables : Tables) (result : Result X EngineStop) (fault : StoreFault) → IsErrAnd result (λ e. e ≡ stop_of fault)
-    → RunsOverPages g NoPage AnyPage (BreaksDatabase g read tables) read new (Some fault) → (damage : Damage) → result ≡ Err (Damaged damage) → IsReady g read tables → ⊥
-unready_stop g read new tables (Ok x) fault is runs damage r = absurd is
-unready_stop g read new tables (Err e) fault is runs damage r = runs.cause.damaged damage (ap Some (stop_names fault damage (cc)))
+    by_result : (IsReady g old before → ⊥) → (result : Result Outcome EngineStop)
+        → IfOk result (λ outcome. IsReady g old before → DoesReady g old new before now stmt outcome ⊎ IsRefusedFull g old new before now stmt outcome)
+        × OnOk result (IsReady g old before → FetchesForQuery g before.shape old new before.catalog (bound_of before.catalog stmt))
+        × OnOk result (IsReady g old before → FetchesForListing g old new before.catalog (role_of stmt))
+    by_result unready (Ok outcome) = (λ ready. absurd (unready ready), (λ ready. absurd (unready ready)), λ ready. absurd (unready ready))
+    by_result unready (Err stop) = (tt, tt, tt)

@@ -124,6 +124,8 @@ same-without_roots defs (stmt.Insert name listed tuples) = (on_table-without_roo
 same-without_roots defs (stmt.Update name sets pred) = (on_table-without_roots defs name _, bound_on-without_roots defs name _)
 same-without_roots defs (stmt.Delete name pred) = (on_table-without_roots defs name _, bound_on-without_roots defs name _)
 same-without_roots defs (stmt.Query select) = (on_table-without_roots defs select.table _, bound_on-without_roots defs select.table _)
+same-without_roots defs (stmt.Explain select) = (on_table-without_roots defs select.table _, bound_on-without_roots defs select.table _)
+same-without_roots defs (stmt.Reclaim name) = (on_table-without_roots defs name _, bound_on-without_roots defs name _)
 same-without_roots defs other = (refl, refl)
 
 -- ---- the plain table at the place of a definition
@@ -143,10 +145,10 @@ stored_table db defs place def same at =
 -- ---- the step of a statement
 
 -- nothing is said on the definitions of the database either, and it is bound the same
-same_said : (db : Database) (defs : Definitions) (statement : Stmt) → defs_of db ≡ without_roots defs → in_order (judged_of (defs_of db) statement) ≡ in_order (judged_of defs statement)
+pub same_said : (db : Database) (defs : Definitions) (statement : Stmt) → defs_of db ≡ without_roots defs → in_order (judged_of (defs_of db) statement) ≡ in_order (judged_of defs statement)
 same_said db defs statement same = ap (λ d. in_order (judged_of d statement)) same ∙ ap in_order ((same-without_roots defs statement).0)
 
-same_bound : (db : Database) (defs : Definitions) (statement : Stmt) → defs_of db ≡ without_roots defs → bound_of (defs_of db) statement ≡ bound_of defs statement
+pub same_bound : (db : Database) (defs : Definitions) (statement : Stmt) → defs_of db ≡ without_roots defs → bound_of (defs_of db) statement ≡ bound_of defs statement
 same_bound db defs statement same = ap (λ d. bound_of d statement) same ∙ (same-without_roots defs statement).1
 
 -- a definition without roots is of a built form where it is with them

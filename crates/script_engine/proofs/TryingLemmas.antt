@@ -1,5 +1,5 @@
 -- A statement that is tried between a mark and its end.
-use Rattle.std.proofs.Common.{◌≡◌, ℕ, false, true, List, Option, Some, None, Result, Ok, Err, refl, sym, ap, subst, inl, inr, arith, ◌∙◌, unwrap_or}
+use Rattle.std.proofs.Common.{◌≡◌, ◌⊎◌, ℕ, false, true, List, Option, Some, None, Result, Ok, Err, refl, sym, ap, subst, inl, inr, arith, ◌∙◌, unwrap_or}
 use Rattle.std.specs.Prelude.{IsErrOf, IsTrue}
 use Rattle.mdc_words.specs.Faults.{CountsFault}
 use Rattle.mdc_words.specs.Time.{OverTime}
@@ -10,10 +10,10 @@ use Rattle.mdc_ast.specs.declared.reply.Outcome.{Outcome}
 use Rattle.mdc_ast.specs.declared.reply.Outcome.TheVariants as said
 use Rattle.mdc_ast.specs.declared.statement.Stmt.{Stmt}
 use Rattle.statement_meaning.specs.Binding.{bound_of}
-use Rattle.statement_meaning.specs.Built.{is_built_step}
 use Rattle.statement_meaning.specs.Cause.{FileFull, NotBuilt, refusal_of}
 use Rattle.mdc_ast.specs.Definitions.{Definitions, def_at}
-use Rattle.statement_meaning.specs.Step.{step}
+use Rattle.statement_meaning.specs.Session.{AgreesWith, Session, turn}
+use Rattle.statement_meaning.specs.Step.{Answer, step}
 use Rattle.store_api.specs.Calls.{Keeps, Marks, Undoes}
 use Rattle.store_api.specs.Causes.{store_fault_in}
 use Rattle.store_api.specs.Moments.{OnlyBase}
@@ -36,16 +36,19 @@ use Rattle.mdc_sound.specs.StandingTable.{pages_of}
 use Rattle.mdc_sound.specs.StandsForDatabase.{PagesStandFor}
 use Rattle.stored_catalog.specs.StoredDefinitions.{AreStored}
 use Rattle.statement_rows.specs.RowsOfStatement.{AnyPage}
-use Rattle.script_engine.specs.Doing.{DoesStep, LeavesAll, PlacesOnPages, StandsAfter, StepRunsFull, changed_place, is_reading}
-use Rattle.script_engine.specs.Fetching.{FetchesForQuery}
+use Rattle.script_engine.specs.Doing.{DoesReady, DoesStep, LeavesAll, PlacesOnPages, StandsAfter, StepRunsFull, TellsPages, changed_place}
+use Rattle.script_engine.specs.Fetching.{FetchesForListing, FetchesForQuery}
+use Rattle.script_engine.specs.Listing.{PagesTell}
 use Rattle.script_engine.specs.NotedRooms.{AreForgotten}
 use Rattle.script_engine.specs.Others.{KeepsOthers, touched_place}
 use Rattle.script_engine.specs.Ready.{AreServed, BreaksDatabase, IsReady, KeepsServed}
+use Rattle.script_engine.specs.Roles.{is_built_form, only_reads, role_of}
 use Rattle.script_engine.specs.Stops.{stop_of}
-use Rattle.script_engine.specs.Trying.{TriesStep}
+use Rattle.script_engine.specs.Trying.{IsRefusedFull, TriesStep}
 use Rattle.script_engine.specs.declared.stop.EngineStop.{EngineStop}
 use Rattle.script_engine.specs.declared.stop.EngineStop.TheVariants.{Damaged, Device, Output}
 use Rattle.script_engine.specs.declared.tables.Tables.{Tables}
+use Rattle.script_engine.proofs.FetchesForListingLemmas.{lists_marked}
 use Rattle.script_engine.proofs.FetchesForQueryLemmas.{fetches_marked}
 use Rattle.script_engine.proofs.ReadyTablesLemmas.{ready_of_sound}
 use Rattle.script_engine.proofs.SameWorkLemmas.{ready_same}
@@ -72,12 +75,12 @@ stop_counts e counts = counts_fault_as (λ is. ap Some (stop_device e (cc))) (λ
 
 module _ {S : Type 0} (g : Ghosts S) where
   -- what a call did to a marked store it did to the one that was marked
-  pub does_marked : (old marked new : S) (before now : Tables) (stmt : Stmt) (outcome : Outcome) → pages_of g marked ≡ pages_of g old → DoesStep g marked new before now stmt outcome → DoesStep g old new before now stmt outcome
+  does_marked : (old marked new : S) (before now : Tables) (stmt : Stmt) (outcome : Outcome) → pages_of g marked ≡ pages_of g old → DoesStep g marked new before now stmt outcome → DoesStep g old new before now stmt outcome
   does_marked old marked new before now stmt outcome same does = record {
     ready = does.ready;
     stands = subst (λ (pages : PageList). (db : _) → PagesStandFor before.shape pages db → StandsAfter now.shape (pages_of g new) (step db stmt) outcome) same does.stands;
     places = subst (λ (pages : PageList). (reply : _) → outcome ≡ said.Done reply → (place : ℕ) (def : TableDef) → changed_place (bound_of before.catalog stmt) ≡ Some place → def_at before.catalog place ≡ Some def
-        → PlacesOnPages before.shape pages (pages_of g new) def (bound_of before.catalog stmt)) same does.places;
+        → PlacesOnPages before.shape pages (pages_of g new) before.settings.rollout def (bound_of before.catalog stmt)) same does.places;
     others = subst (λ (pages : PageList). KeepsOthers before.shape pages (pages_of g new) before.catalog now.catalog (touched_place (bound_of before.catalog stmt))) same does.others;
   }
 
@@ -88,9 +91,45 @@ module _ {S : Type 0} (g : Ghosts S) where
     ready = ready_same g mid new now told same does.ready;
     stands = subst (λ (pages : PageList). (db : _) → PagesStandFor before.shape (pages_of g old) db → StandsAfter now.shape pages (step db stmt) outcome) (sym same) does.stands;
     places = subst (λ (pages : PageList). (reply : _) → outcome ≡ said.Done reply → (place : ℕ) (def : TableDef) → changed_place (bound_of before.catalog stmt) ≡ Some place → def_at before.catalog place ≡ Some def
-        → PlacesOnPages before.shape (pages_of g old) pages def (bound_of before.catalog stmt)) (sym same) does.places;
+        → PlacesOnPages before.shape (pages_of g old) pages before.settings.rollout def (bound_of before.catalog stmt)) (sym same) does.places;
     others = subst (λ (pages : PageList). KeepsOthers before.shape (pages_of g old) pages before.catalog now.catalog (touched_place (bound_of before.catalog stmt))) (sym same) does.others;
   }
+
+  -- the same of a statement that told of the pages
+  tells_marked : (old marked new : S) (before now : Tables) (stmt : Stmt) (outcome : Outcome) → pages_of g marked ≡ pages_of g old → TellsPages g marked new before now stmt outcome → TellsPages g old new before now stmt outcome
+  tells_marked old marked new before now stmt outcome same told = record {
+    ready = told.ready;
+    leaves = record { pages = told.leaves.pages ∙ same; catalog = told.leaves.catalog };
+    answers = subst (λ (pages : PageList). (session : Session) → PagesStandFor before.shape pages session.working
+        → (answer : Answer) × (turn session stmt ≡ (session, answer)) × AgreesWith (PagesTell before.shape pages before.catalog before.settings.plan stmt) answer outcome) same told.answers;
+  }
+
+  tells_kept : (old mid new : S) (before now : Tables) (stmt : Stmt) (outcome : Outcome) → (g.state new).is_told ≡ (g.state mid).is_told → pages_of g new ≡ pages_of g mid
+      → TellsPages g old mid before now stmt outcome → TellsPages g old new before now stmt outcome
+  tells_kept old mid new before now stmt outcome told same tells = record {
+    ready = ready_same g mid new now told same tells.ready;
+    leaves = record { pages = same ∙ tells.leaves.pages; catalog = tells.leaves.catalog };
+    answers = tells.answers;
+  }
+
+  -- and of any
+  pub executed_marked : (old marked new : S) (before now : Tables) (stmt : Stmt) (outcome : Outcome) → pages_of g marked ≡ pages_of g old → DoesReady g marked new before now stmt outcome → DoesReady g old new before now stmt outcome
+  executed_marked old marked new before now stmt outcome same (DoesReady.steps other does) = DoesReady.steps other (does_marked old marked new before now stmt outcome same does)
+  executed_marked old marked new before now stmt outcome same (DoesReady.tells lists told) = DoesReady.tells lists (tells_marked old marked new before now stmt outcome same told)
+
+  executed_kept : (old mid new : S) (before now : Tables) (stmt : Stmt) (outcome : Outcome) → (g.state new).is_told ≡ (g.state mid).is_told → pages_of g new ≡ pages_of g mid
+      → DoesReady g old mid before now stmt outcome → DoesReady g old new before now stmt outcome
+  executed_kept old mid new before now stmt outcome told same (DoesReady.steps other does) = DoesReady.steps other (does_kept old mid new before now stmt outcome told same does)
+  executed_kept old mid new before now stmt outcome told same (DoesReady.tells lists tells) = DoesReady.tells lists (tells_kept old mid new before now stmt outcome told same tells)
+
+  -- it leaves the pages ready
+  executed_ready : (old new : S) (before now : Tables) (stmt : Stmt) (outcome : Outcome) → DoesReady g old new before now stmt outcome → IsReady g new now
+  executed_ready old new before now stmt outcome (DoesReady.steps other does) = does.ready
+  executed_ready old new before now stmt outcome (DoesReady.tells lists told) = told.ready
+
+  pub ready_tried : (old new : S) (before now : Tables) (stmt : Stmt) (outcome : Outcome) → DoesReady g old new before now stmt outcome ⊎ IsRefusedFull g old new before now stmt outcome → IsReady g new now
+  ready_tried old new before now stmt outcome (inl does) = executed_ready old new before now stmt outcome does
+  ready_tried old new before now stmt outcome (inr refused) = refused.ready
 
   -- ---- a mark, and what comes then
 
@@ -114,59 +153,69 @@ module _ {S : Type 0} (g : Ghosts S) where
       fetched_so_far new same fetches =
           fetches_marked g before.shape before.catalog old marked begun.is_told same_work mid new (bound_of before.catalog stmt) (ap (λ s. s.fetched) marks) same fetches
 
+      listed_so_far : (new : S) → (g.state new).fetched ≡ (g.state mid).fetched → FetchesForListing g marked mid before.catalog (role_of stmt) → FetchesForListing g old new before.catalog (role_of stmt)
+      listed_so_far new same fetches = lists_marked g before.catalog old marked begun.is_told same_work mid new (role_of stmt) (ap (λ s. s.fetched) marks) same fetches
+
+      left_so_far : (new : S) → pages_of g new ≡ pages_of g mid → LeavesAll g marked mid before now → LeavesAll g old new before now
+      left_so_far new work left = record { pages = work ∙ (left.pages ∙ same_work); catalog = left.catalog }
+
       -- a fault of the store: all is as it was
       pub try_stops : (e : StoreFault) (stop : EngineStop) (new : S) (last : Tables) → result ≡ Err (space.Store e) → stop ≡ stop_of e → Undoes (g.state mid) (g.state new)
           → g.disk_faults new ≡ g.disk_faults mid → g.say_faults new ≡ g.say_faults mid → OverTime g.clock g.left (OnlyBase (g.state mid)) mid new
-          → now.catalog ≡ before.catalog → last.catalog ≡ now.catalog → last.shape ≡ now.shape → TriesStep g stmt (Err stop) old new before last
-      try_stops e stop new last is names undone count_undone say_undone time_undone catalog forgot shape =
+          → now.catalog ≡ before.catalog → last.catalog ≡ now.catalog → last.shape ≡ now.shape → last.settings ≡ now.settings → TriesStep g stmt (Err stop) old new before last
+      try_stops e stop new last is names undone count_undone say_undone time_undone catalog forgot shape settings =
           let fault : store_fault_in store_part_of result ≡ Some e = ap (store_fault_in store_part_of) is in
           let ending : Steady g mid new = steady_undo undone count_undone say_undone time_undone in
           let work : pages_of g new ≡ pages_of g old = ap (λ s. s.work) undone ∙ ap (λ o. unwrap_or o (g.state mid).work) (runs.works.marked ∙ ap (λ s. s.marked) marks) in
           subst (λ (x : EngineStop). TriesStep g stmt (Err x) old new before last) (sym names) (record {
-            steady = steady_then run_so_far ending;
-            unmarked = tt;
-            served = tt;
-            shape = shape ∙ keeps.shape;
-            back = λ damage r. record { leaves = record { pages = work; catalog = forgot ∙ catalog }; unmarked = ap (λ s. s.marked) undone };
+            tries = record {
+              steady = steady_then run_so_far ending;
+              unmarked = tt;
+              served = tt;
+              shape = shape ∙ keeps.shape;
+              settings = settings ∙ keeps.settings;
+              back = λ damage r. record { leaves = record { pages = work; catalog = forgot ∙ catalog }; unmarked = ap (λ s. s.marked) undone };
+              refused = λ refusal r. absurd (cc);
+              reads = tt;
+              unbuilt = λ form. tt;
+              device = subst (λ n. CountsFault (IsErrOf {T = Outcome} (Err (stop_of e)) Device) (g.disk_faults old) n) (sym count_undone)
+                  (stop_counts e (counts_fault_then count (subst (λ (f : Option StoreFault). CountsFault (f ≡ Some store.Device) (g.disk_faults marked) (g.disk_faults mid)) fault runs.cause.device)));
+              output = λ r. stop_output e (cc);
+            };
             does = tt;
-            refused = λ refusal r. absurd (cc);
-            unbuilt = λ form. tt;
-            reads = tt;
-            catalog = tt;
             fetches = tt;
-            device = subst (λ n. CountsFault (IsErrOf {T = Outcome} (Err (stop_of e)) Device) (g.disk_faults old) n) (sym count_undone)
-                (stop_counts e (counts_fault_then count (subst (λ (f : Option StoreFault). CountsFault (f ≡ Some store.Device) (g.disk_faults marked) (g.disk_faults mid)) fault runs.cause.device)));
+            lists = tt;
             damaged = λ damage r ready. runs.cause.damaged damage (fault ∙ ap Some (stop_names e damage (cc))) (ready_marked ready);
-            output = λ r. stop_output e (cc);
           })
 
       -- it was done or refused, and the mark is dropped
       pub try_kept : (outcome : Outcome) (new : S) → result ≡ Ok outcome → Keeps (g.state mid) (g.state new) → g.disk_faults new ≡ g.disk_faults mid → g.say_faults new ≡ g.say_faults mid
-          → OverTime g.clock g.left (OnlyBase (g.state mid)) mid new → (IsReady g marked before → DoesStep g marked mid before now stmt outcome)
-          → ((refusal : Refusal) → outcome ≡ said.Refused refusal → LeavesAll g marked mid before now) → (is_built_step stmt ≡ false → outcome ≡ said.Refused (refusal_of NotBuilt)) → (is_reading stmt ≡ true → pages_of g mid ≡ pages_of g marked) → (is_reading stmt ≡ true → now.catalog ≡ before.catalog)
-          → FetchesForQuery g before.shape marked mid before.catalog (bound_of before.catalog stmt) → TriesStep g stmt (Ok outcome) old new before now
-      try_kept outcome new is kept count_kept say_kept time_kept does leaves unbuilt reads catalog fetches =
+          → OverTime g.clock g.left (OnlyBase (g.state mid)) mid new → (IsReady g marked before → DoesReady g marked mid before now stmt outcome)
+          → ((refusal : Refusal) → outcome ≡ said.Refused refusal → LeavesAll g marked mid before now) → (is_built_form stmt ≡ false → outcome ≡ said.Refused (refusal_of NotBuilt)) → (only_reads (role_of stmt) ≡ true → LeavesAll g marked mid before now)
+          → FetchesForQuery g before.shape marked mid before.catalog (bound_of before.catalog stmt) → FetchesForListing g marked mid before.catalog (role_of stmt) → TriesStep g stmt (Ok outcome) old new before now
+      try_kept outcome new is kept count_kept say_kept time_kept does leaves unbuilt reads fetches lists =
           let ending : Steady g mid new = steady_keep (Ok tt) kept tt (omega (arith, count_kept)) say_kept time_kept in
           let work : pages_of g new ≡ pages_of g mid = ap (λ s. s.work) kept in
           let none : store_fault_in store_part_of result ≡ None = ap (store_fault_in store_part_of) is in
           let quiet = counts_fault_then count (subst (λ (f : Option StoreFault). CountsFault (f ≡ Some store.Device) (g.disk_faults marked) (g.disk_faults mid)) none runs.cause.device) in
           record {
-            steady = steady_then run_so_far ending;
-            unmarked = ap (λ s. s.marked) kept;
-            served = keeps.served;
-            shape = keeps.shape;
-            back = λ damage r. absurd (cc);
-            does = λ ready. inl (does_kept old mid new before now stmt outcome ending.is_told work (does_marked old marked mid before now stmt outcome same_work (does (ready_marked ready))));
-            refused = λ refusal r.
-                let left = leaves refusal (cc) in
-                record { pages = work ∙ (left.pages ∙ same_work); catalog = left.catalog };
-            unbuilt = unbuilt;
-            reads = λ is. work ∙ (reads is ∙ same_work);
-            catalog = λ is. inl (catalog is);
+            tries = record {
+              steady = steady_then run_so_far ending;
+              unmarked = ap (λ s. s.marked) kept;
+              served = keeps.served;
+              shape = keeps.shape;
+              settings = keeps.settings;
+              back = λ damage r. absurd (cc);
+              refused = λ refusal r. left_so_far new work (leaves refusal (cc));
+              reads = λ is. left_so_far new work (reads is);
+              unbuilt = unbuilt;
+              device = subst (λ n. CountsFault (IsErrOf {T = Outcome} (Ok outcome) Device) (g.disk_faults old) n) (sym count_kept) (counts_fault_as (λ r. absurd (cc)) (λ r. absurd (cc)) quiet);
+              output = λ r. absurd (cc);
+            };
+            does = λ ready. inl (executed_kept old mid new before now stmt outcome ending.is_told work (executed_marked old marked mid before now stmt outcome same_work (does (ready_marked ready))));
             fetches = λ ready. fetched_so_far new (ap (λ s. s.fetched) kept) fetches;
-            device = subst (λ n. CountsFault (IsErrOf {T = Outcome} (Ok outcome) Device) (g.disk_faults old) n) (sym count_kept) (counts_fault_as (λ r. absurd (cc)) (λ r. absurd (cc)) quiet);
+            lists = λ ready. listed_so_far new (ap (λ s. s.fetched) kept) lists;
             damaged = λ damage r. absurd (cc);
-            output = λ r. absurd (cc);
           }
 
       -- it runs full: all is as it was
@@ -174,9 +223,10 @@ module _ {S : Type 0} (g : Ghosts S) where
           → g.disk_faults new ≡ g.disk_faults mid → g.say_faults new ≡ g.say_faults mid → OverTime g.clock g.left (OnlyBase (g.state mid)) mid new
           → IfFull fault (λ n. (n ≡ before.shape.extents) × (IsReady g marked before → StepRunsFull before.shape (pages_of g marked) before.catalog stmt))
           → now.catalog ≡ before.catalog → AreServed before.catalog
-          → last.catalog ≡ now.catalog → last.shape ≡ now.shape → ((owners : List Kind) → AreRightNotes last.shape last.notes owners) → AreForgotten last.rooms
-          → FetchesForQuery g before.shape marked mid before.catalog (bound_of before.catalog stmt) → (is_built_step stmt ≡ false → IfFull fault (λ n. ⊥)) → TriesStep g stmt (Ok (said.Refused refusal)) old new before last
-      try_full cap fault refusal new last is is_full refuses undone count_undone say_undone time_undone full catalog served forgot shape notes rooms fetches unbuilt =
+          → last.catalog ≡ now.catalog → last.shape ≡ now.shape → last.settings ≡ now.settings → ((owners : List Kind) → AreRightNotes last.shape last.notes owners) → AreForgotten last.rooms
+          → FetchesForQuery g before.shape marked mid before.catalog (bound_of before.catalog stmt) → FetchesForListing g marked mid before.catalog (role_of stmt) → (is_built_form stmt ≡ false → IfFull fault (λ n. ⊥))
+          → TriesStep g stmt (Ok (said.Refused refusal)) old new before last
+      try_full cap fault refusal new last is is_full refuses undone count_undone say_undone time_undone full catalog served forgot shape settings notes rooms fetches lists unbuilt =
           let filled : (cap ≡ before.shape.extents) × (IsReady g marked before → StepRunsFull before.shape (pages_of g marked) before.catalog stmt) =
           subst (λ (f : SpaceFault). IfFull f (λ n. (n ≡ before.shape.extents) × (IsReady g marked before → StepRunsFull before.shape (pages_of g marked) before.catalog stmt))) is_full full in
           let ending : Steady g mid new = steady_undo undone count_undone say_undone time_undone in
@@ -189,11 +239,19 @@ module _ {S : Type 0} (g : Ghosts S) where
           let valid : AreServed last.catalog = subst AreServed (sym same) served in
           let leaves : LeavesAll g old new before last = record { pages = work; catalog = same } in
           record {
-            steady = steady;
-            unmarked = ap (λ s. s.marked) undone;
-            served = valid;
-            shape = whole;
-            back = λ damage r. absurd (cc);
+            tries = record {
+              steady = steady;
+              unmarked = ap (λ s. s.marked) undone;
+              served = valid;
+              shape = whole;
+              settings = settings ∙ keeps.settings;
+              back = λ damage r. absurd (cc);
+              refused = λ other r. leaves;
+              reads = λ is. leaves;
+              unbuilt = λ form. absurd (subst (λ (f : SpaceFault). IfFull f (λ n. ⊥)) is_full (unbuilt form));
+              device = subst (λ n. CountsFault (IsErrOf {T = Outcome} (Ok (said.Refused refusal)) Device) (g.disk_faults old) n) (sym count_undone) (counts_fault_as (λ r. absurd (cc)) (λ r. absurd (cc)) quiet);
+              output = λ r. absurd (cc);
+            };
             does = λ ready. inr (record {
               says = ap said.Refused (refuses ∙ ap (λ n. refusal_of (FileFull n)) filled.0);
               leaves = leaves;
@@ -204,12 +262,7 @@ module _ {S : Type 0} (g : Ghosts S) where
                   (subst (λ (defs : Definitions). AreStored (pages_of g new) defs) (sym same) (subst (λ (pages : PageList). AreStored pages before.catalog) (sym work) ready.stored))
                   (notes ready.view.owners) rooms;
             });
-            refused = λ other r. leaves;
-            unbuilt = λ form. absurd (subst (λ (f : SpaceFault). IfFull f (λ n. ⊥)) is_full (unbuilt form));
-            reads = λ is. work;
-            catalog = λ is. inl same;
             fetches = λ r. fetched_so_far new (ap (λ s. s.fetched) undone) fetches;
-            device = subst (λ n. CountsFault (IsErrOf {T = Outcome} (Ok (said.Refused refusal)) Device) (g.disk_faults old) n) (sym count_undone) (counts_fault_as (λ r. absurd (cc)) (λ r. absurd (cc)) quiet);
+            lists = λ r. listed_so_far new (ap (λ s. s.fetched) undone) lists;
             damaged = λ damage r. absurd (cc);
-            output = λ r. absurd (cc);
           }

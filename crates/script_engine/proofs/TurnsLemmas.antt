@@ -1,6 +1,6 @@
 -- What statements do to an engine: a step on pages that is committed, or isn't yet.
-use Rattle.std.proofs.Common.{◌≡◌, ◌⊎◌, Bool, true, false, Some, None, Result, Ok, Err, IsErrAnd, IfSome, refl, sym, ap, subst, inl, inr, ◌∙◌, cond}
-use Rattle.std.specs.Prelude.{IsErrOf, IsTrue, ◌||◌}
+use Rattle.std.proofs.Common.{◌≡◌, ◌⊎◌, ℕ, Bool, true, false, List, Option, Some, None, Result, Ok, Err, IsErrAnd, IfSome, refl, sym, ap, subst, inl, inr, ◌∙◌, cond}
+use Rattle.std.specs.Prelude.{IsErrOf, IsTrue}
 use Rattle.mdc_words.specs.Faults.{CountsFault}
 use Rattle.mdc_words.proofs.FaultsLemmas.{counts_fault_as, counts_fault_then}
 use Rattle.mdc_words.proofs.TimeLemmas.{over_time_then, over_time_wider}
@@ -10,9 +10,12 @@ use Rattle.mdc_ast.specs.declared.reply.Outcome.TheVariants as said
 use Rattle.mdc_ast.specs.declared.reply.Reply.TheVariants as reply
 use Rattle.mdc_ast.specs.declared.statement.Stmt.{Stmt}
 use Rattle.mdc_ast.specs.declared.statement.Stmt.TheVariants as statement
-use Rattle.statement_meaning.specs.Binding.{bound_of}
+use Rattle.statement_meaning.specs.Binding.{bound_of, bound_select, columns_of, on_place}
 use Rattle.mdc_ast.specs.Database.{Database}
-use Rattle.mdc_ast.specs.Definitions.{Definitions}
+use Rattle.mdc_ast.specs.Definitions.{Definitions, def_named, place_of}
+use Rattle.mdc_ast.specs.declared.bound.Bound.TheVariants as bound
+use Rattle.mdc_ast.specs.declared.bound.BoundSelect.{BoundSelect}
+use Rattle.mdc_ast.specs.declared.definition.ColumnDef.{ColumnDef}
 use Rattle.statement_meaning.specs.Session.{Session, committed, is_refusal, rolled_back, stepped, turn}
 use Rattle.statement_meaning.specs.Step.{Answer, step}
 use Rattle.statement_meaning.specs.declared.pass.Pass.{Pass}
@@ -30,30 +33,33 @@ use Rattle.mdc_sound.specs.StandsForDatabase.{PagesStandFor}
 use Rattle.stored_catalog.specs.StoredDefinitions.{AreStored}
 use Rattle.script_engine.specs.Breaking.{NamesExactly, StaysAtDamage}
 use Rattle.script_engine.specs.Committing.{CommitsWork, HasSoundRoot}
-use Rattle.script_engine.specs.Doing.{DoesStep, LeavesAll, PlacesOnPages, StandsAfter, is_reading}
+use Rattle.script_engine.specs.Controls.{AnswersControl, AnswersSetting, answer_in_state}
+use Rattle.script_engine.specs.Doing.{DoesReady, DoesStep, LeavesAll, PlacesOnPages, StandsAfter, TellsPages, changed_place}
 use Rattle.script_engine.specs.Held.{HeldPages, KeepsBase, KeepsWork, StandsForSession, StandsForTurn, StepsOnPages}
 use Rattle.script_engine.specs.Held.StepsOnPages.{full, turns}
 use Rattle.script_engine.specs.Leaving.{IsAllCommitted, MayBeLeft}
-use Rattle.script_engine.specs.Listing.{is_listing}
 use Rattle.statement_meaning.specs.Built.{are_built}
 use Rattle.script_engine.specs.Ready.{AreServed, IsReady}
+use Rattle.script_engine.specs.PuttingStatements.{OnlyPutsByText}
 use Rattle.script_engine.specs.Reloading.{Reloads}
+use Rattle.script_engine.specs.Roles.{Begins, Commits, Explains, GoesBack, Lists, Queries, Role, Sets, is_tried, only_reads, role_of, tells_pages}
 use Rattle.script_engine.specs.Serving.{IsReadyEngine, MayCall, held_by}
 use Rattle.script_engine.specs.Trying.{IsRefusedFull, TriesStep}
-use Rattle.script_engine.specs.Turns.{AnswersControl, Executes, LeavesCommitted, LeavesOutside, answer_in_state, control_of}
+use Rattle.script_engine.specs.Turns.{Executes, LeavesCommitted, LeavesOutside}
 use Rattle.script_engine.specs.declared.engine.Engine.{Engine}
 use Rattle.script_engine.specs.declared.stop.EngineStop.{EngineStop}
 use Rattle.script_engine.specs.declared.stop.EngineStop.TheVariants.{Damaged, Device, Output}
 use Rattle.script_engine.specs.declared.tables.Tables.{Tables}
-use Rattle.script_engine.specs.declared.transactions.Control.{Control}
-use Rattle.script_engine.specs.declared.transactions.Control.TheVariants as control
 use Rattle.script_engine.proofs.CatalogLemmas.{built_defs, one_catalog, served_of}
-use Rattle.script_engine.proofs.FetchesForListingLemmas.{lists_other}
+use Rattle.script_engine.proofs.FetchesForListingLemmas.{lists_changing}
 use Rattle.script_engine.proofs.FetchesForQueryLemmas.{fetches_counted}
+use Rattle.script_engine.proofs.FullStepsLemmas.{step_beyond}
 use Rattle.script_engine.proofs.LeavingLemmas.{leaves_steady, leaves_then}
 use Rattle.script_engine.proofs.LeavingOthersLemmas.{leaves_others_done, leaves_others_still}
 use Rattle.script_engine.proofs.ReadyTablesLemmas.{ready_of_sound}
 use Rattle.script_engine.proofs.SameWorkLemmas.{ready_same}
+use Rattle.script_engine.proofs.TightStepsLemmas.{leaves_tight}
+use Rattle.script_engine.proofs.TryingLemmas.{ready_tried}
 
 -- ---- what is held
 
@@ -73,35 +79,73 @@ same_held old new base work defs is_open set =
     ∙ (ap (λ x. held_with old.base old.work old.defs x new.settings new.pass) is_open
     ∙ (ap (λ x. held_with old.base old.work old.defs old.open_ x new.pass) set.settings ∙ ap (λ x. held_with old.base old.work old.defs old.open_ old.settings x) set.pass))))
 
--- of two tests none holds
-neither : (a b : Bool) → (a || b) ≡ false → (a ≡ false) × (b ≡ false)
-neither true b is = absurd (cc)
-neither false b is = (refl, is)
-
 -- what the state of the transaction allows is done
 answers_done : (allowed : Bool) → allowed ≡ true → said.Done reply.Done ≡ answer_in_state allowed
 answers_done allowed is = sym (ap answer_in_state is)
 
--- any statement but BEGIN, COMMIT and ROLLBACK may be answered whatever the state of the transaction is
-pub answers_other : (was : Bool) (stmt : Stmt) (outcome : Outcome) → control_of stmt ≡ control.Other → AnswersControl (control_of stmt) was outcome
-answers_other was stmt outcome other = subst (λ (c : Control). AnswersControl c was outcome) (sym other) tt
+-- one that is tried on the pages may be answered whatever the state of the transaction is
+pub answers_other : (was : Bool) (role : Role) (outcome : Outcome) → is_tried role ≡ true → AnswersControl role was outcome
+answers_other was Begins outcome tried = absurd (cc)
+answers_other was Commits outcome tried = absurd (cc)
+answers_other was GoesBack outcome tried = absurd (cc)
+answers_other was role outcome tried = tt
 
--- any statement but BEGIN, COMMIT, ROLLBACK and LIST BLOCKS turns a session by its step
-turn_other : (session : Session) (stmt : Stmt) → control_of stmt ≡ control.Other → is_listing stmt ≡ false → turn session stmt ≡ stepped session (step session.working stmt)
-turn_other session statement.Begin other changing = absurd (cc)
-turn_other session statement.Commit other changing = absurd (cc)
-turn_other session statement.Rollback other changing = absurd (cc)
-turn_other session (statement.ListBlocks name) other changing = absurd (cc)
-turn_other session stmt other changing = refl
+-- and leaves what the run is set to
+pub sets_other : (role : Role) (served : Bool) (was : Settings) (outcome : Outcome) (is : Settings) → is_tried role ≡ true → is ≡ was → AnswersSetting role served was outcome is
+sets_other (Sets setting) served was outcome is tried same = absurd (cc)
+sets_other role served was outcome is tried same = same
 
--- any statement but BEGIN, COMMIT, ROLLBACK and LIST BLOCKS leaves the pages, where it is a query
-keeps_work : (old new : HeldPages) (stmt : Stmt) → control_of stmt ≡ control.Other → is_listing stmt ≡ false → (is_reading stmt ≡ true → new.work ≡ old.work) → KeepsWork stmt old new
-keeps_work old new statement.Begin other changing reads = absurd (cc)
-keeps_work old new statement.Commit other changing reads = absurd (cc)
-keeps_work old new statement.Rollback other changing reads = absurd (cc)
-keeps_work old new (statement.Query select) other changing reads = reads refl
-keeps_work old new (statement.ListBlocks name) other changing reads = absurd (cc)
-keeps_work old new stmt other changing reads = tt
+-- unless its reply is told by the pages, it turns a session by its step
+turn_other : (session : Session) (stmt : Stmt) → is_tried (role_of stmt) ≡ true → tells_pages (role_of stmt) ≡ false → turn session stmt ≡ stepped session (step session.working stmt)
+turn_other session statement.Begin tried steps = absurd (cc)
+turn_other session statement.Commit tried steps = absurd (cc)
+turn_other session statement.Rollback tried steps = absurd (cc)
+turn_other session (statement.SetPlan mode) tried steps = absurd (cc)
+turn_other session (statement.SetRollout mode) tried steps = absurd (cc)
+turn_other session (statement.ListBlocks name) tried steps = absurd (cc)
+turn_other session (statement.Explain select) tried steps = absurd (cc)
+turn_other session stmt tried steps = refl
+
+-- and leaves all, where it reads alone
+keeps_work : (old new : HeldPages) (role : Role) → is_tried role ≡ true → (only_reads role ≡ true → new ≡ old) → KeepsWork role old new
+keeps_work old new Begins tried reads = absurd (cc)
+keeps_work old new Commits tried reads = absurd (cc)
+keeps_work old new GoesBack tried reads = absurd (cc)
+keeps_work old new (Sets setting) tried reads = absurd (cc)
+keeps_work old new (Lists name) tried reads = reads refl
+keeps_work old new (Explains select) tried reads = reads refl
+keeps_work old new Queries tried reads = reads refl
+keeps_work old new role tried reads = tt
+
+-- one whose reply the pages tell reads alone
+pub reads_telling : (role : Role) → tells_pages role ≡ true → only_reads role ≡ true
+reads_telling (Lists name) is = refl
+reads_telling (Explains select) is = refl
+reads_telling role is = absurd (cc)
+
+-- and what reads alone is tried
+pub tried_reading : (role : Role) → only_reads role ≡ true → is_tried role ≡ true
+tried_reading (Lists name) reads = refl
+tried_reading (Explains select) reads = refl
+tried_reading Queries reads = refl
+tried_reading role reads = absurd (cc)
+
+-- EXPLAIN is bound to no change of rows
+explain_places : (place : Option ℕ) (columns : List ColumnDef) (bind : ℕ → List ColumnDef → BoundSelect) → changed_place (on_place place columns (λ place columns. bound.Explain (bind place columns))) ≡ None
+explain_places None columns bind = refl
+explain_places (Some place) columns bind = refl
+
+-- what the pages tell changes no rows
+places_none : (defs : Definitions) (stmt : Stmt) → tells_pages (role_of stmt) ≡ true → changed_place (bound_of defs stmt) ≡ None
+places_none defs (statement.ListBlocks name) is = refl
+places_none defs (statement.Explain select) is = explain_places (place_of defs select.table) (columns_of (def_named defs select.table)) (λ place columns. bound_select place columns select)
+places_none defs stmt is = absurd (cc)
+
+-- nor puts any
+puts_none : (stmt : Stmt) → tells_pages (role_of stmt) ≡ true → OnlyPutsByText stmt → ⊥
+puts_none (statement.ListBlocks name) is puts = puts
+puts_none (statement.Explain select) is puts = puts
+puts_none stmt is puts = absurd (cc)
 
 -- the kept database behind a step, whether a transaction is open or not
 kept_on : (shape : Shape) (base work : PageList) (kept db : Database) (is_open : Bool) → PagesStandFor shape work db → (is_open ≡ true → PagesStandFor shape base kept) → (is_open ≡ false → base ≡ work)
@@ -148,7 +192,7 @@ commit_steps shape old new is_open shut base work defs set = turns
     }))
     (record { closed = λ closed. base ∙ sym work; is_open = λ opened. let wrong : true ≡ false = sym opened ∙ shut in absurd (cc) }) work
     (leaves_others_still shape statement.Commit old new work defs) (λ refusal is. absurd (cc))
-    (λ done says place def changed at. absurd (cc))
+    (λ done says place def changed at. absurd (cc)) (λ puts. absurd puts)
 
 -- by these two
 abbrev pub same_settings : {old new : HeldPages} → new.settings ≡ old.settings → new.pass ≡ old.pass → KeepsSettings old new
@@ -156,10 +200,10 @@ same_settings settings pass = record { settings = settings; pass = pass }
 
 module _ {S : Type 0} (g : Ghosts S) where
   -- a step on pages, from what it does to the work and what becomes of the base
-  steps_done : (old : Engine S) (new : HeldPages) (mid : S) (now : Tables) (stmt : Stmt) (outcome : Outcome) → control_of stmt ≡ control.Other → is_listing stmt ≡ false → DoesStep g old.store mid old.tables now stmt outcome
-      → new.work ≡ pages_of g mid → new.defs ≡ now.catalog → KeepsBase (held_by g old) new → (is_reading stmt ≡ true → pages_of g mid ≡ pages_of g old.store) → new.open_ ≡ old.is_open → KeepsSettings (held_by g old) new → now.shape ≡ old.tables.shape
+  steps_done : (old : Engine S) (new : HeldPages) (mid : S) (now : Tables) (stmt : Stmt) (outcome : Outcome) → AreStored (pages_of g old.store) old.tables.catalog → AreServed old.tables.catalog → is_tried (role_of stmt) ≡ true → tells_pages (role_of stmt) ≡ false → DoesStep g old.store mid old.tables now stmt outcome
+      → new.work ≡ pages_of g mid → new.defs ≡ now.catalog → KeepsBase (held_by g old) new → (only_reads (role_of stmt) ≡ true → new ≡ held_by g old) → new.open_ ≡ old.is_open → KeepsSettings (held_by g old) new → now.shape ≡ old.tables.shape
       → ((refusal : Refusal) → outcome ≡ said.Refused refusal → new ≡ held_by g old) → StepsOnPages old.tables.shape (held_by g old) stmt outcome new
-  steps_done old new mid now stmt outcome other changing does work defs keeps reads is_open set shape refused = turns
+  steps_done old new mid now stmt outcome stored served other listing does work defs keeps reads is_open set shape refused = turns
       (λ session stands.
       let after = does.stands session.working stands.working in
       let here : StandsAfter old.tables.shape new.work (step session.working stmt) outcome =
@@ -168,13 +212,29 @@ module _ {S : Type 0} (g : Ghosts S) where
             (subst (λ (of : Shape). PagesStandFor of (pages_of g mid) (step session.working stmt).0) shape after.pages_are);
         answers = after.answers;
       } in
-      subst (λ (end_ : Session × Answer). StandsForTurn old.tables.shape (held_by g old) stmt end_ outcome new) (sym (turn_other session stmt other changing))
+      subst (λ (end_ : Session × Answer). StandsForTurn old.tables.shape (held_by g old) stmt end_ outcome new) (sym (turn_other session stmt other listing))
       (stands_stepped old.tables.shape (held_by g old) new stmt session (step session.working stmt) outcome stands keeps is_open set refused here))
-      keeps (keeps_work (held_by g old) new stmt other changing (λ is. work ∙ reads is))
+      keeps (keeps_work (held_by g old) new (role_of stmt) other reads)
       (leaves_others_done g old new mid now stmt outcome work defs does) refused
       (λ reply done place def changed at.
-      subst (λ (pages : PageList). PlacesOnPages old.tables.shape (pages_of g old.store) pages def (bound_of old.tables.catalog stmt)) (sym work)
+      subst (λ (pages : PageList). PlacesOnPages old.tables.shape (pages_of g old.store) pages old.tables.settings.rollout def (bound_of old.tables.catalog stmt)) (sym work)
       (does.places reply done place def changed at))
+      (λ puts reply done tight. leaves_tight g old.store mid old.tables now stmt reply new.work (subst (DoesStep g old.store mid old.tables now stmt) done does) work shape stored served puts tight)
+
+  -- one that told of the pages, and left all
+  steps_told : (old : Engine S) (new : HeldPages) (mid : S) (now : Tables) (stmt : Stmt) (outcome : Outcome) → is_tried (role_of stmt) ≡ true → tells_pages (role_of stmt) ≡ true → TellsPages g old.store mid old.tables now stmt outcome
+      → KeepsBase (held_by g old) new → new ≡ held_by g old → StepsOnPages old.tables.shape (held_by g old) stmt outcome new
+  steps_told old new mid now stmt outcome other listing tells keeps still = turns
+      (λ session stands.
+      let told = tells.answers session stands.working in
+      subst (λ (end_ : Session × Answer). StandsForTurn old.tables.shape (held_by g old) stmt end_ outcome new) (sym told.1) (record {
+        session = subst (λ (held : HeldPages). StandsForSession old.tables.shape held session) (sym still) stands;
+        answers = told.2;
+      }))
+      keeps (keeps_work (held_by g old) new (role_of stmt) other (λ reads. still))
+      (leaves_others_still old.tables.shape stmt (held_by g old) new (ap (λ (held : HeldPages). held.work) still) (ap (λ (held : HeldPages). held.defs) still)) (λ refusal is. still)
+      (λ reply done place def changed at. let none : None ≡ Some place = sym (places_none old.tables.catalog stmt listing) ∙ changed in absurd (cc))
+      (λ puts. absurd (puts_none stmt listing puts))
 
   -- ---- the outside
 
@@ -267,14 +327,15 @@ module _ {S : Type 0} (g : Ghosts S) where
 
   pub executes_stop : {X Y : Type 0} (stmt : Stmt) (result : Result Outcome EngineStop) (stop : EngineStop) (old new : Engine S) → IsErrAnd result (λ e. e ≡ stop)
       → ((damage : Damage) → stop ≡ Damaged damage → IsReadyEngine g old → ⊥) → NamesExactly {X = Y} g old.tables.shape (Err stop) new.store → ((damage : Damage) → stop ≡ Damaged damage → StaysAtDamage g old new)
-      → (IsReadyEngine g old → LeavesCommitted g stmt old new) → new.tables.shape ≡ old.tables.shape
+      → (IsReadyEngine g old → LeavesCommitted g stmt old new) → new.tables.shape ≡ old.tables.shape → new.tables.settings ≡ old.tables.settings
       → LeavesOutside {X = X} g (Err stop) old new → Executes g stmt result old new
-  executes_stop stmt (Ok outcome) stop old new is damaged exact stays leaves shape left = absurd is
-  executes_stop stmt (Err e) stop old new is damaged exact stays leaves shape left = subst (λ (x : EngineStop). Executes g stmt (Err x) old new) (sym is) (record {
+  executes_stop stmt (Ok outcome) stop old new is damaged exact stays leaves shape settings left = absurd is
+  executes_stop stmt (Err e) stop old new is damaged exact stays leaves shape settings left = subst (λ (x : EngineStop). Executes g stmt (Err x) old new) (sym is) (record {
     steps = tt;
     may = tt;
     keeps = tt;
     controls = tt;
+    settings = settings;
     built = tt;
     leaves = leaves;
     fetches = tt;
@@ -312,7 +373,7 @@ module _ {S : Type 0} (g : Ghosts S) where
   work_left : (old : Engine S) → MayCall g old → old.is_open ≡ true → IsReadyEngine g old → MayBeLeft old.tables.shape (held_by g old) statement.Commit (g.state old.store).work
   work_left old may is_open ready =
       let work = (g.state old.store).work in
-      MayBeLeft.after (said.Done reply.Done) (held_with work work old.tables.catalog false old.settings old.pass) (commit_steps old.tables.shape (held_by g old) (held_with work work old.tables.catalog false old.settings old.pass) is_open refl refl refl refl (same_settings refl refl)) refl refl
+      MayBeLeft.after (said.Done reply.Done) (held_with work work old.tables.catalog false old.tables.settings old.pass) (commit_steps old.tables.shape (held_by g old) (held_with work work old.tables.catalog false old.tables.settings old.pass) is_open refl refl refl refl (same_settings refl refl)) refl refl
       (ready.work.view, ready.work.sound) ready.work.stored (built_defs old.tables.catalog (may.served ready.served))
 
   pub commit_stops : (result : Result Outcome EngineStop) (stop : EngineStop) (old : Engine S) (store : S) → MayCall g old → old.is_open ≡ true → IsErrAnd result (λ e. e ≡ stop)
@@ -322,7 +383,7 @@ module _ {S : Type 0} (g : Ghosts S) where
       let new : Engine S = record old { store = store } in
       executes_stop {Y = Unit {0}} statement.Commit result stop old new is (λ damage e ready. commits.damaged damage (ap Err e) (sound_root old.store old.tables ready.work)) exact
       (λ damage e. let halts = commits.halts damage (ap Err e) in stays_steady old new halts.steady (halts.marked ∙ may.unmarked) may.going refl)
-      (λ ready. leaves_then g (Err stop) statement.Commit old new old.store steady_none commits (work_left old may is_open ready)) refl (outside_commit (Err stop) old new commits rests)
+      (λ ready. leaves_then g (Err stop) statement.Commit old new old.store steady_none commits (work_left old may is_open ready)) refl refl (outside_commit (Err stop) old new commits rests)
 
   pub commit_done : (old : Engine S) (store : S) → MayCall g old → old.is_open ≡ true → CommitsWork {X = Unit {0}} g (Ok tt) old.store store
       → (Rests g old.store → Rests g store) → Executes g statement.Commit (Ok (said.Done reply.Done)) old (record old { store = store; is_open = false })
@@ -333,6 +394,7 @@ module _ {S : Type 0} (g : Ghosts S) where
         may = record { going = commits.going (λ e. absurd (cc)) ∙ may.going; unmarked = commits.unmarked; served = may.served };
         keeps = λ all. record { closed = λ shut. commits.base ∙ sym commits.work; is_open = λ opened. absurd (cc) };
         controls = answers_done old.is_open is_open;
+        settings = refl;
         built = λ was. was;
         leaves = λ ready. leaves_then g (Ok tt) statement.Commit old new old.store steady_none commits (work_left old may is_open ready);
         fetches = λ ready. tt;
@@ -356,7 +418,7 @@ module _ {S : Type 0} (g : Ghosts S) where
       executes_stop {X = Bool} {Y = Bool} statement.Rollback result stop old new is
       (λ damage e ready. damaged damage e ready.work.told (ready.base_view, ready.base_sound)) exact
       (λ damage e. stays_steady old new reloads.steady reloads.unmarked may.going refl)
-      (λ ready. leaves_steady g statement.Rollback old new reloads.steady) reloads.shape (outside_steady (Err stop) old new reloads.steady reloads.device reloads.output)
+      (λ ready. leaves_steady g statement.Rollback old new reloads.steady) reloads.shape reloads.settings (outside_steady (Err stop) old new reloads.steady reloads.device reloads.output)
 
   roll_back_steps : (old : Engine S) (store : S) (tables : Tables) (served : Bool) → old.is_open ≡ true → Reloads g (Ok served) old.store store old.tables tables
       → StepsOnPages old.tables.shape (held_by g old) statement.Rollback (said.Done reply.Done) (held_by g (record old { store = store; tables = tables; served = served; is_open = false }))
@@ -369,13 +431,13 @@ module _ {S : Type 0} (g : Ghosts S) where
           kept = subst (λ (pages : PageList). PagesStandFor old.tables.shape pages session.kept) (sym reloads.steady.base) stands.kept;
           working = subst (λ (pages : PageList). PagesStandFor old.tables.shape pages session.kept) (sym reloads.work) stands.kept;
           is_open = refl;
-          settings = stands.settings;
+          settings = stands.settings ∙ sym reloads.settings;
           pass = stands.pass;
         };
         answers = refl;
       }))
-      (record { closed = λ shut. reloads.steady.base ∙ sym reloads.work; is_open = λ opened. absurd (cc) }) (λ opened. reloads.work) tt (λ refusal is. absurd (cc))
-      (λ done says place def changed at. absurd (cc))
+      (record { closed = λ shut. reloads.steady.base ∙ sym reloads.work; is_open = λ opened. absurd (cc) }) (λ opened. reloads.work) (λ goes. absurd (cc)) (λ refusal is. absurd (cc))
+      (λ done says place def changed at. absurd (cc)) (λ puts. absurd puts)
 
   ready_reloaded : (old : Engine S) (store : S) (tables : Tables) (served : Bool) → Reloads g (Ok served) old.store store old.tables tables → IsReadyEngine g old
       → IsReadyEngine g (record old { store = store; tables = tables; served = served; is_open = false })
@@ -411,6 +473,7 @@ module _ {S : Type 0} (g : Ghosts S) where
         };
         keeps = λ all. record { closed = λ shut. reloads.steady.base ∙ sym reloads.work; is_open = λ opened. absurd (cc) };
         controls = answers_done old.is_open is_open;
+        settings = reloads.settings;
         built = λ was. reloads.built;
         leaves = λ ready. leaves_steady g statement.Rollback old new reloads.steady;
         fetches = λ ready. tt;
@@ -425,147 +488,159 @@ module _ {S : Type 0} (g : Ghosts S) where
 
   -- ---- any other statement
 
-  held_left : (old : Engine S) (store : S) (tables : Tables) → Steady g old.store store → LeavesAll g old.store store old.tables tables → held_by g (record old { store = store; tables = tables }) ≡ held_by g old
-  held_left old store tables steady leaves = same_held (held_by g old) (held_by g (record old { store = store; tables = tables })) steady.base leaves.pages leaves.catalog refl (same_settings refl refl)
+  pub held_left : (old : Engine S) (store : S) (tables : Tables) → Steady g old.store store → LeavesAll g old.store store old.tables tables → tables.settings ≡ old.tables.settings → held_by g (record old { store = store; tables = tables }) ≡ held_by g old
+  held_left old store tables steady leaves set = same_held (held_by g old) (held_by g (record old { store = store; tables = tables })) steady.base leaves.pages leaves.catalog refl (same_settings set refl)
 
-  -- where no transaction is open, only a refusal isn't committed
-  base_tried : (old : Engine S) (store : S) (tables : Tables) (stmt : Stmt) (outcome : Outcome) → IsAllCommitted (held_by g old) → TriesStep g stmt (Ok outcome) old.store store old.tables tables
-      → (old.is_open || is_refusal outcome) ≡ true → KeepsBase (held_by g old) (held_by g (record old { store = store; tables = tables }))
-  base_tried old store tables stmt (said.Done reply) all tries kept =
-      record { closed = λ shut. let wrong : false ≡ true = sym (ap (λ b. b || false) shut) ∙ kept in absurd (cc); is_open = λ opened. tries.steady.base }
-  base_tried old store tables stmt (said.Refused refusal) all tries kept =
-      record { closed = λ shut. tries.steady.base ∙ (all shut ∙ sym (tries.refused refusal refl).pages); is_open = λ opened. tries.steady.base }
+  -- where no transaction is open, only what left all isn't committed
+  base_tried : (old : Engine S) (store : S) (tables : Tables) → IsAllCommitted (held_by g old) → Steady g old.store store
+      → (old.is_open ≡ true) ⊎ LeavesAll g old.store store old.tables tables → KeepsBase (held_by g old) (held_by g (record old { store = store; tables = tables }))
+  base_tried old store tables all steady (inl opened) =
+      record { closed = λ shut. let wrong : true ≡ false = sym opened ∙ shut in absurd (cc); is_open = λ open_. steady.base }
+  base_tried old store tables all steady (inr left) =
+      record { closed = λ shut. steady.base ∙ (all shut ∙ sym left.pages); is_open = λ open_. steady.base }
 
-  kept_steps : (old : Engine S) (store : S) (tables : Tables) (stmt : Stmt) (outcome : Outcome) → control_of stmt ≡ control.Other → is_listing stmt ≡ false → IsReadyEngine g old
-      → TriesStep g stmt (Ok outcome) old.store store old.tables tables → (old.is_open || is_refusal outcome) ≡ true
-      → DoesStep g old.store store old.tables tables stmt outcome ⊎ IsRefusedFull g old.store store old.tables tables stmt outcome
-      → StepsOnPages old.tables.shape (held_by g old) stmt outcome (held_by g (record old { store = store; tables = tables }))
-  kept_steps old store tables stmt outcome other changing ready tries kept (inl does) =
-      steps_done old (held_by g (record old { store = store; tables = tables })) store tables stmt outcome other changing does refl refl (base_tried old store tables stmt outcome ready.closed tries kept) tries.reads refl (same_settings refl refl) tries.shape
-      (λ refusal is. held_left old store tables tries.steady (tries.refused refusal (ap Ok is)))
-  kept_steps old store tables stmt outcome other changing ready tries kept (inr refused) = full refused.says (held_left old store tables tries.steady refused.leaves) refused.full.full (λ session stands. refused.full.faultless session.working stands.working)
+  module _ (old : Engine S) (store : S) (tables : Tables) (stmt : Stmt) (outcome : Outcome) (other : is_tried (role_of stmt) ≡ true) (tried : TriesStep g stmt (Ok outcome) old.store store old.tables tables)
+      (kept : (old.is_open ≡ true) ⊎ LeavesAll g old.store store old.tables tables) where
+    abbrev kept_engine : Engine S
+    kept_engine = record old { store = store; tables = tables }
 
-  pub ready_tried : (old : S) (store : S) (before tables : Tables) (stmt : Stmt) (outcome : Outcome) → DoesStep g old store before tables stmt outcome ⊎ IsRefusedFull g old store before tables stmt outcome
-      → IsReady g store tables
-  ready_tried old store before tables stmt outcome (inl does) = does.ready
-  ready_tried old store before tables stmt outcome (inr refused) = refused.ready
+    still_read : only_reads (role_of stmt) ≡ true → held_by g kept_engine ≡ held_by g old
+    still_read reads = held_left old store tables tried.tries.steady (tried.tries.reads reads) tried.tries.settings
 
-  kept_ready : (old : Engine S) (store : S) (tables : Tables) (stmt : Stmt) (outcome : Outcome) → IsReadyEngine g old
-      → TriesStep g stmt (Ok outcome) old.store store old.tables tables → (old.is_open || is_refusal outcome) ≡ true → IsReadyEngine g (record old { store = store; tables = tables })
-  kept_ready old store tables stmt outcome ready tries kept =
-      let same = tries.steady.base in
-      record {
-        served = ready.served;
-        work = ready_tried old.store store old.tables tables stmt outcome (tries.does ready.work);
-        base_view = ready.base_view;
-        base_sound = subst (λ (pages : PageList). KeepAllRules tables.shape pages ready.base_view) (sym same)
-            (subst (λ (of : Shape). KeepAllRules of (g.state old.store).base ready.base_view) (sym tries.shape) ready.base_sound);
-        base_defs = ready.base_defs;
-        base_stored = subst (λ (pages : PageList). AreStored pages ready.base_defs) (sym same) ready.base_stored;
-        base_valid = ready.base_valid;
-        closed = (base_tried old store tables stmt outcome ready.closed tries kept).closed;
-      }
+    kept_steps : AreServed old.tables.catalog → IsReadyEngine g old → DoesReady g old.store store old.tables tables stmt outcome ⊎ IsRefusedFull g old.store store old.tables tables stmt outcome
+        → StepsOnPages old.tables.shape (held_by g old) stmt outcome (held_by g kept_engine)
+    kept_steps served ready (inl (DoesReady.steps listing does)) =
+        steps_done old (held_by g kept_engine) store tables stmt outcome ready.work.stored served other listing does refl refl (base_tried old store tables ready.closed tried.tries.steady kept) still_read refl (same_settings tried.tries.settings refl) tried.tries.shape
+        (λ refusal is. held_left old store tables tried.tries.steady (tried.tries.refused refusal (ap Ok is)) tried.tries.settings)
+    kept_steps served ready (inl (DoesReady.tells listing told)) =
+        steps_told old (held_by g kept_engine) store tables stmt outcome other listing told (base_tried old store tables ready.closed tried.tries.steady kept) (still_read (reads_telling (role_of stmt) listing))
+    kept_steps served ready (inr refused) =
+        full refused.says (held_left old store tables tried.tries.steady refused.leaves tried.tries.settings) refused.full.full (λ session stands. refused.full.faultless session.working stands.working)
+        (λ puts tight db stands. step_beyond old.tables.shape (pages_of g old.store) tight.view old.tables.catalog db stmt tight.sound tight.tight ready.work.stored served stands puts refused.full)
 
-  pub change_kept : (old : Engine S) (store : S) (tables : Tables) (stmt : Stmt) (outcome : Outcome) → MayCall g old → old.served ≡ true → control_of stmt ≡ control.Other → is_listing stmt ≡ false
-      → TriesStep g stmt (Ok outcome) old.store store old.tables tables → (old.is_open || is_refusal outcome) ≡ true
-      → Executes g stmt (Ok outcome) old (record old { store = store; tables = tables })
-  change_kept old store tables stmt outcome may served other changing tries kept =
-      let new : Engine S = record old { store = store; tables = tables } in
-      record {
-        steps = λ ready. (kept_steps old store tables stmt outcome other changing ready tries kept (tries.does ready.work), kept_ready old store tables stmt outcome ready tries kept);
-        may = record { going = tries.steady.ended ∙ may.going; unmarked = tries.unmarked; served = λ is. tries.served };
-        keeps = λ all. base_tried old store tables stmt outcome all tries kept;
-        controls = answers_other old.is_open stmt outcome other;
-        built = λ was. served ∙ sym tries.served.built;
-        leaves = λ ready. leaves_steady g stmt old new tries.steady;
-        fetches = λ ready. tries.fetches ready.work;
-        lists = λ ready. lists_other g old.store store old.tables.catalog stmt changing;
-        unserved = λ unserved other outcome is. let wrong : true ≡ false = sym served ∙ unserved in absurd (cc);
-        damaged = λ damage e ready. absurd (cc);
-        exact = λ damage e. absurd (cc);
-        stays = λ damage e. absurd (cc);
-        shape = tries.shape;
-        outside = outside_steady (Ok outcome) old new tries.steady tries.device tries.output;
-      }
+    kept_ready : IsReadyEngine g old → IsReadyEngine g kept_engine
+    kept_ready ready =
+        let same = tried.tries.steady.base in
+        record {
+          served = ready.served;
+          work = ready_tried g old.store store old.tables tables stmt outcome (tried.does ready.work);
+          base_view = ready.base_view;
+          base_sound = subst (λ (pages : PageList). KeepAllRules tables.shape pages ready.base_view) (sym same)
+              (subst (λ (of : Shape). KeepAllRules of (g.state old.store).base ready.base_view) (sym tried.tries.shape) ready.base_sound);
+          base_defs = ready.base_defs;
+          base_stored = subst (λ (pages : PageList). AreStored pages ready.base_defs) (sym same) ready.base_stored;
+          base_valid = ready.base_valid;
+          closed = (base_tried old store tables ready.closed tried.tries.steady kept).closed;
+        }
+
+    pub change_kept : MayCall g old → old.served ≡ true → Executes g stmt (Ok outcome) old kept_engine
+    change_kept may served =
+        let tries = tried.tries in
+        record {
+          steps = λ ready. (kept_steps (may.served served) ready (tried.does ready.work), kept_ready ready);
+          may = record { going = tries.steady.ended ∙ may.going; unmarked = tries.unmarked; served = λ is. tries.served };
+          keeps = λ all. base_tried old store tables all tries.steady kept;
+          controls = answers_other old.is_open (role_of stmt) outcome other;
+          settings = sets_other (role_of stmt) old.served old.tables.settings outcome tables.settings other tries.settings;
+          built = λ was. served ∙ sym tries.served.built;
+          leaves = λ ready. leaves_steady g stmt old kept_engine tries.steady;
+          fetches = λ ready. tried.fetches ready.work;
+          lists = λ ready. tried.lists ready.work;
+          unserved = λ unserved other outcome is. let wrong : true ≡ false = sym served ∙ unserved in absurd (cc);
+          damaged = λ damage e ready. absurd (cc);
+          exact = λ damage e. absurd (cc);
+          stays = λ damage e. absurd (cc);
+          shape = tries.shape;
+          outside = outside_steady (Ok outcome) old kept_engine tries.steady tries.device tries.output;
+        }
 
   not_done : (outcome : Outcome) (refusal : Refusal) → is_refusal outcome ≡ false → outcome ≡ said.Refused refusal → ⊥
   not_done outcome refusal done is = let wrong : true ≡ false = sym (ap is_refusal is) ∙ done in cc
 
-  -- a statement that was done, whose pages are committed
-  committed_steps : (old : Engine S) (new : HeldPages) (mid : S) (tables : Tables) (stmt : Stmt) (outcome : Outcome) → control_of stmt ≡ control.Other → is_listing stmt ≡ false → is_refusal outcome ≡ false → old.is_open ≡ false → new.open_ ≡ false
-      → new.base ≡ pages_of g mid → new.work ≡ pages_of g mid → new.defs ≡ tables.catalog → KeepsSettings (held_by g old) new → TriesStep g stmt (Ok outcome) old.store mid old.tables tables
-      → DoesStep g old.store mid old.tables tables stmt outcome ⊎ IsRefusedFull g old.store mid old.tables tables stmt outcome → StepsOnPages old.tables.shape (held_by g old) stmt outcome new
-  committed_steps old new mid tables stmt outcome other changing done shut still base work defs set tries (inl does) =
-      steps_done old new mid tables stmt outcome other changing does work defs
-      (record { closed = λ closed. base ∙ sym work; is_open = λ opened. let wrong : true ≡ false = sym opened ∙ still in absurd (cc) }) tries.reads (still ∙ sym shut) set tries.shape
-      (λ refusal is. absurd (not_done outcome refusal done is))
-  committed_steps old new mid tables stmt outcome other changing done shut still base work defs set tries (inr refused) =
-      let wrong : true ≡ false = sym (ap is_refusal refused.says) ∙ done in absurd (cc)
+  -- a statement that may change pages was done where no transaction is open, and its pages are committed
+  module _ (old : Engine S) (mid : S) (tables : Tables) (stmt : Stmt) (outcome : Outcome) (other : is_tried (role_of stmt) ≡ true) (changing : only_reads (role_of stmt) ≡ false)
+      (tried : TriesStep g stmt (Ok outcome) old.store mid old.tables tables) (shut : old.is_open ≡ false) (done : is_refusal outcome ≡ false) where
+    still_counted : g.disk_faults mid ≡ g.disk_faults old.store
+    still_counted = tried.tries.device.still (λ is. absurd (cc))
 
-  -- the pages that it makes those of the last commit
-  made_left : (old : Engine S) (mid : S) (tables : Tables) (stmt : Stmt) (outcome : Outcome) → control_of stmt ≡ control.Other → is_listing stmt ≡ false → is_refusal outcome ≡ false → old.is_open ≡ false
-      → TriesStep g stmt (Ok outcome) old.store mid old.tables tables → IsReadyEngine g old → MayBeLeft old.tables.shape (held_by g old) stmt (g.state mid).work
-  made_left old mid tables stmt outcome other changing done shut tries ready =
-      let work = (g.state mid).work in
-      let now = ready_tried old.store mid old.tables tables stmt outcome (tries.does ready.work) in
-      MayBeLeft.after outcome (held_with work work tables.catalog false old.settings old.pass)
-      (committed_steps old (held_with work work tables.catalog false old.settings old.pass) mid tables stmt outcome other changing done shut refl refl refl refl (same_settings refl refl) tries (tries.does ready.work)) refl refl
-      (now.view, subst (λ (of : Shape). KeepAllRules of work now.view) tries.shape now.sound) now.stored (built_defs tables.catalog tries.served)
+    committed_steps : (new : HeldPages) → IsReady g old.store old.tables → AreServed old.tables.catalog → new.open_ ≡ false → new.base ≡ pages_of g mid → new.work ≡ pages_of g mid → new.defs ≡ tables.catalog → KeepsSettings (held_by g old) new
+        → DoesReady g old.store mid old.tables tables stmt outcome ⊎ IsRefusedFull g old.store mid old.tables tables stmt outcome → StepsOnPages old.tables.shape (held_by g old) stmt outcome new
+    committed_steps new ready served still base work defs set (inl (DoesReady.steps listing does)) =
+        steps_done old new mid tables stmt outcome ready.stored served other listing does work defs
+        (record { closed = λ closed. base ∙ sym work; is_open = λ opened. let wrong : true ≡ false = sym opened ∙ still in absurd (cc) })
+        (λ reads. let wrong : true ≡ false = sym reads ∙ changing in absurd (cc)) (still ∙ sym shut) set tried.tries.shape
+        (λ refusal is. absurd (not_done outcome refusal done is))
+    committed_steps new ready served still base work defs set (inl (DoesReady.tells listing told)) = let wrong : true ≡ false = sym (reads_telling (role_of stmt) listing) ∙ changing in absurd (cc)
+    committed_steps new ready served still base work defs set (inr refused) = let wrong : true ≡ false = sym (ap is_refusal refused.says) ∙ done in absurd (cc)
 
-  pub change_committed : (old : Engine S) (mid store : S) (tables : Tables) (stmt : Stmt) (outcome : Outcome) → MayCall g old → old.served ≡ true → control_of stmt ≡ control.Other → is_listing stmt ≡ false
-      → TriesStep g stmt (Ok outcome) old.store mid old.tables tables → (old.is_open || is_refusal outcome) ≡ false → CommitsWork {X = Unit {0}} g (Ok tt) mid store
-      → (Rests g mid → Rests g store) → Executes g stmt (Ok outcome) old (record old { store = store; tables = tables })
-  change_committed old mid store tables stmt outcome may served other changing tries kept commits rests =
-      let new : Engine S = record old { store = store; tables = tables } in
-      let shut = (neither old.is_open (is_refusal outcome) kept).0 in
-      let done = (neither old.is_open (is_refusal outcome) kept).1 in
-      let still : g.disk_faults mid ≡ g.disk_faults old.store = tries.device.still (λ is. absurd (cc)) in
-      record {
-        steps = λ ready. (
-          committed_steps old (held_by g new) mid tables stmt outcome other changing done shut shut commits.base commits.work refl (same_settings refl refl) tries (tries.does ready.work),
-          ready_committed old new mid tables (ready_tried old.store mid old.tables tables stmt outcome (tries.does ready.work)) tries.served served refl commits,
-        );
-        may = record { going = commits.going (λ e. absurd (cc)) ∙ (tries.steady.ended ∙ may.going); unmarked = commits.unmarked; served = λ is. tries.served };
-        keeps = λ all. record { closed = λ still. commits.base ∙ sym commits.work; is_open = λ opened. let wrong : true ≡ false = sym opened ∙ shut in absurd (cc) };
-        controls = answers_other old.is_open stmt outcome other;
-        built = λ was. served ∙ sym tries.served.built;
-        leaves = λ ready. leaves_then g (Ok tt) stmt old new mid tries.steady commits (made_left old mid tables stmt outcome other changing done shut tries ready);
-        fetches = λ ready. fetches_counted g old.tables.shape old.tables.catalog old.store mid store (bound_of old.tables.catalog stmt) (tries.fetches ready.work) commits.brings;
-        lists = λ ready. lists_other g old.store store old.tables.catalog stmt changing;
-        unserved = λ unserved other outcome is. let wrong : true ≡ false = sym served ∙ unserved in absurd (cc);
-        damaged = λ damage e ready. absurd (cc);
-        exact = λ damage e. absurd (cc);
-        stays = λ damage e. absurd (cc);
-        shape = tries.shape;
-        outside = outside_value old new (outside_then (Ok tt) old new mid tries.steady still commits rests);
-      }
+    -- the pages that it makes those of the last commit
+    made_left : AreServed old.tables.catalog → IsReadyEngine g old → MayBeLeft old.tables.shape (held_by g old) stmt (g.state mid).work
+    made_left served ready =
+        let work = (g.state mid).work in
+        let now = ready_tried g old.store mid old.tables tables stmt outcome (tried.does ready.work) in
+        MayBeLeft.after outcome (held_with work work tables.catalog false old.tables.settings old.pass)
+        (committed_steps (held_with work work tables.catalog false old.tables.settings old.pass) ready.work served refl refl refl refl (same_settings refl refl) (tried.does ready.work)) refl refl
+        (now.view, subst (λ (of : Shape). KeepAllRules of work now.view) tried.tries.shape now.sound) now.stored (built_defs tables.catalog tried.tries.served)
 
-  pub change_stops : (result : Result Outcome EngineStop) (stop : EngineStop) (old : Engine S) (mid store : S) (tables : Tables) (stmt : Stmt) (outcome : Outcome) → MayCall g old → IsErrAnd result (λ e. e ≡ stop) → control_of stmt ≡ control.Other → is_listing stmt ≡ false
-      → TriesStep g stmt (Ok outcome) old.store mid old.tables tables → (old.is_open || is_refusal outcome) ≡ false → CommitsWork {X = Unit {0}} g (Err stop) mid store
-      → (Rests g mid → Rests g store) → NamesExactly {X = Unit {0}} g tables.shape (Err stop) store → Executes g stmt result old (record old { store = store; tables = tables })
-  change_stops result stop old mid store tables stmt outcome may is other changing tries kept commits rests exact =
-      let new : Engine S = record old { store = store; tables = tables } in
-      let both = neither old.is_open (is_refusal outcome) kept in
-      let still : g.disk_faults mid ≡ g.disk_faults old.store = tries.device.still (λ is. absurd (cc)) in
-      executes_stop {Y = Unit {0}} stmt result stop old new is
-      (λ damage e ready. commits.damaged damage (ap Err e) (sound_root mid tables (ready_tried old.store mid old.tables tables stmt outcome (tries.does ready.work))))
-      (subst (λ (of : Shape). NamesExactly {X = Unit {0}} g of (Err stop) store) tries.shape exact)
-      (λ damage e.
-      let halts = commits.halts damage (ap Err e) in
-      stays_steady old new (steady_then tries.steady halts.steady) (halts.marked ∙ tries.unmarked) may.going refl)
-      (λ ready. leaves_then g (Err stop) stmt old new mid tries.steady commits (made_left old mid tables stmt outcome other changing both.1 both.0 tries ready)) tries.shape
-      (outside_then (Err stop) old new mid tries.steady still commits rests)
+    module _ (store : S) where
+      abbrev changed_engine : Engine S
+      changed_engine = record old { store = store; tables = tables }
+
+      pub change_committed : MayCall g old → old.served ≡ true → CommitsWork {X = Unit {0}} g (Ok tt) mid store → (Rests g mid → Rests g store) → Executes g stmt (Ok outcome) old changed_engine
+      change_committed may served commits rests =
+          let tries = tried.tries in
+          record {
+            steps = λ ready. (
+              committed_steps (held_by g changed_engine) ready.work (may.served served) shut commits.base commits.work refl (same_settings tries.settings refl) (tried.does ready.work),
+              ready_committed old changed_engine mid tables (ready_tried g old.store mid old.tables tables stmt outcome (tried.does ready.work)) tries.served served refl commits,
+            );
+            may = record { going = commits.going (λ e. absurd (cc)) ∙ (tries.steady.ended ∙ may.going); unmarked = commits.unmarked; served = λ is. tries.served };
+            keeps = λ all. record { closed = λ still. commits.base ∙ sym commits.work; is_open = λ opened. let wrong : true ≡ false = sym opened ∙ shut in absurd (cc) };
+            controls = answers_other old.is_open (role_of stmt) outcome other;
+            settings = sets_other (role_of stmt) old.served old.tables.settings outcome tables.settings other tries.settings;
+            built = λ was. served ∙ sym tries.served.built;
+            leaves = λ ready. leaves_then g (Ok tt) stmt old changed_engine mid tries.steady commits (made_left (may.served served) ready);
+            fetches = λ ready. fetches_counted g old.tables.shape old.tables.catalog old.store mid store (bound_of old.tables.catalog stmt) (tried.fetches ready.work) commits.brings;
+            lists = λ ready. lists_changing g old.tables.catalog old.store store (role_of stmt) changing;
+            unserved = λ unserved other outcome is. let wrong : true ≡ false = sym served ∙ unserved in absurd (cc);
+            damaged = λ damage e ready. absurd (cc);
+            exact = λ damage e. absurd (cc);
+            stays = λ damage e. absurd (cc);
+            shape = tries.shape;
+            outside = outside_value old changed_engine (outside_then (Ok tt) old changed_engine mid tries.steady still_counted commits rests);
+          }
+
+      pub change_stops : (result : Result Outcome EngineStop) (stop : EngineStop) → MayCall g old → IsErrAnd result (λ e. e ≡ stop) → CommitsWork {X = Unit {0}} g (Err stop) mid store
+          → (Rests g mid → Rests g store) → NamesExactly {X = Unit {0}} g tables.shape (Err stop) store → Executes g stmt result old changed_engine
+      change_stops result stop may is commits rests exact =
+          let tries = tried.tries in
+          executes_stop {Y = Unit {0}} stmt result stop old changed_engine is
+          (λ damage e ready. commits.damaged damage (ap Err e) (sound_root mid tables (ready_tried g old.store mid old.tables tables stmt outcome (tried.does ready.work))))
+          (subst (λ (of : Shape). NamesExactly {X = Unit {0}} g of (Err stop) store) tries.shape exact)
+          (λ damage e.
+          let halts = commits.halts damage (ap Err e) in
+          stays_steady old changed_engine (steady_then tries.steady halts.steady) (halts.marked ∙ tries.unmarked) may.going refl)
+          (λ ready. leaves_then g (Err stop) stmt old changed_engine mid tries.steady commits (made_left (may.served ready.served) ready)) tries.shape tries.settings
+          (outside_then (Err stop) old changed_engine mid tries.steady still_counted commits rests)
 
   -- the execution stopped
   pub change_untried : (result : Result Outcome EngineStop) (stop : EngineStop) (old : Engine S) (store : S) (tables : Tables) (stmt : Stmt) → MayCall g old → IsErrAnd result (λ e. e ≡ stop)
       → TriesStep g stmt (Err stop) old.store store old.tables tables → NamesExactly {X = Outcome} g old.tables.shape (Err stop) store
       → Executes g stmt result old (record old { store = store; tables = tables })
-  change_untried result stop old store tables stmt may is tries exact =
+  change_untried result stop old store tables stmt may is tried exact =
+      let tries = tried.tries in
       let new : Engine S = record old { store = store; tables = tables } in
-      executes_stop {X = Outcome} {Y = Outcome} stmt result stop old new is (λ damage e ready. tries.damaged damage (ap Err e) ready.work) exact
+      executes_stop {X = Outcome} {Y = Outcome} stmt result stop old new is (λ damage e ready. tried.damaged damage (ap Err e) ready.work) exact
       (λ damage e. stays_steady old new tries.steady (tries.back damage (ap Err e)).unmarked may.going refl)
-      (λ ready. leaves_steady g stmt old new tries.steady) tries.shape
+      (λ ready. leaves_steady g stmt old new tries.steady) tries.shape tries.settings
       (outside_steady (Err stop) old new tries.steady tries.device tries.output)
+
+  -- a statement that reads alone was tried
+  pub read_tried : (result : Result Outcome EngineStop) (old : Engine S) (store : S) (tables : Tables) (stmt : Stmt) → only_reads (role_of stmt) ≡ true → MayCall g old → old.served ≡ true
+      → TriesStep g stmt result old.store store old.tables tables → NamesExactly g old.tables.shape result store → Executes g stmt result old (record old { store = store; tables = tables })
+  read_tried (Ok outcome) old store tables stmt reads may served tried exact =
+      change_kept old store tables stmt outcome (tried_reading (role_of stmt) reads) tried (inr (tried.tries.reads reads)) may served
+  read_tried (Err stop) old store tables stmt reads may served tried exact = change_untried (Err stop) stop old store tables stmt may refl tried exact
 
   -- ---- another store with the same pages
 
@@ -584,14 +659,14 @@ module _ {S : Type 0} (g : Ghosts S) where
 
 -- ---- which statement it is
 
-pub is_begin : (stmt : Stmt) → control.Begin ≡ control_of stmt → stmt ≡ statement.Begin
+pub is_begin : (stmt : Stmt) → Begins ≡ role_of stmt → stmt ≡ statement.Begin
 is_begin statement.Begin is = refl
 is_begin stmt is = absurd (cc)
 
-pub is_commit : (stmt : Stmt) → control.Commit ≡ control_of stmt → stmt ≡ statement.Commit
+pub is_commit : (stmt : Stmt) → Commits ≡ role_of stmt → stmt ≡ statement.Commit
 is_commit statement.Commit is = refl
 is_commit stmt is = absurd (cc)
 
-pub is_rollback : (stmt : Stmt) → control.Rollback ≡ control_of stmt → stmt ≡ statement.Rollback
+pub is_rollback : (stmt : Stmt) → GoesBack ≡ role_of stmt → stmt ≡ statement.Rollback
 is_rollback statement.Rollback is = refl
 is_rollback stmt is = absurd (cc)

@@ -133,4 +133,6 @@ written_is_new defs (stmt.Insert name listed tuples) written built said = none_m
 written_is_new defs (stmt.Update name sets pred) written built said = none_made_on defs name (λ place columns. bound.Update place (map (bound_set columns) sets) (bound_where columns pred)) (λ place. tt)
 written_is_new defs (stmt.Delete name pred) written built said = none_made_on defs name (λ place columns. bound.Delete place (bound_where columns pred)) (λ place. tt)
 written_is_new defs (stmt.Query select) written built said = none_made_on defs select.table (λ place columns. bound.Query (bound_select place columns select)) (λ place. tt)
+written_is_new defs (stmt.Reclaim name) written built said = none_made_on defs name (λ place columns. bound.Reclaim place) (λ place. tt)
+written_is_new defs (stmt.Explain select) written built said = absurd cc
 written_is_new defs other written built said = tt

@@ -3,6 +3,7 @@ pub mod Committing
 pub mod Controls
 pub mod Defining
 pub mod Doing
+pub mod Explaining
 pub mod Fetching
 pub mod Held
 pub mod Inserting
@@ -12,9 +13,11 @@ pub mod NotedRooms
 pub mod OnAnyPages
 pub mod Opening
 pub mod Others
+pub mod PuttingStatements
 pub mod Ready
 pub mod Reloading
 pub mod Resting
+pub mod Roles
 pub mod Serving
 pub mod SetKeys
 pub mod Stops

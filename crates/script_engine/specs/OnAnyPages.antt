@@ -1,13 +1,12 @@
 -- What a statement does to what is held whatever the pages are, and what a stop of it and a crash within it leave.
-use Rattle.std.specs.Prelude.{◌≡◌, ◌⊎◌, Bool, true, false, IsErrOf, IsTrue, None, Some, IfOk, IfSome, OnErr, OnOk, Result, Err}
+use Rattle.std.specs.Prelude.{◌≡◌, ◌⊎◌, Bool, true, false, if◌then◌else◌, IsErrOf, IsTrue, None, Some, IfOk, IfSome, OnErr, OnOk, Result, Err}
 use Rattle.mdc_words.specs.Time.{OverTime}
 use Rattle.mdc_ast.specs.declared.refusal.Refusal.{Refusal}
 use Rattle.mdc_ast.specs.declared.reply.Outcome.{Outcome}
 use Rattle.mdc_ast.specs.declared.reply.Outcome.TheVariants as said
 use Rattle.mdc_ast.specs.declared.reply.Reply.{Reply}
 use Rattle.mdc_ast.specs.declared.statement.Stmt.{Stmt}
-use Rattle.mdc_ast.specs.declared.statement.Stmt.TheVariants.{Begin, Commit, CreateIndex, CreateTable, Delete, DropIndex, DropTable, Insert, ListBlocks, Query, Rollback, Update}
-use Rattle.statement_meaning.specs.Built.{are_built, is_built_step}
+use Rattle.statement_meaning.specs.Built.{are_built}
 use Rattle.statement_meaning.specs.Cause.{NotBuilt, refusal_of}
 use Rattle.store_api.specs.Moments.{Outcomes}
 use Rattle.store_api.specs.StoreState.{StoreState}
@@ -16,14 +15,14 @@ use Rattle.store_api.specs.declared.pages.Pages.{Ghosts}
 use Rattle.table_trees.specs.ToldPages.{PageList}
 use Rattle.mdc_sound.specs.Breaks.{IsFirstBreak}
 use Rattle.stored_catalog.specs.StoredDefinitions.{AreStored}
-use Rattle.script_engine.specs.Controls.{AnswersControl, control_of}
+use Rattle.script_engine.specs.Controls.{AnswersControl, AnswersSetting}
 use Rattle.script_engine.specs.Held.{HeldPages, KeepsBase}
 use Rattle.script_engine.specs.Leaving.{IsAllCommitted}
+use Rattle.script_engine.specs.Roles.{Begins, Changes, Commits, Explains, GoesBack, Lists, Queries, Role, Sets, is_built_form, is_control, is_going_back, role_of, set_on}
 use Rattle.script_engine.specs.Serving.{MayCall, held_by}
 use Rattle.script_engine.specs.declared.engine.Engine.{Engine}
 use Rattle.script_engine.specs.declared.stop.EngineStop.{EngineStop}
 use Rattle.script_engine.specs.declared.stop.EngineStop.TheVariants.{Damaged, Device}
-use Rattle.script_engine.specs.declared.transactions.Control.TheVariants as control
 
 -- ---- an outcome
 
@@ -46,54 +45,43 @@ pub record GoesBackToBase (told : Bool) (old new : HeldPages) : Type 0 where
   pub stored : IsTrue told → AreStored old.base new.defs
 
 -- what a statement that was done does to what is held
-abbrev pub DoesOnAny : Bool → Stmt → HeldPages → HeldPages → Type 0
-DoesOnAny told Begin old new = new ≡ record old { open_ = true }
-DoesOnAny told Commit old new = new ≡ record old { open_ = false; base = old.work }
-DoesOnAny told Rollback old new = GoesBackToBase told old new
-DoesOnAny told (Query select) old new = StaysAsHeld told old new
-DoesOnAny told (ListBlocks name) old new = new ≡ old
-DoesOnAny told stmt old new = ChangesPages old new
+abbrev pub DoesOnAny : Bool → Role → HeldPages → HeldPages → Type 0
+DoesOnAny told Begins old new = new ≡ record old { open_ = true }
+DoesOnAny told Commits old new = new ≡ record old { open_ = false; base = old.work }
+DoesOnAny told GoesBack old new = GoesBackToBase told old new
+DoesOnAny told (Sets setting) old new = new ≡ record old { settings = set_on setting old.settings }
+DoesOnAny told (Lists name) old new = new ≡ old
+DoesOnAny told (Explains select) old new = new ≡ old
+DoesOnAny told Queries old new = new ≡ old
+DoesOnAny told role old new = ChangesPages old new
 
--- a statement's form is built
-abbrev pub is_built_form : Stmt → Bool
-is_built_form Begin = true
-is_built_form Commit = true
-is_built_form Rollback = true
-is_built_form (ListBlocks name) = true
-is_built_form stmt = is_built_step stmt
-
--- What a statement that has an outcome does to what is held, whatever the pages are: a refusal, a query and LIST BLOCKS change nothing,
--- BEGIN, COMMIT and ROLLBACK do as the state of the transaction has it, and what isn't built is refused with 14.
+-- What a statement that has an outcome does to what is held, whatever the pages are: a refusal, a query, LIST BLOCKS and EXPLAIN change
+-- nothing, BEGIN, COMMIT and ROLLBACK do as the state of the transaction has it, a setting changes what the run is set to and nothing else,
+-- and what isn't built is refused with 14.
 pub record StepsOnAny (told : Bool) (old : HeldPages) (stmt : Stmt) (outcome : Outcome) (new : HeldPages) : Type 0 where
-  pub done : (reply : Reply) → outcome ≡ said.Done reply → DoesOnAny told stmt old new
+  pub done : (reply : Reply) → outcome ≡ said.Done reply → DoesOnAny told (role_of stmt) old new
   pub refused : (refusal : Refusal) → outcome ≡ said.Refused refusal → StaysAsHeld told old new
-  pub controls : AnswersControl (control_of stmt) old.open_ outcome
+  pub controls : AnswersControl (role_of stmt) old.open_ outcome
+  pub settings : AnswersSetting (role_of stmt) (are_built old.defs) old.settings outcome new.settings
   pub unbuilt_form : is_built_form stmt ≡ false → outcome ≡ said.Refused (refusal_of NotBuilt)
-  pub unbuilt_tables : control_of stmt ≡ control.Other → are_built old.defs ≡ false → outcome ≡ said.Refused (refusal_of NotBuilt)
+  pub unbuilt_tables : is_control (role_of stmt) ≡ false → are_built old.defs ≡ false → outcome ≡ said.Refused (refusal_of NotBuilt)
 
 -- ---- a stop, and a crash
 
 -- the pages that are judged where a statement meets damage: those of the last commit where it goes back to them, else those held
 abbrev pub judged_pages : Stmt → HeldPages → PageList
-judged_pages Rollback held = held.base
-judged_pages stmt held = held.work
+judged_pages stmt held = if is_going_back (role_of stmt) then held.base else held.work
 
--- a statement may change pages
-abbrev pub may_change : Stmt → Bool
-may_change (CreateTable name columns dims) = true
-may_change (CreateIndex name unique table parts) = true
-may_change (DropTable name) = true
-may_change (DropIndex name) = true
-may_change (Insert name listed tuples) = true
-may_change (Update name sets pred) = true
-may_change (Delete name pred) = true
-may_change stmt = false
+-- a statement of this role that stopped may have committed these pages: COMMIT those that were held, and outside a transaction one that
+-- may change pages what it made of them
+abbrev pub MayCommitAs : Role → HeldPages → PageList → Type 0
+MayCommitAs Commits held pages = (held.open_ ≡ true) × (pages ≡ held.work)
+MayCommitAs Changes held pages = held.open_ ≡ false
+MayCommitAs role held pages = ⊥
 
--- a statement that stopped may have committed these pages: COMMIT those that were held, and outside a transaction one that may change
--- pages what it made of them
+-- the same of the statement
 abbrev pub MayCommit : Stmt → HeldPages → PageList → Type 0
-MayCommit Commit held pages = (held.open_ ≡ true) × (pages ≡ held.work)
-MayCommit stmt held pages = (held.open_ ≡ false) × (may_change stmt ≡ true)
+MayCommit stmt held pages = MayCommitAs (role_of stmt) held pages
 
 -- the pages of the last commit before the statement, or those that it may have committed
 abbrev pub MayBeLeftOnAny : HeldPages → Stmt → PageList → Type 0
@@ -137,5 +125,5 @@ pub record ExecutesOnAny {S : Type 0} (g : Ghosts S) (stmt : Stmt) (result : Res
   pub base : OnErr result (MayBeLeftOnAny (held_by g old) stmt (g.state new.store).base)
   pub kept : OnErr result ((IsErrOf result Device → ⊥) → (g.state new.store).base ≡ (g.state old.store).base)
   pub going : OnErr result ((IsErrOf result Device → ⊥) → (g.state new.store).ended ≡ false)
-  pub built : OnErr result (control_of stmt ≡ control.Other → are_built (held_by g old).defs ≡ true)
+  pub built : OnErr result (is_control (role_of stmt) ≡ false → are_built (held_by g old).defs ≡ true)
   pub damage : (damage : Damage) → result ≡ Err (Damaged damage) → StopsAtDamage g stmt old new damage

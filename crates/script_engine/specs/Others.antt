@@ -30,6 +30,7 @@ touched_place (bound.DropIndex place index) = Some place
 touched_place (bound.Insert place tuples) = Some place
 touched_place (bound.Delete place pred) = Some place
 touched_place (bound.Update place sets pred) = Some place
+touched_place (bound.Reclaim place) = Some place
 touched_place statement = None
 
 -- a table has no block

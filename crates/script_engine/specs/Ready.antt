@@ -45,8 +45,9 @@ BreaksDatabase g s tables damage = IsReady g s tables → ⊥
 abbrev pub IsNoStandingTable : {S : Type 0} → Ghosts S → Shape → S → TableDef → Damage → Type 0
 IsNoStandingTable g shape s def damage = (owners : List Kind) (forests : TableForests) → StandsTable g shape s def owners forests → ⊥
 
--- A statement left the shape of the database, and definitions of built forms; after a fault they are those that there were.
+-- A statement left the shape of the database, what the run is set to, and definitions of built forms; after a fault they are those that there were.
 pub record KeepsServed {X E : Type 0} (result : Result X E) (old new : Tables) : Type 0 where
   pub shape : new.shape ≡ old.shape
+  pub settings : new.settings ≡ old.settings
   pub served : AreServed new.catalog
   pub kept : OnErr result (new.catalog ≡ old.catalog)

@@ -20,6 +20,7 @@ pub record Reloads {S : Type 0} (g : Ghosts S) (result : Result Bool EngineStop)
   pub work : (g.state new).work ≡ (g.state old).base
   pub unmarked : (g.state new).marked ≡ None
   pub shape : now.shape ≡ before.shape
+  pub settings : now.settings ≡ before.settings
   pub notes : (owners : List Kind) → AreRightNotes now.shape now.notes owners
   pub rooms : AreForgotten now.rooms
   pub stored : OnOk result (IsTrue (g.state old).is_told → AreStored (g.state old).base now.catalog)

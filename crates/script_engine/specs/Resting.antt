@@ -25,11 +25,13 @@ use Rattle.script_engine.specs.declared.stop.EngineStop.TheVariants.{Damaged, De
 
 -- ---- the chain
 
--- A step where no transaction is open: its pages are sound and committed, and stand for every session that those before stood for,
--- but for how far the pass is. Definitions, which are of built forms, and settings stay.
+-- A step where no transaction is open: its pages are those before it, sound and committed, and stand for every session that those before
+-- stood for, but for how far the pass is. Definitions, which are of built forms, and settings stay. No step changes a page as long as
+-- nothing is there to be cleaned.
 pub record RestsOnce (shape : Shape) (old new : HeldPages) : Type 0 where
   pub was_shut : old.open_ ≡ false
   pub is_shut : new.open_ ≡ false
+  pub work : new.work ≡ old.work
   pub committed : new.base ≡ new.work
   pub sound : IsSoundDatabase shape new.work
   pub stands : (session : Session) → StandsForSession shape old session → StandsForSession shape new (rested session new.pass)
@@ -38,10 +40,12 @@ pub record RestsOnce (shape : Shape) (old new : HeldPages) : Type 0 where
   pub valid : AreBuiltDefs new.defs
   pub settings : new.settings ≡ old.settings
 
--- The same whatever the pages are: they are committed, and the definitions are those that there were, or those of the pages.
+-- The same whatever the pages are: they are those before it, and committed, and the definitions are those that there were, or those of the
+-- pages.
 pub record RestsOnceOnAny (told : Bool) (old new : HeldPages) : Type 0 where
   pub was_shut : old.open_ ≡ false
   pub is_shut : new.open_ ≡ false
+  pub work : new.work ≡ old.work
   pub committed : new.base ≡ new.work
   pub settings : new.settings ≡ old.settings
   pub defs : (new.defs ≡ old.defs) ⊎ (IsTrue told → AreStored new.work new.defs)

@@ -17,7 +17,7 @@ held_by g engine = record {
   work = (g.state engine.store).work;
   defs = engine.tables.catalog;
   open_ = engine.is_open;
-  settings = engine.settings;
+  settings = engine.tables.settings;
   pass = engine.pass;
 }
 

@@ -1,33 +1,27 @@
 -- What the execution of a statement leaves of a store, before anything is committed.
-use Rattle.std.specs.Prelude.{◌≡◌, ◌⊎◌, true, false, IsTrue, IfOk, OnOk, IsErrOf, List, Result, Ok, Err, Some, None}
+use Rattle.std.specs.Prelude.{◌≡◌, ◌⊎◌, Bool, true, false, not, IsTrue, IfOk, OnOk, IsErrOf, List, Result, Ok, Err, None}
 use Rattle.mdc_words.specs.Faults.{CountsFault}
-use Rattle.mdc_ast.specs.declared.definition.TableDef.{TableDef}
-use Rattle.mdc_ast.specs.declared.name.Name.{Name}
 use Rattle.mdc_ast.specs.declared.refusal.Refusal.{Refusal}
 use Rattle.mdc_ast.specs.declared.reply.Outcome.{Outcome}
 use Rattle.mdc_ast.specs.declared.reply.Outcome.TheVariants as said
-use Rattle.mdc_ast.specs.declared.reply.Reply.{Reply}
 use Rattle.mdc_ast.specs.declared.statement.Stmt.{Stmt}
 use Rattle.statement_meaning.specs.Binding.{bound_of}
-use Rattle.statement_meaning.specs.Cause.{FileFull, NoTable, NotBuilt, refusal_of}
-use Rattle.mdc_ast.specs.Definitions.{Definitions, def_named}
+use Rattle.statement_meaning.specs.Cause.{FileFull, NotBuilt, refusal_of}
 use Rattle.store_api.specs.Works.{Steady}
 use Rattle.store_api.specs.declared.fault.Damage.{Damage}
 use Rattle.store_api.specs.declared.pages.Pages.{Ghosts}
 use Rattle.store_api.specs.declared.shape.Shape.{Shape}
 use Rattle.extent_map.specs.Owners.{AreRightNotes}
 use Rattle.extent_map.specs.declared.kind.Kind.{Kind}
-use Rattle.table_trees.specs.ToldPages.{PageList}
 use Rattle.mdc_sound.specs.SoundDatabase.{IsSoundDatabase}
 use Rattle.mdc_sound.specs.StandingTable.{pages_of}
 use Rattle.stored_catalog.specs.StoredDefinitions.{AreStored}
-use Rattle.script_engine.specs.Breaking.{OnlyReads}
-use Rattle.script_engine.specs.Doing.{DoesStep, LeavesAll, StepRunsFull, is_reading}
-use Rattle.script_engine.specs.Fetching.{FetchesForQuery}
-use Rattle.script_engine.specs.Listing.{TellsBlocks}
+use Rattle.script_engine.specs.Doing.{DoesReady, LeavesAll, StepRunsFull}
+use Rattle.script_engine.specs.Fetching.{FetchesForListing, FetchesForQuery}
 use Rattle.script_engine.specs.NotedRooms.{AreForgotten}
-use Rattle.statement_meaning.specs.Built.{are_built, is_built_step}
+use Rattle.statement_meaning.specs.Built.{are_built}
 use Rattle.script_engine.specs.Ready.{AreServed, IsReady}
+use Rattle.script_engine.specs.Roles.{Role, is_built_form, only_reads, role_of}
 use Rattle.script_engine.specs.declared.stop.EngineStop.{EngineStop}
 use Rattle.script_engine.specs.declared.stop.EngineStop.TheVariants.{Damaged, Device, Output}
 use Rattle.script_engine.specs.declared.tables.Tables.{Tables}
@@ -44,41 +38,34 @@ pub record GoesBack {S : Type 0} (g : Ghosts S) (old new : S) (before now : Tabl
   pub leaves : LeavesAll g old new before now
   pub unmarked : (g.state new).marked ≡ None
 
--- the catalog is the one that there was, or, where these pages are told, theirs
-abbrev pub KeepsCatalog : {S : Type 0} → Ghosts S → S → Tables → Tables → Type 0
-KeepsCatalog g s before now = (now.catalog ≡ before.catalog) ⊎ (IsTrue (g.state s).is_told → AreStored (pages_of g s) now.catalog)
+-- A statement was tried, whatever the pages are, and nothing is committed. A refusal, a query and LIST BLOCKS change nothing, and a form
+-- that isn't built is refused with 14.
+pub record Tries {S : Type 0} (g : Ghosts S) (stmt : Stmt) (result : Result Outcome EngineStop) (old new : S) (before now : Tables) : Type 0 where
+  pub steady : Steady g old new
+  pub unmarked : OnOk result ((g.state new).marked ≡ None)
+  pub served : OnOk result (AreServed now.catalog)
+  pub shape : now.shape ≡ before.shape
+  pub settings : now.settings ≡ before.settings
+  pub back : (damage : Damage) → result ≡ Err (Damaged damage) → GoesBack g old new before now
+  pub refused : (refusal : Refusal) → result ≡ Ok (said.Refused refusal) → LeavesAll g old new before now
+  pub reads : OnOk result (only_reads (role_of stmt) ≡ true → LeavesAll g old new before now)
+  pub unbuilt : is_built_form stmt ≡ false → IfOk result (λ outcome. outcome ≡ said.Refused (refusal_of NotBuilt))
+  pub device : CountsFault (IsErrOf result Device) (g.disk_faults old) (g.disk_faults new)
+  pub output : IsErrOf result Output → ⊥
 
--- A statement was tried: it does its step on ready pages, or is refused with 70. A refusal changes nothing, a query no page,
--- a form that isn't built is refused with 14, and nothing is committed; of a query only pages come to hand that a scan of its table looks at.
+-- A statement was tried, and on ready pages it is executed, or refused with 70. No damage is named of such pages, and of them a query
+-- and LIST BLOCKS bring only those to hand that they look at.
 pub record TriesStep {S : Type 0} (g : Ghosts S) (stmt : Stmt) (result : Result Outcome EngineStop) (old new : S) (before now : Tables) : Type 0 where
-  pub steady : Steady g old new
-  pub unmarked : OnOk result ((g.state new).marked ≡ None)
-  pub served : OnOk result (AreServed now.catalog)
-  pub shape : now.shape ≡ before.shape
-  pub back : (damage : Damage) → result ≡ Err (Damaged damage) → GoesBack g old new before now
-  pub does : IfOk result (λ outcome. IsReady g old before → DoesStep g old new before now stmt outcome ⊎ IsRefusedFull g old new before now stmt outcome)
-  pub refused : (refusal : Refusal) → result ≡ Ok (said.Refused refusal) → LeavesAll g old new before now
-  pub unbuilt : is_built_step stmt ≡ false → IfOk result (λ outcome. outcome ≡ said.Refused (refusal_of NotBuilt))
-  pub reads : OnOk result (is_reading stmt ≡ true → pages_of g new ≡ pages_of g old)
-  pub catalog : OnOk result (is_reading stmt ≡ true → KeepsCatalog g old before now)
+  pub tries : Tries g stmt result old new before now
+  pub does : IfOk result (λ outcome. IsReady g old before → DoesReady g old new before now stmt outcome ⊎ IsRefusedFull g old new before now stmt outcome)
   pub fetches : OnOk result (IsReady g old before → FetchesForQuery g before.shape old new before.catalog (bound_of before.catalog stmt))
-  pub device : CountsFault (IsErrOf result Device) (g.disk_faults old) (g.disk_faults new)
+  pub lists : OnOk result (IsReady g old before → FetchesForListing g old new before.catalog (role_of stmt))
   pub damaged : (damage : Damage) → result ≡ Err (Damaged damage) → IsReady g old before → ⊥
-  pub output : IsErrOf result Output → ⊥
 
--- A statement was tried once more, by the catalog of the pages themselves: what of `TriesStep` asks for no ready pages.
-pub record TriesAnew {S : Type 0} (g : Ghosts S) (stmt : Stmt) (result : Result Outcome EngineStop) (old new : S) (before now : Tables) : Type 0 where
-  pub steady : Steady g old new
-  pub unmarked : OnOk result ((g.state new).marked ≡ None)
-  pub served : OnOk result (AreServed now.catalog)
-  pub shape : now.shape ≡ before.shape
-  pub back : (damage : Damage) → result ≡ Err (Damaged damage) → GoesBack g old new before now
-  pub refused : (refusal : Refusal) → result ≡ Ok (said.Refused refusal) → LeavesAll g old new before now
-  pub unbuilt : is_built_step stmt ≡ false → IfOk result (λ outcome. outcome ≡ said.Refused (refusal_of NotBuilt))
-  pub reads : OnOk result (is_reading stmt ≡ true → pages_of g new ≡ pages_of g old)
-  pub catalog : OnOk result (is_reading stmt ≡ true → KeepsCatalog g old before now)
-  pub device : CountsFault (IsErrOf result Device) (g.disk_faults old) (g.disk_faults new)
-  pub output : IsErrOf result Output → ⊥
+-- a statement of this role that is answered so may have changed pages
+abbrev pub has_changed : Role → Outcome → Bool
+has_changed role (said.Done reply) = not (only_reads role)
+has_changed role (said.Refused refusal) = false
 
 -- What is kept of the pages was read from them anew: the catalog of their table pages, for a database of this shape, and no notes.
 pub record AreReadAnew {S : Type 0} (g : Ghosts S) (s : S) (given : Shape) (read : Tables) : Type 0 where
@@ -87,17 +74,18 @@ pub record AreReadAnew {S : Type 0} (g : Ghosts S) (s : S) (given : Shape) (read
   pub notes : (owners : List Kind) → AreRightNotes read.shape read.notes owners
   pub rooms : AreForgotten read.rooms
 
--- A statement did its step by what was read, or was refused with 70. One that is done leaves what the step made of it.
+-- A statement was executed by what was read, or refused with 70. One that changes pages and is done leaves what it made of that.
 pub record DoesAnew {S : Type 0} (g : Ghosts S) (stmt : Stmt) (outcome : Outcome) (old new : S) (read now : Tables) : Type 0 where
   pub made : Tables
-  pub does : DoesStep g old new read made stmt outcome ⊎ IsRefusedFull g old new read made stmt outcome
-  pub leaves : (reply : Reply) → outcome ≡ said.Done reply → now ≡ made
+  pub does : DoesReady g old new read made stmt outcome ⊎ IsRefusedFull g old new read made stmt outcome
+  pub leaves : has_changed (role_of stmt) outcome ≡ true → now ≡ made
 
 -- A statement was answered by what was read of the pages anew. It is refused with 14 where one of their tables is of a form that
--- isn't built, and does its step where none is.
+-- isn't built, and executed where none is.
 pub record AnswersAnew {S : Type 0} (g : Ghosts S) (stmt : Stmt) (outcome : Outcome) (old new : S) (before now : Tables) : Type 0 where
   pub read : Tables
   pub is_read : AreReadAnew g old before.shape read
+  pub settings : read.settings ≡ before.settings
   pub unbuilt : are_built read.catalog ≡ false → outcome ≡ said.Refused (refusal_of NotBuilt)
   pub does : are_built read.catalog ≡ true → DoesAnew g stmt outcome old new read now
 
@@ -105,20 +93,3 @@ pub record AnswersAnew {S : Type 0} (g : Ghosts S) (stmt : Stmt) (outcome : Outc
 abbrev pub AnswersBySoundPages : {S : Type 0} → Ghosts S → Stmt → Result Outcome EngineStop → S → S → Tables → Tables → Type 0
 AnswersBySoundPages g stmt result old new before now =
     IfOk result (λ outcome. IsTrue (g.state old).is_told → IsSoundDatabase before.shape (pages_of g old) → AnswersAnew g stmt outcome old new before now)
-
--- LIST BLOCKS was tried once more, by the catalog of the pages themselves: pages were read alone, and the catalog is as it was.
-pub record ListsAnew {S : Type 0} (g : Ghosts S) (result : Result Outcome EngineStop) (old new : S) (before now : Tables) : Type 0 where
-  pub reads : OnlyReads g old new
-  pub catalog : now.catalog ≡ before.catalog
-  pub shape : now.shape ≡ before.shape
-  pub device : CountsFault (IsErrOf result Device) (g.disk_faults old) (g.disk_faults new)
-  pub output : IsErrOf result Output → ⊥
-
--- LIST BLOCKS was answered by the catalog of these pages: with 14 where one of their tables is of a form that isn't built, with 21
--- where none is of that name, and else with the numbers of that table's block map.
-pub record ListsByPages (pages : PageList) (name : Name) (outcome : Outcome) : Type 0 where
-  pub defs : Definitions
-  pub stored : AreStored pages defs
-  pub unbuilt : are_built defs ≡ false → outcome ≡ said.Refused (refusal_of NotBuilt)
-  pub absent : are_built defs ≡ true → def_named defs name ≡ None → outcome ≡ said.Refused (refusal_of (NoTable name))
-  pub tells : are_built defs ≡ true → (def : TableDef) → def_named defs name ≡ Some def → TellsBlocks pages def outcome

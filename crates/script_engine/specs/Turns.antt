@@ -1,5 +1,5 @@
 -- What each call on an engine does: to what it holds, to its store, and to what is outside.
-use Rattle.std.specs.Prelude.{◌≡◌, false, true, IfOk, OnOk, IsErrOf, Result, Ok, Err}
+use Rattle.std.specs.Prelude.{◌≡◌, false, true, IfOk, MatchResult, OnOk, IsErrOf, Result, Ok, Err}
 use Rattle.mdc_words.specs.Faults.{CountsFault}
 use Rattle.mdc_words.specs.Time.{OverTime, ReachesBack}
 use Rattle.mdc_ast.specs.declared.reply.Outcome.{Outcome}
@@ -12,16 +12,16 @@ use Rattle.store_api.specs.Works.{Rests, Steady}
 use Rattle.store_api.specs.declared.fault.Damage.{Damage}
 use Rattle.store_api.specs.declared.pages.Pages.{Ghosts}
 use Rattle.script_engine.specs.Breaking.{NamesExactly, StaysAtDamage}
-pub use Rattle.script_engine.specs.Controls.{AnswersControl, answer_in_state, control_of, opened_by}
+use Rattle.script_engine.specs.Controls.{AnswersControl, AnswersSetting}
 use Rattle.script_engine.specs.Fetching.{FetchesForListing, FetchesForQuery}
 use Rattle.script_engine.specs.Held.{KeepsBase, StepsOnPages}
 use Rattle.script_engine.specs.Leaving.{IsAllCommitted, LeftWithin, MayBeLeft}
 use Rattle.statement_meaning.specs.Built.{are_built}
+use Rattle.script_engine.specs.Roles.{is_control, role_of}
 use Rattle.script_engine.specs.Serving.{IsReadyEngine, MayCall, held_by}
 use Rattle.script_engine.specs.declared.engine.Engine.{Engine}
 use Rattle.script_engine.specs.declared.stop.EngineStop.{EngineStop}
 use Rattle.script_engine.specs.declared.stop.EngineStop.TheVariants.{Damaged, Device, Output}
-use Rattle.script_engine.specs.declared.transactions.Control.TheVariants as control
 
 -- the engine serves statements exactly where all its tables are of built forms
 abbrev pub IsServedByForms : {S : Type 0} → Engine S → Type 0
@@ -49,17 +49,18 @@ pub record LeavesCommitted {S : Type 0} (g : Ghosts S) (stmt : Stmt) (old new : 
   pub base : MayBeLeft old.tables.shape (held_by g old) stmt (g.state new.store).base
 
 -- What a statement did to an engine: it steps on sound pages, no damage is named of sound pages, and damage that is named is exact.
--- On any pages BEGIN, COMMIT and ROLLBACK do as the transaction's state has it.
+-- On any pages BEGIN, COMMIT and ROLLBACK do as the transaction's state has it, and only a setting changes what the run is set to.
 pub record Executes {S : Type 0} (g : Ghosts S) (stmt : Stmt) (result : Result Outcome EngineStop) (old new : Engine S) : Type 0 where
   pub steps : IfOk result (λ outcome. IsReadyEngine g old → StepsOnPages old.tables.shape (held_by g old) stmt outcome (held_by g new) × IsReadyEngine g new)
   pub may : OnOk result (MayCall g new)
   pub keeps : OnOk result (IsAllCommitted (held_by g old) → KeepsBase (held_by g old) (held_by g new))
-  pub controls : IfOk result (AnswersControl (control_of stmt) old.is_open)
+  pub controls : IfOk result (AnswersControl (role_of stmt) old.is_open)
+  pub settings : MatchResult result (λ outcome. AnswersSetting (role_of stmt) old.served old.tables.settings outcome new.tables.settings) (λ stop. new.tables.settings ≡ old.tables.settings)
   pub built : OnOk result (IsServedByForms old → IsServedByForms new)
   pub leaves : IsReadyEngine g old → LeavesCommitted g stmt old new
   pub fetches : OnOk result (IsReadyEngine g old → FetchesForQuery g old.tables.shape old.store new.store old.tables.catalog (bound_of old.tables.catalog stmt))
-  pub lists : OnOk result (IsReadyEngine g old → FetchesForListing g old.store new.store old.tables.catalog stmt)
-  pub unserved : old.served ≡ false → control_of stmt ≡ control.Other → (outcome : Outcome) → result ≡ Ok outcome → outcome ≡ said.Refused (refusal_of NotBuilt)
+  pub lists : OnOk result (IsReadyEngine g old → FetchesForListing g old.store new.store old.tables.catalog (role_of stmt))
+  pub unserved : old.served ≡ false → is_control (role_of stmt) ≡ false → (outcome : Outcome) → result ≡ Ok outcome → outcome ≡ said.Refused (refusal_of NotBuilt)
   pub damaged : (damage : Damage) → result ≡ Err (Damaged damage) → IsReadyEngine g old → ⊥
   pub exact : NamesExactly g old.tables.shape result new.store
   pub stays : (damage : Damage) → result ≡ Err (Damaged damage) → StaysAtDamage g old new
@@ -75,6 +76,6 @@ pub record ComesUnready {S : Type 0} (g : Ghosts S) (first now : Engine S) : Typ
   pub steady : Steady g first.store now.store
   pub still : g.disk_faults now.store ≡ g.disk_faults first.store
   pub is_open : now.is_open ≡ first.is_open
-  pub settings : now.settings ≡ first.settings
+  pub settings : now.tables.settings ≡ first.tables.settings
   pub pass : now.pass ≡ first.pass
   pub shape : now.tables.shape ≡ first.tables.shape

@@ -1,13 +1,16 @@
 // Damage that is met, and what it is exactly: the first rule that the pages break, and the lowest page that breaks it.
-ghost use Rattle.std.specs.Prelude.{◌≡◌, false, IsTrue, None, Err};
+ghost use Rattle.std.specs.Prelude.{◌≡◌, false, IsTrue, None, OnOk, Err};
 ghost use Rattle.store_api.specs.declared.fault.Damage.{Damage};
 ghost use Rattle.mdc_sound.specs.SoundDatabase.{IsSoundDatabase};
 ghost use Rattle.script_engine.specs.Breaking.{JudgesDamage, LoadsExactly, NamesExactly};
 ghost use Rattle.script_engine.specs.Held.{IsWritten};
 ghost use Rattle.script_engine.specs.Ready.{AreServed};
-ghost use Rattle.script_engine.specs.Trying.{AnswersBySoundPages, TriesAnew, TriesStep};
+ghost use Rattle.script_engine.specs.Roles.{role_of};
+ghost use Rattle.script_engine.specs.Trying as trying;
+ghost use Rattle.script_engine.specs.Trying.{AnswersBySoundPages, Tries, TriesStep};
 ghost use Rattle.script_engine.specs.declared.stop.EngineStop.TheVariants as stop;
 
+use crate::class::only_reads;
 use crate::opening::are_served;
 use crate::stop::EngineStop;
 use crate::tables::Tables;
@@ -56,8 +59,7 @@ pub(crate) fn load_exactly<P: Pages>(
     }
 }
 
-/// Executes a statement, without a commit. Where damage is met on sound pages, what is kept of them in memory wasn't theirs: it is
-/// read from them again, and the statement is tried once more.
+/// Executes a statement, without a commit. Where damage is met, the pages are judged, and it is tried once more where they are sound.
 pub(crate) fn try_exactly<P: Pages>(
     tables: &mut Tables,
     pages: &mut P,
@@ -76,8 +78,9 @@ pub(crate) fn try_exactly<P: Pages>(
     }
 }
 
-/// Judges the pages, and tries a statement again where they are sound.
-fn try_again<P: Pages>(
+/// Judges the pages, and tries a statement once more where they are sound, by what is read of them anew: what was kept of them in memory
+/// wasn't theirs.
+pub(crate) fn try_again<P: Pages>(
     tables: &mut Tables,
     pages: &mut P,
     stmt: &Stmt,
@@ -86,8 +89,9 @@ fn try_again<P: Pages>(
     requires written { IsWritten stmt.now }
     requires going { (P.state pages.old).ended ≡ false }
     requires unmarked { (P.state pages.old).marked ≡ None }
-    ensures tries { TriesAnew P.Pages stmt.now result pages.old pages.new tables.old tables.new }
+    ensures tries { Tries P.Pages stmt.now result pages.old pages.new tables.old tables.new }
     ensures answers { AnswersBySoundPages P.Pages stmt.now result pages.old pages.new tables.old tables.new }
+    ensures sound { OnOk result (IsTrue (P.state pages.old).is_told → IsSoundDatabase tables.old.shape (P.state pages.old).work) }
     ensures exact { NamesExactly P.Pages tables.old.shape result pages.new }
 {
     match check(tables.alloc, tables.shape, pages)? {
@@ -96,7 +100,7 @@ fn try_again<P: Pages>(
     }
 }
 
-/// Tries a statement by the catalog of the table pages. Where it isn't done, the catalog is put back that there was.
+/// Tries a statement by the catalog of the table pages. Where that changes nothing, the catalog is put back that there was.
 fn try_reloaded<P: Pages>(
     tables: &mut Tables,
     pages: &mut P,
@@ -106,7 +110,7 @@ fn try_reloaded<P: Pages>(
     requires written { IsWritten stmt.now }
     requires going { (P.state pages.old).ended ≡ false }
     requires unmarked { (P.state pages.old).marked ≡ None }
-    ensures tries { TriesAnew P.Pages stmt.now result pages.old pages.new tables.old tables.new }
+    ensures tries { Tries P.Pages stmt.now result pages.old pages.new tables.old tables.new }
     ensures answers { AnswersBySoundPages P.Pages stmt.now result pages.old pages.new tables.old tables.new }
     ensures unbroken { (damage : Damage) → result ≡ Err (stop.Damaged damage) → IsTrue (P.state pages.old).is_told → IsSoundDatabase tables.old.shape (P.state pages.old).work → ⊥ }
 {
@@ -117,14 +121,26 @@ fn try_reloaded<P: Pages>(
     }
     let kept = mem::replace(&mut tables.catalog, catalog);
     match try_statement(tables, pages, stmt) {
-        Ok(Outcome::Done(reply)) => Ok(Outcome::Done(reply)),
-        Ok(Outcome::Refused(refusal)) => {
+        Ok(outcome) => {
+            if has_changed(stmt, &outcome) {
+                return Ok(outcome);
+            }
             tables.catalog = kept;
-            Ok(Outcome::Refused(refusal))
+            Ok(outcome)
         }
         Err(stop) => {
             tables.catalog = kept;
             Err(stop)
         }
+    }
+}
+
+/// Whether a statement that was answered so may have changed pages.
+fn has_changed(stmt: &Stmt, outcome: &Outcome) -> bool
+    ensures { result ≡ trying.has_changed (role_of stmt.now) outcome.now }
+{
+    match outcome {
+        Outcome::Done(_) => !only_reads(stmt),
+        Outcome::Refused(_) => false,
     }
 }

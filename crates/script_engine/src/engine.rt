@@ -1,5 +1,5 @@
 // The engine: tables over a store, in transactions.
-ghost use Rattle.std.specs.Prelude.{◌≡◌, false, IfErr, IfOk, IsErrOf, IsTrue, OnErr, OnOk, Ok, Err};
+ghost use Rattle.std.specs.Prelude.{◌≡◌, IfErr, IfOk, IsErrOf, IsTrue, MatchResult, OnErr, OnOk, Err};
 ghost use Rattle.mdc_words.specs.Faults.{CountsFault};
 ghost use Rattle.mdc_words.specs.Time.{OverTime};
 ghost use Rattle.statement_meaning.specs.Binding.{bound_of};
@@ -9,17 +9,19 @@ ghost use Rattle.store_api.specs.Works.{Rests};
 ghost use Rattle.store_api.specs.declared.fault.Damage.{Damage};
 ghost use Rattle.mdc_sound.specs.Breaks.{IsFirstBreak};
 ghost use Rattle.script_engine.specs.Breaking.{StaysAtDamage};
+ghost use Rattle.script_engine.specs.Controls.{AnswersSetting};
 ghost use Rattle.script_engine.specs.Fetching.{FetchesForListing, FetchesForQuery};
 ghost use Rattle.script_engine.specs.Held.{IsWritten, StepsOnPages};
 ghost use Rattle.script_engine.specs.Leaving.{LeftWithin, MayBeLeft};
 ghost use Rattle.script_engine.specs.OnAnyPages.{ExecutesOnAny, IsGoingEngine};
 ghost use Rattle.script_engine.specs.Resting.{Settles};
+ghost use Rattle.script_engine.specs.Roles.{role_of};
 ghost use Rattle.script_engine.specs.Serving.{IsReadyEngine, MayCall, held_by};
 
 use crate::stop::EngineStop;
 use crate::tables::Tables;
 use mdc_ast::{Outcome, Stmt};
-use statement_meaning::{Pass, Settings};
+use statement_meaning::Pass;
 use store_api::Store;
 
 /// An engine over a store, which it owns.
@@ -31,8 +33,6 @@ pub struct Engine<S: Store> {
     pub(crate) served: bool,
     // Whether a transaction is open.
     pub(crate) is_open: bool,
-    // What the run is set to.
-    pub(crate) settings: Settings,
     // How far the cleaner's pass is.
     pub(crate) pass: Pass,
 }
@@ -49,7 +49,8 @@ impl<S: Store> Engine<S> {
     /// changed. A crash within it leaves the pages of the last commit before it, or those that it commits, and so does a stop, after
     /// which the engine takes no further call but `close`. A query brings pages of rows to hand only of blocks in whose cells a row may
     /// qualify, and LIST BLOCKS pages of the block map alone. Whatever the pages are, what BEGIN, COMMIT and ROLLBACK answer hangs on
-    /// whether a transaction is open, a refusal, a query and LIST BLOCKS change nothing, a stop commits nothing, unless a call of the
+    /// whether a transaction is open, a refusal, a query, LIST BLOCKS and EXPLAIN change nothing, SET PLAN and SET CURRENT MDC ROLLOUT
+    /// MODE alone change what the run is set to, and nothing else, a stop commits nothing, unless a call of the
     /// disk failed, and damage is exact: of the pages as they were held, the first rule that they break, and the lowest page that
     /// breaks it.
     pub fn execute(&mut self, stmt: &Stmt) -> Result<Outcome, EngineStop>
@@ -61,7 +62,8 @@ impl<S: Store> Engine<S> {
         ensures left { IsReadyEngine S.Pages self.old → OverTime S.clock S.left (LeftWithin self.old.tables.shape (held_by S.Pages self.old) stmt.now (S.state self.old.store)) self.old.store self.new.store }
         ensures base { IsReadyEngine S.Pages self.old → MayBeLeft self.old.tables.shape (held_by S.Pages self.old) stmt.now (S.state self.new.store).base }
         ensures fetches { OnOk result (IsReadyEngine S.Pages self.old → FetchesForQuery S.Pages self.old.tables.shape self.old.store self.new.store self.old.tables.catalog (bound_of self.old.tables.catalog stmt.now)) }
-        ensures lists { OnOk result (IsReadyEngine S.Pages self.old → FetchesForListing S.Pages self.old.store self.new.store self.old.tables.catalog stmt.now) }
+        ensures lists { OnOk result (IsReadyEngine S.Pages self.old → FetchesForListing S.Pages self.old.store self.new.store self.old.tables.catalog (role_of stmt.now)) }
+        ensures settings { MatchResult result (λ outcome. AnswersSetting (role_of stmt.now) self.old.served self.old.tables.settings outcome self.new.tables.settings) (λ stop. self.new.tables.settings ≡ self.old.tables.settings) }
         ensures device { CountsFault (IsErrOf result EngineStop.Device) (S.disk_faults self.old.store) (S.disk_faults self.new.store) }
         ensures damaged { (damage : Damage) → result ≡ Err (EngineStop.Damaged damage) → IsReadyEngine S.Pages self.old → ⊥ }
         ensures breaks { (damage : Damage) → result ≡ Err (EngineStop.Damaged damage) → IsTrue (S.state self.old.store).is_told → IsFirstBreak self.old.tables.shape (S.state self.new.store).work damage.rule damage.page }

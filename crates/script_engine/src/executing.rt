@@ -13,16 +13,21 @@ ghost use Rattle.extent_map.specs.declared.fault.SpaceFault.TheVariants.{Store};
 ghost use Rattle.mdc_sound.specs.StandingTable.{pages_of};
 ghost use Rattle.statement_rows.specs.RowsOfStatement.{AnyPage};
 ghost use Rattle.script_engine.specs.Defining.{IsBoundOn, MayBeExecuted};
-ghost use Rattle.script_engine.specs.Doing.{DoesStatement, DoesStep, LeavesAll, RunsFullAlone, StepRunsFull, is_query, is_reading};
-ghost use Rattle.script_engine.specs.Fetching.{FetchesForQuery};
+ghost use Rattle.script_engine.specs.Doing.{DoesReady, DoesStatement, DoesStep, LeavesAll, RunsFullAlone, StepRunsFull, is_query};
+ghost use Rattle.script_engine.specs.Fetching.{FetchesForListing, FetchesForQuery};
 ghost use Rattle.script_engine.specs.Held.{IsWritten};
 ghost use Rattle.script_engine.specs.Ready.{AreServed, BreaksDatabase, IsReady, KeepsServed};
+ghost use Rattle.script_engine.specs.Roles.{is_built_form, only_reads, role_of};
 
+use crate::class::{is_explain, listed};
 use crate::defining::{create, remove};
 use crate::deleting::delete;
+use crate::explaining::explain;
 use crate::indexing::{create_index, drop_index};
 use crate::inserting::insert;
+use crate::listing::list;
 use crate::querying::query;
+use crate::reclaiming::reclaim_blocks;
 use crate::tables::Tables;
 use crate::updating::update;
 use binder::{BindFault, WholeRows, bind, bind_whole, built};
@@ -42,14 +47,14 @@ pub fn execute<P: Pages>(
     requires served { AreServed tables.old.catalog }
     requires written { IsWritten stmt.now }
     requires going { (P.state pages.old).ended ≡ false }
-    ensures does { IfOk result (λ outcome. IsReady P.Pages pages.old tables.old → DoesStep P.Pages pages.old pages.new tables.old tables.new stmt.now outcome) }
+    ensures does { IfOk result (λ outcome. IsReady P.Pages pages.old tables.old → DoesReady P.Pages pages.old pages.new tables.old tables.new stmt.now outcome) }
     ensures refused { (refusal : Refusal) → result ≡ Ok (Outcome.Refused refusal) → LeavesAll P.Pages pages.old pages.new tables.old tables.new }
     ensures full { IfErr result (λ fault. IfFull fault (λ cap. (cap ≡ tables.old.shape.extents)
         × (IsReady P.Pages pages.old tables.old → StepRunsFull tables.old.shape (pages_of P.Pages pages.old) tables.old.catalog stmt.now))) }
-    ensures unbuilt { is_built_step stmt.now ≡ false → MatchResult result (λ outcome. outcome ≡ Outcome.Refused (refusal_of NotBuilt)) (λ fault. IfFull fault (λ cap. ⊥)) }
-    ensures reads { is_reading stmt.now ≡ true → (P.state pages.new).work ≡ (P.state pages.old).work }
-    ensures catalog { is_reading stmt.now ≡ true → tables.new.catalog ≡ tables.old.catalog }
+    ensures unbuilt { is_built_form stmt.now ≡ false → MatchResult result (λ outcome. outcome ≡ Outcome.Refused (refusal_of NotBuilt)) (λ fault. IfFull fault (λ cap. ⊥)) }
+    ensures reads { only_reads (role_of stmt.now) ≡ true → LeavesAll P.Pages pages.old pages.new tables.old tables.new }
     ensures fetches { FetchesForQuery P.Pages tables.old.shape pages.old pages.new tables.old.catalog (bound_of tables.old.catalog stmt.now) }
+    ensures lists { FetchesForListing P.Pages pages.old pages.new tables.old.catalog (role_of stmt.now) }
     ensures keeps { KeepsServed result tables.old tables.new }
     ensures runs { RunsOverPages P.Pages AnyPage AnyPage (BreaksDatabase P.Pages pages.old tables.old) pages.old pages.new (store_fault_in store_part_of result) }
 {
@@ -57,7 +62,15 @@ pub fn execute<P: Pages>(
     if let Some(whole) = whole_rows(tables, stmt)? {
         return insert(tables, pages, whole.table, whole.rows);
     }
-    execute_any(tables, pages, stmt)
+    match listed(stmt) {
+        Some(name) => Ok(list(tables, pages, name)?),
+        None => {
+            if is_explain(stmt) {
+                return Ok(explain(tables, pages, stmt)?);
+            }
+            step(tables, pages, stmt)
+        }
+    }
 }
 
 /// The rows of an INSERT that names no columns and against which nothing is said, bound in one go.
@@ -80,12 +93,8 @@ fn whole_rows(tables: &Tables, stmt: &Stmt) -> Result<Option<WholeRows>, SpaceFa
     Ok(bind_whole(tables.alloc, table, rows.as_slice(), &tables.catalog)?)
 }
 
-/// Executes a statement of any form.
-fn execute_any<P: Pages>(
-    tables: &mut Tables,
-    pages: &mut P,
-    stmt: &Stmt,
-) -> Result<Outcome, SpaceFault>
+/// Executes a statement by which a database steps, and refuses any other.
+fn step<P: Pages>(tables: &mut Tables, pages: &mut P, stmt: &Stmt) -> Result<Outcome, SpaceFault>
     requires served { AreServed tables.old.catalog }
     requires written { IsWritten stmt.now }
     requires going { (P.state pages.old).ended ≡ false }
@@ -94,8 +103,7 @@ fn execute_any<P: Pages>(
     ensures full { IfErr result (λ fault. IfFull fault (λ cap. (cap ≡ tables.old.shape.extents)
         × (IsReady P.Pages pages.old tables.old → StepRunsFull tables.old.shape (pages_of P.Pages pages.old) tables.old.catalog stmt.now))) }
     ensures unbuilt { is_built_step stmt.now ≡ false → MatchResult result (λ outcome. outcome ≡ Outcome.Refused (refusal_of NotBuilt)) (λ fault. IfFull fault (λ cap. ⊥)) }
-    ensures reads { is_reading stmt.now ≡ true → (P.state pages.new).work ≡ (P.state pages.old).work }
-    ensures catalog { is_reading stmt.now ≡ true → tables.new.catalog ≡ tables.old.catalog }
+    ensures reads { only_reads (role_of stmt.now) ≡ true → LeavesAll P.Pages pages.old pages.new tables.old tables.new }
     ensures fetches { FetchesForQuery P.Pages tables.old.shape pages.old pages.new tables.old.catalog (bound_of tables.old.catalog stmt.now) }
     ensures keeps { KeepsServed result tables.old tables.new }
     ensures runs { RunsOverPages P.Pages AnyPage AnyPage (BreaksDatabase P.Pages pages.old tables.old) pages.old pages.new (store_fault_in store_part_of result) }
@@ -123,8 +131,7 @@ fn carry_out<P: Pages>(
     ensures refused { (refusal : Refusal) → result ≡ Ok (Outcome.Refused refusal) → LeavesAll P.Pages pages.old pages.new tables.old tables.new }
     ensures full { IfErr result (λ fault. IfFull fault (λ cap. (cap ≡ tables.old.shape.extents)
         × (IsReady P.Pages pages.old tables.old → RunsFullAlone tables.old.shape (pages_of P.Pages pages.old) tables.old.catalog bound))) }
-    ensures reads { is_query bound ≡ true → (P.state pages.new).work ≡ (P.state pages.old).work }
-    ensures catalog { is_query bound ≡ true → tables.new.catalog ≡ tables.old.catalog }
+    ensures reads { is_query bound ≡ true → LeavesAll P.Pages pages.old pages.new tables.old tables.new }
     ensures fetches { FetchesForQuery P.Pages tables.old.shape pages.old pages.new tables.old.catalog bound }
     ensures keeps { KeepsServed result tables.old tables.new }
     ensures runs { RunsOverPages P.Pages AnyPage AnyPage (BreaksDatabase P.Pages pages.old tables.old) pages.old pages.new (store_fault_in store_part_of result) }
@@ -140,6 +147,7 @@ fn carry_out<P: Pages>(
         }
         Bound::Delete { table, pred } => Ok(delete(tables, pages, table, &pred)?),
         Bound::Query(select) => Ok(query(tables, pages, &select)?),
+        Bound::Reclaim(table) => Ok(reclaim_blocks(tables, pages, table)?),
         Bound::Explain(_)
         | Bound::SetRollout(_)
         | Bound::SetPlan(_)
@@ -147,7 +155,6 @@ fn carry_out<P: Pages>(
         | Bound::Clean(_)
         | Bound::CleanTable(_)
         | Bound::ListBlocks(_)
-        | Bound::Reclaim(_)
         | Bound::Begin
         | Bound::Commit
         | Bound::Rollback

@@ -157,6 +157,7 @@ fn put_rows<P: Pages>(
         × ((owners : List Kind) (forests : TableForests) → IsReadyBetween P.Pages tables.old.shape tables.old.notes (rooms_at tables.old.rooms table) pages.old def owners forests
         → InsertRunsFull tables.old.shape (pages_of P.Pages pages.old) def (numbered def.next tuples)))) }
     ensures shape { tables.new.shape ≡ tables.old.shape }
+    ensures settings { tables.new.settings ≡ tables.old.settings }
     ensures runs { RunsOverPages P.Pages AnyPage AnyPage (BreaksDatabase P.Pages pages.old tables.old) pages.old pages.new (store_fault_in store_part_of result) }
 {
     let Some(mut def) = tables.catalog.take(table) else {

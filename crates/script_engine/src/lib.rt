@@ -8,8 +8,8 @@
 //! stand for such lists, by the law here, and for no others, by one of `mdc_sound`: what is promised for each database that pages
 //! stand for is promised for just one.
 //!
-//! Whatever the pages are, a refusal, a query and LIST BLOCKS change none, BEGIN, COMMIT and ROLLBACK do as the state of the
-//! transaction has it, what isn't built is refused with 14, a stop commits nothing, unless a call of the disk failed, and damage is
+//! Whatever the pages are, a refusal, a query, LIST BLOCKS and EXPLAIN change nothing, BEGIN, COMMIT and ROLLBACK do as the state of the
+//! transaction has it, a setting changes what the run is set to and nothing else, what isn't built is refused with 14, a stop commits nothing, unless a call of the disk failed, and damage is
 //! that of the pages as they were held before the statement, at ROLLBACK of those of the last commit: the first rule that they break,
 //! and the lowest page that breaks it.
 //!
@@ -18,12 +18,14 @@
 //! rows, and on `file_check` for which rule pages break.
 #![tactic(auto)]
 
+mod class;
 mod committing;
 mod damage;
 mod defining;
 mod deleting;
 mod engine;
 mod executing;
+mod explaining;
 mod indexing;
 mod inserting;
 mod keys;
@@ -31,6 +33,7 @@ mod laws;
 mod listing;
 mod opening;
 mod querying;
+mod reclaiming;
 mod set_keys;
 mod stop;
 mod table_rooms;
@@ -39,6 +42,6 @@ mod transactions;
 mod updating;
 
 pub use engine::Engine;
-pub use laws::sound_pages_stand;
+pub use laws::{served_pages_are_valid, sound_pages_stand};
 pub use opening::Stopped;
 pub use stop::EngineStop;

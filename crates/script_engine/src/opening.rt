@@ -49,7 +49,7 @@ impl<S: Store> Engine<S> {
         ensures stored { IfOk result (λ engine. IsTrue (S.state store).is_told → AreStored (S.state store).work engine.tables.catalog) }
         ensures built { IfOk result (λ engine. IsServedByForms engine) }
         ensures closed { IfOk result (λ engine. engine.is_open ≡ false) }
-        ensures settings { IfOk result (λ engine. engine.settings ≡ first_settings) }
+        ensures settings { IfOk result (λ engine. engine.tables.settings ≡ first_settings) }
         ensures pass { IfOk result (λ engine. engine.pass ≡ Pass.Idle) }
         ensures shape { IfOk result (λ engine. engine.tables.shape ≡ shape) }
         ensures pages { MatchResult result (λ engine. KeepsPages S.Pages store engine.store) (λ stopped. KeepsPages S.Pages store stopped.store) }
@@ -72,9 +72,10 @@ impl<S: Store> Engine<S> {
 /// An engine on a store whose catalog is this.
 fn engine_on<S: Store>(alloc: Global, store: S, shape: Shape, catalog: Catalog) -> Engine<S>
     requires limits { AreWithinLimits catalog }
-    ensures is { result ≡ record { store = store; tables = result.tables; served = are_built catalog; is_open = false; settings = first_settings; pass = Pass.Idle } }
+    ensures is { result ≡ record { store = store; tables = result.tables; served = are_built catalog; is_open = false; pass = Pass.Idle } }
     ensures catalog { result.tables.catalog ≡ catalog }
     ensures shape { result.tables.shape ≡ shape }
+    ensures settings { result.tables.settings ≡ first_settings }
     ensures notes { (owners : List Kind) → AreRightNotes result.tables.shape result.tables.notes owners }
     ensures rooms { AreForgotten result.tables.rooms }
 {
@@ -85,13 +86,13 @@ fn engine_on<S: Store>(alloc: Global, store: S, shape: Shape, catalog: Catalog) 
         notes: SpaceNotes::new(),
         catalog,
         rooms: TableRooms::new(alloc),
+        settings: Settings::first(),
     };
     Engine {
         store,
         tables,
         served,
         is_open: false,
-        settings: Settings::first(),
         pass: Pass::Idle,
     }
 }

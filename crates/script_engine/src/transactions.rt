@@ -1,75 +1,31 @@
 // Statements in transactions.
-ghost use Rattle.std.specs.Prelude.{◌≡◌, false, Err, IsTrue, None, Ok, OnOk};
+ghost use Rattle.std.specs.Prelude.{◌≡◌, ◌&&◌, false, true, Err, IsTrue, None, Ok};
 ghost use Rattle.statement_meaning.specs.Session.{is_refusal};
 ghost use Rattle.store_api.specs.declared.fault.Damage.{Damage};
 ghost use Rattle.mdc_sound.specs.SoundDatabase.{IsSoundDatabase};
 ghost use Rattle.script_engine.specs.Breaking.{NamesExactly};
 ghost use Rattle.script_engine.specs.Held.{IsWritten};
-ghost use Rattle.script_engine.specs.Listing.{is_listing};
 ghost use Rattle.script_engine.specs.OnAnyPages.{ExecutesOnAny, IsGoingEngine};
 ghost use Rattle.script_engine.specs.Ready.{AreServed};
 ghost use Rattle.script_engine.specs.Reloading.{Reloads};
+ghost use Rattle.script_engine.specs.Roles.{Sets, is_built_setting, is_tried, only_reads, role_of};
 ghost use Rattle.script_engine.specs.Serving.{MayCall};
 ghost use Rattle.script_engine.specs.Trying.{TriesStep};
-ghost use Rattle.script_engine.specs.Turns as turns;
 ghost use Rattle.script_engine.specs.Turns.{ComesUnready, Executes};
 ghost use Rattle.script_engine.specs.declared.stop.EngineStop.TheVariants as stop;
 
+use crate::class::{Class, Setting, class_of};
 use crate::committing::{WRONG_COUNT, commit_counted, commit_work, is_counted};
-use crate::damage::{load_exactly, try_exactly};
+use crate::damage::{load_exactly, try_again, try_exactly};
 use crate::engine::Engine;
 use crate::executing::execute;
-use crate::listing::listed;
 use crate::opening::are_served;
 use crate::stop::EngineStop;
 use crate::tables::Tables;
 use extent_map::SpaceFault;
-use file_check::{Verdict, check};
 use mdc_ast::{Outcome, Reply, Stmt};
 use row_checks::{file_full, not_built, not_in_state};
 use store_api::{Pages, Store};
-
-/// What a statement is to a transaction.
-#[derive(Clone, Copy, Debug, PartialEq, Eq)]
-pub(crate) enum Control {
-    Begin,
-    Commit,
-    Rollback,
-    Other,
-}
-
-/// Which of BEGIN, COMMIT and ROLLBACK a statement is, if one of them.
-fn control_of(stmt: &Stmt) -> Control
-    ensures { result ≡ turns.control_of stmt.now }
-{
-    match stmt {
-        Stmt::Begin => Control::Begin,
-        Stmt::Commit => Control::Commit,
-        Stmt::Rollback => Control::Rollback,
-        Stmt::CreateTable { .. }
-        | Stmt::CreateIndex { .. }
-        | Stmt::DropTable(_)
-        | Stmt::DropIndex(_)
-        | Stmt::Insert { .. }
-        | Stmt::Update { .. }
-        | Stmt::Delete { .. }
-        | Stmt::Query(_)
-        | Stmt::Explain(_)
-        | Stmt::SetRollout(_)
-        | Stmt::SetPlan(_)
-        | Stmt::SetPace(_)
-        | Stmt::Clean(_)
-        | Stmt::CleanTable(_)
-        | Stmt::ListBlocks(_)
-        | Stmt::Reclaim(_)
-        | Stmt::AddColumn { .. }
-        | Stmt::OpenReader(_)
-        | Stmt::CloseReader(_)
-        | Stmt::Reader(..)
-        | Stmt::Join(_)
-        | Stmt::Reorg(_) => Control::Other,
-    }
-}
 
 /// Whether a statement was refused.
 fn is_refused(outcome: &Outcome) -> bool
@@ -89,14 +45,13 @@ impl<S: Store> Engine<S> {
         ensures executes { Executes S.Pages stmt.now result self.old self.new }
         ensures any { IsGoingEngine S.Pages self.old → ExecutesOnAny S.Pages stmt.now result self.old self.new }
     {
-        if let Some(name) = listed(stmt) {
-            return self.list_blocks(name);
-        }
-        match control_of(stmt) {
-            Control::Begin => Ok(self.begin()),
-            Control::Commit => self.commit(),
-            Control::Rollback => self.roll_back(),
-            Control::Other => self.change(stmt),
+        match class_of(stmt) {
+            Class::Begin => Ok(self.begin()),
+            Class::Commit => self.commit(),
+            Class::Rollback => self.roll_back(),
+            Class::Set(setting) => Ok(self.set(setting)),
+            Class::List(_) | Class::Explain(_) | Class::Query => self.read(stmt),
+            Class::Change | Class::Unbuilt => self.change(stmt),
         }
     }
 
@@ -144,13 +99,49 @@ impl<S: Store> Engine<S> {
         Ok(Outcome::Done(Reply::Done))
     }
 
-    /// Any other statement. Its change is committed where no transaction is open.
+    /// SET PLAN or SET CURRENT MDC ROLLOUT MODE. It is the run that is set, and not the database: no page changes, and ROLLBACK leaves it.
+    #[tactic(auto, using(crate::proofs::LeavingLemmas::leaves_still))]
+    fn set(&mut self, setting: Setting) -> Outcome
+        requires may { MayCall S.Pages self.old }
+        ensures executes { (stmt : Stmt) → role_of stmt ≡ Sets setting → Executes S.Pages stmt (Ok result) self.old self.new }
+        ensures any { (stmt : Stmt) → role_of stmt ≡ Sets setting → IsGoingEngine S.Pages self.old → ExecutesOnAny S.Pages stmt (Ok result) self.old self.new }
+    {
+        if !self.takes(setting) {
+            return Outcome::Refused(not_built(self.tables.alloc));
+        }
+        self.tables.settings = setting.on(self.tables.settings);
+        Outcome::Done(Reply::Done)
+    }
+
+    /// Whether a setting is taken: it is built, and statements are served.
+    fn takes(&self, setting: Setting) -> bool
+        ensures { result ≡ (self.now.served && is_built_setting setting) }
+    {
+        self.served && setting.is_built()
+    }
+
+    /// A statement that changes nothing, in a transaction or outside of one.
+    #[tactic(auto, using(crate::proofs::LeavingLemmas::leaves_still, crate::proofs::FetchesForQueryLemmas::fetches_none, crate::proofs::FetchesForListingLemmas::lists_none))]
+    fn read(&mut self, stmt: &Stmt) -> Result<Outcome, EngineStop>
+        requires may { MayCall S.Pages self.old }
+        requires written { IsWritten stmt.now }
+        requires reading { only_reads (role_of stmt.now) ≡ true }
+        ensures executes { Executes S.Pages stmt.now result self.old self.new }
+        ensures any { IsGoingEngine S.Pages self.old → ExecutesOnAny S.Pages stmt.now result self.old self.new }
+    {
+        if !self.served {
+            return Ok(Outcome::Refused(not_built(self.tables.alloc)));
+        }
+        try_exactly(&mut self.tables, &mut self.store, stmt)
+    }
+
+    /// A statement that may change pages, or whose form isn't built. Its change is committed where no transaction is open.
     #[tactic(auto, using(crate::proofs::LeavingLemmas::leaves_still, crate::proofs::FetchesForQueryLemmas::fetches_none))]
     fn change(&mut self, stmt: &Stmt) -> Result<Outcome, EngineStop>
         requires may { MayCall S.Pages self.old }
         requires written { IsWritten stmt.now }
-        requires other { turns.control_of stmt.now ≡ Control.Other }
-        requires changing { is_listing stmt.now ≡ false }
+        requires other { is_tried (role_of stmt.now) ≡ true }
+        requires changing { only_reads (role_of stmt.now) ≡ false }
         ensures executes { Executes S.Pages stmt.now result self.old self.new }
         ensures any { IsGoingEngine S.Pages self.old → ExecutesOnAny S.Pages stmt.now result self.old self.new }
     {
@@ -171,22 +162,22 @@ impl<S: Store> Engine<S> {
         Ok(outcome)
     }
 
-    /// The same of a statement behind which page 0 doesn't state how many pages there are. Goes back to the pages of the last commit,
-    /// and judges them. Where they are sound, what was kept of them in memory wasn't theirs: the statement is tried once more by what
-    /// is read of them anew. Of told pages page 0 then states the count.
+    /// The same of a statement behind which page 0 doesn't state how many pages there are: it goes back to the pages of the last commit,
+    /// and is tried once more where they are sound. Of told pages page 0 then states the count.
     fn change_anew(&mut self, stmt: &Stmt) -> Result<Outcome, EngineStop>
         requires going { (S.state self.old.store).ended ≡ false }
         requires written { IsWritten stmt.now }
-        requires other { turns.control_of stmt.now ≡ Control.Other }
-        requires changing { is_listing stmt.now ≡ false }
+        requires other { is_tried (role_of stmt.now) ≡ true }
+        requires changing { only_reads (role_of stmt.now) ≡ false }
         ensures executes { (first : Engine S) → ComesUnready S.Pages first self.old → Executes S.Pages stmt.now result first self.new }
         ensures any { (first : Engine S) → ComesUnready S.Pages first self.old → IsGoingEngine S.Pages first → ExecutesOnAny S.Pages stmt.now result first self.new }
     {
-        self.served = go_back_to_sound(&mut self.tables, &mut self.store)?;
-        if !self.served {
+        let served = go_back(&mut self.tables, &mut self.store)?;
+        self.served = served;
+        if !served {
             return Ok(Outcome::Refused(not_built(self.tables.alloc)));
         }
-        let outcome = try_statement(&mut self.tables, &mut self.store, stmt)?;
+        let outcome = try_again(&mut self.tables, &mut self.store, stmt)?;
         if is_refused(&outcome) {
             return Ok(outcome);
         }
@@ -196,20 +187,6 @@ impl<S: Store> Engine<S> {
         }
         commit_counted(&mut self.store)?;
         Ok(outcome)
-    }
-}
-
-/// Goes back to the pages of the last commit, judges them, and answers whether their tables are of forms that are built.
-fn go_back_to_sound<S: Store>(tables: &mut Tables, store: &mut S) -> Result<bool, EngineStop>
-    requires going { (S.state store.old).ended ≡ false }
-    ensures reloads { Reloads S.Pages result store.old store.new tables.old tables.new }
-    ensures exact { NamesExactly S.Pages tables.old.shape result store.new }
-    ensures sound { OnOk result (IsTrue (S.state store.old).is_told → IsSoundDatabase tables.old.shape (S.state store.old).base) }
-{
-    let served = go_back(tables, store)?;
-    match check(tables.alloc, tables.shape, store)? {
-        Verdict::Broken(damage) => Err(EngineStop::Damaged(damage)),
-        Verdict::Sound => Ok(served),
     }
 }
 

@@ -1,7 +1,7 @@
-// The same scripts on the plain engine and on the engine over a store.
+// The same scripts on the reference engine and on the engine over a store.
 ghost use Rattle.std.specs.Prelude.{◌≡◌, false, None, IfOk, OnOk};
 ghost use Rattle.script_engine.specs.Serving.{MayCall};
-ghost use Rattle.script_session.specs.Written.{IsReadWritten};
+ghost use Rattle.session.specs.script.Written.{IsReadWritten};
 
 use crate::mixed::{Drawn, script_of};
 use crate::reference::answer_plainly;
@@ -51,7 +51,7 @@ impl Compared {
 // Executes a statement on both engines.
 fn answer_both<S: Store>(
     alloc: Global,
-    plain: &mut plain_engine::Engine,
+    plain: &mut reference_engine::Engine,
     engine: &mut Engine<S>,
     read: Read,
     compared: &mut Compared,
@@ -79,7 +79,7 @@ fn compare_all<I: Source, S: Store>(
     requires may { MayCall S.Pages engine.old }
     ensures may { OnOk result (MayCall S.Pages engine.new) }
 {
-    let mut plain = plain_engine::Engine::new(alloc)?;
+    let mut plain = reference_engine::Engine::new(alloc)?;
     let mut statements = reader(alloc)?;
     let mut compared = Compared {
         statements: 0,
@@ -107,7 +107,7 @@ fn compare<S: Store + Drop>(alloc: Global, store: S, script: &[u8]) -> Result<(C
     Ok((compared, engine.close()))
 }
 
-// How many blocks there are at the end, which the plain engine can't tell, and the rows.
+// How many blocks there are at the end, which the reference engine can't tell, and the rows. They don't depend on modes either.
 const END: &[u8] = b"LIST BLOCKS P;
 LIST BLOCKS Q;
 SELECT * FROM P;
@@ -141,27 +141,40 @@ fn compare_drawn<S: Store + Drop>(
     Ok((compared, end.as_slice() == kept.as_slice()))
 }
 
-// Compares both engines on the script that is drawn for a seed.
-fn compare_seed(alloc: Global, seed: u64) -> Result<(Compared, bool), Fail> {
-    let drawn = script_of(alloc, seed, 150)?;
+// Compares both engines on the script that is drawn for a seed, in one of eight modes.
+fn compare_seed(alloc: Global, seed: u64, modes: usize) -> Result<(Compared, bool), Fail> {
+    let drawn = script_of(alloc, seed, 150, modes)?;
     if drawn.taken_back == 0 {
         return Err("no ROLLBACK of a statement")?;
     }
     compare_drawn(alloc, fresh_store(alloc)?, fresh_store(alloc)?, &drawn)
 }
 
+// Each script under each of the plan modes and of the rollout modes, of which no reply of these statements tells.
 #[test]
 fn both_engines_answer_alike(rt: HostRuntime) -> Result<(), Fail> {
     let mut keys: u32 = 0;
-    for seed in 5..13 {
-        let (compared, is_kept) = compare_seed(rt.alloc(), seed)?;
-        assert_eq!(rt; compared.statements, 158, "with the seed {seed}");
-        assert_eq!(rt; compared.alike, 158, "with the seed {seed}");
-        assert!(rt; is_kept, "with the seed {seed}");
-        assert!(rt; compared.refused < 100, "with the seed {seed}");
-        assert!(rt; compared.not_now > 0, "with the seed {seed}");
+    for run in 40..72 {
+        let seed: u64 = run / 8;
+        let modes = (run % 8) as usize;
+        let (compared, is_kept) = compare_seed(rt.alloc(), seed, modes)?;
+        assert_eq!(rt;
+            compared.statements,
+            160,
+            "with the seed {seed} in mode {modes}"
+        );
+        assert_eq!(rt; compared.alike, 160, "with the seed {seed} in mode {modes}");
+        assert!(rt; is_kept, "with the seed {seed} in mode {modes}");
+        assert!(rt;
+            compared.refused < 100,
+            "with the seed {seed} in mode {modes}"
+        );
+        assert!(rt;
+            compared.not_now > 0,
+            "with the seed {seed} in mode {modes}"
+        );
         keys = keys.saturating_add(compared.keys);
     }
-    assert!(rt; keys > 20, "{keys} refused for their keys");
+    assert!(rt; keys > 40, "{keys} refused for their keys");
     Ok(())
 }

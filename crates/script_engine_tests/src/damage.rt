@@ -120,16 +120,23 @@ fn what_needs_the_stated_rows_of_a_page_stops(rt: HostRuntime) -> Result<(), Fai
     Ok(())
 }
 
-// The line of block 2 has its count at 21 of page 18. With another number of rows than there are, what reads them stops.
+// The line of block 2 has its count at 21 of page 18. With another number of rows than there are, what reads them stops. A DELETE by
+// whole blocks counts by the line.
 #[test]
 fn a_block_with_fewer_rows_than_it_has_stops_what_reads_them(rt: HostRuntime) -> Result<(), Fail> {
     let fewer = [bytes_at(18, 22, b"\x01")];
     let named = damage_of(8, 22);
     stops(&rt, &fewer, b"SELECT * FROM T", named)?;
     stops(&rt, &fewer, b"SELECT B FROM T WHERE R = 7", named)?;
-    stops(&rt, &fewer, b"DELETE FROM T WHERE A = 1", named)?;
-    stops(&rt, &fewer, b"DELETE FROM T", named)?;
+    stops(&rt, &fewer, b"DELETE FROM T WHERE A = 1 AND B < 50", named)?;
+    stops(&rt, &fewer, b"DELETE FROM T WHERE B < 50", named)?;
     stops(&rt, &fewer, b"UPDATE T SET A = 5 WHERE A = 1", named)?;
+    goes_on(
+        &rt,
+        &fewer,
+        b"DELETE FROM T WHERE A = 1",
+        b"1 ROWS DELETED\n",
+    )?;
     goes_on(&rt, &fewer, OTHER_BLOCKS, OTHER_BLOCKS_SAID)?;
     Ok(())
 }
@@ -409,10 +416,10 @@ fn finds(
 fn what_was_answered_before_a_stop_stays(rt: HostRuntime) -> Result<(), Fail> {
     let fewer = [bytes_at(18, 22, b"\x01")];
     let last = b"SELECT X FROM U; LIST BLOCKS T";
-    let script = b"INSERT INTO U VALUES (3); DELETE FROM T WHERE A = 1";
+    let script = b"INSERT INTO U VALUES (3); DELETE FROM T WHERE B < 50";
     let said = b"X\n1\n2\n3\n3 ROWS\nUSED 3 FREE 0 PENDING 0\n";
     finds(&rt, &fewer, script, last, said)?;
-    let script = b"BEGIN; INSERT INTO U VALUES (3); DELETE FROM T WHERE A = 1";
+    let script = b"BEGIN; INSERT INTO U VALUES (3); DELETE FROM T WHERE B < 50";
     let said = b"X\n1\n2\n2 ROWS\nUSED 3 FREE 0 PENDING 0\n";
     finds(&rt, &fewer, script, last, said)?;
     Ok(())

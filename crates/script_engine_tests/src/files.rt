@@ -69,7 +69,7 @@ fn a_stop_at_damage_leaves_the_file_of_the_last_commit(rt: HostRuntime) -> Resul
     let alloc = rt.alloc();
     let host = made(MemHost::new(alloc, None, Vec::new(alloc)))?;
     let broken = [bytes_at(22, 0, b"S")];
-    let script = b"INSERT INTO U VALUES (3); BEGIN; INSERT INTO U VALUES (4); DELETE FROM T";
+    let script = b"INSERT INTO U VALUES (3); BEGIN; INSERT INTO U VALUES (4); UPDATE T SET A = 2";
     let (damage, host) = tried_in(alloc, host, MAKING, &broken, script)?;
     assert_eq!(rt; damage, damage_of(7, 22));
     let host = run_in(alloc, host, b"SELECT X FROM U")?;

@@ -4,7 +4,7 @@
 //! It promises what a caller of the engine has to know of each statement that a reader gives (`next_written`), and lends a store, an
 //! engine and patches of pages to tests of other crates.
 //! Each scenario is a function over any store, so that its proof knows no concrete one. What is answered is written by hand from
-//! docs/SQL.md, or is what the plain engine answers; which damage is named, and at which claim a file is full, is worked out by hand
+//! docs/SQL.md, or is what the reference engine answers; which damage is named, and at which claim a file is full, is worked out by hand
 //! from docs/FORMAT.md. Behind scripts that are drawn or run full the check finds sound pages.
 #![tactic(auto)]
 
@@ -30,14 +30,20 @@ mod mixed;
 mod numbers;
 mod patches;
 #[cfg(test)]
+mod plans;
+#[cfg(test)]
 mod reference;
 #[cfg(test)]
 mod reopening;
+#[cfg(test)]
+mod rollout;
 #[cfg(test)]
 mod scripts;
 mod stores;
 #[cfg(test)]
 mod transactions;
+#[cfg(test)]
+mod unread;
 mod written;
 
 pub use patches::{Patch, bytes_at, write_over};

@@ -18,8 +18,8 @@ SELECT * FROM Q;
 
 static CONTROLS: [&[u8]; 3] = [b"BEGIN", b"COMMIT WORK", b"ROLLBACK"];
 
-// Definitions, of which most are refused: the tables are mostly there.
-static DEFINITIONS: [&[u8]; 10] = [
+// Definitions, of which most are refused: the tables are mostly there. And free blocks are given back.
+static DEFINITIONS: [&[u8]; 12] = [
     b"CREATE TABLE P (A INTEGER, B CHAR(4), C BIGINT, D DATE, E CHAR(8)) ORGANIZE BY (A)",
     b"CREATE TABLE Q (A INTEGER NOT NULL, B CHAR(4), C BIGINT, D DATE, E CHAR(8)) ORGANIZE BY (D, (B, A))",
     b"CREATE TABLE R (A INTEGER, A DATE) ORGANIZE BY (A)",
@@ -30,6 +30,20 @@ static DEFINITIONS: [&[u8]; 10] = [
     b"CREATE INDEX I ON P (E, C DESC)",
     b"DROP INDEX U",
     b"CREATE UNIQUE INDEX U ON P (A, C DESC)",
+    b"REORG TABLE P RECLAIM EXTENTS",
+    b"REORG TABLE Q RECLAIM EXTENTS",
+];
+
+// How rows are found and how they go, in each plan mode and each rollout mode.
+static MODES: [&[u8]; 8] = [
+    b"SET PLAN AUTO; SET CURRENT MDC ROLLOUT MODE IMMEDIATE;\n",
+    b"SET PLAN BLOCK; SET CURRENT MDC ROLLOUT MODE IMMEDIATE;\n",
+    b"SET PLAN RECORD; SET CURRENT MDC ROLLOUT MODE IMMEDIATE;\n",
+    b"SET PLAN SCAN; SET CURRENT MDC ROLLOUT MODE IMMEDIATE;\n",
+    b"SET PLAN AUTO; SET CURRENT MDC ROLLOUT MODE NONE;\n",
+    b"SET PLAN BLOCK; SET CURRENT MDC ROLLOUT MODE NONE;\n",
+    b"SET PLAN RECORD; SET CURRENT MDC ROLLOUT MODE NONE;\n",
+    b"SET PLAN SCAN; SET CURRENT MDC ROLLOUT MODE NONE;\n",
 ];
 
 static TABLES: [&[u8]; 2] = [b"P", b"Q"];
@@ -189,7 +203,7 @@ pub struct Drawn {
 }
 
 impl Drawn {
-    // The script of the first two statements.
+    // The script of the statements at the beginning.
     fn new(alloc: Global) -> Result<Drawn, Fail> {
         Ok(Drawn {
             script: Vec::from_slice(alloc, BEGINNING)?,
@@ -198,6 +212,14 @@ impl Drawn {
             is_open: false,
             taken_back: 0,
         })
+    }
+
+    // The run begins in one of the modes. What is kept has none of its own.
+    fn set(&mut self, modes: usize) -> Result<(), Fail> {
+        if let Some(settings) = MODES.get(modes) {
+            self.script.extend_from_slice(settings)?;
+        }
+        Ok(())
     }
 
     // A statement more, which isn't one of BEGIN, COMMIT and ROLLBACK.
@@ -255,10 +277,11 @@ fn draw(alloc: Global, dice: &mut Dice, drawn: &mut Drawn) -> Result<(), Fail> {
     drawn.add(statement.as_slice())
 }
 
-/// A script of so many statements besides the first two, and a COMMIT and two queries at the end.
-pub fn script_of(alloc: Global, seed: u64, many: u32) -> Result<Drawn, Fail> {
+/// A script of so many statements besides those at the beginning, in one of eight modes, and a COMMIT and two queries at the end.
+pub fn script_of(alloc: Global, seed: u64, many: u32, modes: usize) -> Result<Drawn, Fail> {
     let mut dice = Dice { number: seed };
     let mut drawn = Drawn::new(alloc)?;
+    drawn.set(modes)?;
     for _ in 0..many {
         draw(alloc, &mut dice, &mut drawn)?;
     }

@@ -1,11 +1,11 @@
-// The plain engine, which engines over pages are compared with.
+// The reference engine, which engines over pages are compared with.
 use crate::scripts::reply_to;
 use mdc_ast::Stmt;
-use plain_engine::Engine;
+use reference_engine::Engine;
 use std::alloc::Global;
 use std::test::Fail;
 
-/// Puts the reply of the plain engine to a statement into a text, in the place of what was there. It is empty where lists of rows
+/// Puts the reply of the reference engine to a statement into a text, in the place of what was there. It is empty where lists of rows
 /// don't tell it.
 pub fn answer_plainly(
     alloc: Global,

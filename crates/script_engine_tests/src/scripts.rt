@@ -3,9 +3,9 @@ ghost use Rattle.std.specs.Prelude.{◌≡◌, false, Err, None, IfNone, IfOk, O
 ghost use Rattle.store_api.specs.declared.fault.Damage.{Damage};
 ghost use Rattle.script_engine.specs.Breaking.{StaysAtDamage};
 ghost use Rattle.script_engine.specs.Serving.{MayCall};
-ghost use Rattle.script_session.specs.Written.{IsReadWritten};
+ghost use Rattle.session.specs.script.Written.{IsReadWritten};
 
-use crate::stores::engine_on;
+use crate::stores::{engine_on, fresh_store};
 use crate::written::{next_written, reader};
 use answer_text::outcome_bytes;
 use entry_tree_tests::extents_of;
@@ -15,6 +15,7 @@ use mdc_outside::{MemSource, Source};
 use script_engine::{Engine, EngineStop};
 use sql_reader::Read;
 use std::alloc::Global;
+use std::process::Abort;
 use std::test::Fail;
 use store_api::{Damage, Pages, Store};
 
@@ -174,4 +175,12 @@ fn are_sound<P: Pages>(alloc: Global, pages: &mut P, cap: u32) -> Result<bool, F
     requires going { (P.state pages.old).ended ≡ false }
 {
     Ok(check(alloc, extents_of(cap)?, pages)? == Verdict::Sound)
+}
+
+/// A script on an empty database is answered so, and the pages are sound behind it.
+pub fn answers(rt: &(impl Abort + AllocGlobal), script: &[u8], replies: &[u8]) -> Result<(), Fail> {
+    let alloc = rt.alloc();
+    let said = sound_on(alloc, fresh_store(alloc)?, AMPLE, script)?;
+    assert_eq!(rt; said.as_slice(), replies, "{}", script.escape_ascii());
+    Ok(())
 }

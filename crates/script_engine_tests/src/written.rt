@@ -5,7 +5,7 @@ ghost use Rattle.sql_reader.specs.Holding.{work_left};
 ghost use Rattle.sql_reader.specs.Progress.{Progress};
 ghost use Rattle.sql_reader.specs.Standing.{IsAt};
 ghost use Rattle.sql_reader.specs.Step.{GoesOn};
-ghost use Rattle.script_session.specs.Written.{IsReadWritten};
+ghost use Rattle.session.specs.script.Written.{IsReadWritten};
 ghost use Rattle.script_engine_tests.specs.Written.{IsReading};
 
 use mdc_outside::Source;

@@ -142,7 +142,7 @@ delete_at db place table pred valid at =
 -- ---- the record indexes of one table
 
 -- a definition with other record indexes
-with_indexes_valid : (place : ℕ) (def : TableDef) (indexes : List IndexDef) → IsValidDef place def → length indexes ≤ 8 → AllByRecursion (IsValidIndex def.columns) indexes → IsValidDef place (record def { indexes = indexes })
+pub with_indexes_valid : (place : ℕ) (def : TableDef) (indexes : List IndexDef) → IsValidDef place def → length indexes ≤ 8 → AllByRecursion (IsValidIndex def.columns) indexes → IsValidDef place (record def { indexes = indexes })
 with_indexes_valid place def indexes is few valid = record {
   stands = is.stands;
   short = is.short;
@@ -357,6 +357,8 @@ step_keeps_built db statement valid = keeps_by db (faults db statement) (effect 
     by_form (stmt.Update name sets text) e = update_keeps db name sets text valid (built true _ e)
     by_form (stmt.Delete name text) e = delete_keeps db name text valid
     by_form (stmt.Query select) e = query_keeps db select.table _ (λ place columns. refl) valid
+    by_form (stmt.Explain select) e = query_keeps db select.table _ (λ place columns. refl) valid
+    by_form (stmt.Reclaim name) e = query_keeps db name _ (λ place columns. refl) valid
     by_form s e = valid
 
 -- and where a table is of a form that isn't built nothing is done

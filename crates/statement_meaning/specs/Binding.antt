@@ -228,4 +228,6 @@ bound_of defs (stmt.Update name sets text) =
     bound_on defs name (λ place columns. bound.Update place (map (bound_set columns) sets) (bound_where columns text))
 bound_of defs (stmt.Delete name text) = bound_on defs name (λ place columns. bound.Delete place (bound_where columns text))
 bound_of defs (stmt.Query select) = bound_on defs select.table (λ place columns. bound.Query (bound_select place columns select))
+bound_of defs (stmt.Explain select) = bound_on defs select.table (λ place columns. bound.Explain (bound_select place columns select))
+bound_of defs (stmt.Reclaim name) = bound_on defs name (λ place columns. bound.Reclaim place)
 bound_of defs statement = bound.Begin

@@ -164,6 +164,7 @@ effect db (bound.Update place sets pred) = (changed_at db place (changed_table s
 effect db (bound.Delete place pred) = (changed_at db place (left_table pred), Deleted (length (hits pred (table_at db place))))
 effect db (bound.Query select) =
     (db, Lines (lines_of (columns_at (table_at db select.table)) (shape_of select) (hits select.pred (table_at db select.table))))
+effect db (bound.Reclaim place) = (db, Done)
 effect db statement = (db, Done)
 
 -- ---- keys

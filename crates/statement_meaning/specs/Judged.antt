@@ -23,7 +23,7 @@ use Rattle.mdc_ast.specs.declared.statement.SetItem.{SetItem}
 use Rattle.mdc_ast.specs.declared.statement.SetItem.TheVariants.{One, Two}
 use Rattle.mdc_ast.specs.declared.statement.SetText.{SetText}
 use Rattle.mdc_ast.specs.declared.statement.Stmt.{Stmt}
-use Rattle.mdc_ast.specs.declared.statement.Stmt.TheVariants.{CreateIndex, CreateTable, DropIndex, DropTable, Insert, Update, Delete, Query}
+use Rattle.mdc_ast.specs.declared.statement.Stmt.TheVariants.{CreateIndex, CreateTable, DropIndex, DropTable, Insert, Update, Delete, Query, Explain, Reclaim}
 use Rattle.mdc_ast.specs.declared.statement.TypeText.{TypeText}
 use Rattle.mdc_ast.specs.declared.statement.TypeText.TheVariants as type
 use Rattle.statement_meaning.specs.Cause.{Cause, cause_if, TableExists, ColumnTwice, IndexExists, NoIndex, Limit, NotGrouped, WrongType, OutOfRange, WrongCount, GivenGenerated}
@@ -315,7 +315,7 @@ query_judged select columns =
 
 -- ---- any statement that is built
 
--- what is said against a statement by its text and the definitions alone
+-- what is said against a statement by its text and the definitions alone; of EXPLAIN what is said of its query
 abbrev pub judged_of : Definitions → Stmt → Judged
 judged_of defs (CreateTable name columns dims) = create_judged defs name columns dims
 judged_of defs (CreateIndex name unique table parts) = on_defined table (def_named defs table) (index_judged defs name parts)
@@ -326,4 +326,6 @@ judged_of defs (Update name sets pred) =
     on_table name (def_named defs name) (λ columns. then_judged (sets_judged sets columns) (where_judged columns pred))
 judged_of defs (Delete name pred) = on_table name (def_named defs name) (λ columns. where_judged columns pred)
 judged_of defs (Query select) = on_table select.table (def_named defs select.table) (query_judged select)
+judged_of defs (Explain select) = on_table select.table (def_named defs select.table) (query_judged select)
+judged_of defs (Reclaim name) = on_table name (def_named defs name) (λ columns. no_fault)
 judged_of defs stmt = no_fault

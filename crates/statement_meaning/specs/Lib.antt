@@ -11,5 +11,6 @@ pub mod Orders
 pub mod Queries
 pub mod Rows
 pub mod Session
+pub mod SettingsLaws
 pub mod Step
 pub mod Texts

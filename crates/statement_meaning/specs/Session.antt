@@ -8,15 +8,19 @@ use Rattle.mdc_ast.specs.declared.reply.Outcome.{Outcome}
 use Rattle.mdc_ast.specs.declared.reply.Outcome.TheVariants as outcome
 use Rattle.mdc_ast.specs.declared.reply.Reply.TheVariants as reply
 use Rattle.mdc_ast.specs.declared.statement.PlanMode.TheVariants.{Auto}
+use Rattle.mdc_ast.specs.declared.statement.RolloutMode.{RolloutMode}
 use Rattle.mdc_ast.specs.declared.statement.RolloutMode.TheVariants.{Immediate}
+use Rattle.mdc_ast.specs.declared.statement.Select.{Select}
 use Rattle.mdc_ast.specs.declared.statement.Stmt.{Stmt}
 use Rattle.mdc_ast.specs.declared.statement.Stmt.TheVariants as stmt
 use Rattle.mdc_ast.specs.Database.{Database, defs_of}
 use Rattle.mdc_ast.specs.Definitions.{Definitions, def_named}
 use Rattle.mdc_ast.specs.Reading.{Item, Statement}
 use Rattle.mdc_ast.specs.Reading as reading
-use Rattle.statement_meaning.specs.Built.{are_built}
-use Rattle.statement_meaning.specs.Cause.{NoTable, NotBuilt, State, refusal_of}
+use Rattle.statement_meaning.specs.Built.{are_built, is_built_mode}
+use Rattle.statement_meaning.specs.Cause.{Cause, NoTable, NotBuilt, State, refusal_of}
+use Rattle.statement_meaning.specs.Judged.{judged_of}
+use Rattle.statement_meaning.specs.Judging.{in_order}
 use Rattle.statement_meaning.specs.Step.{Answer, Refused, Replied, ToldByPages, step}
 use Rattle.statement_meaning.specs.declared.pass.Pass.{Pass}
 use Rattle.statement_meaning.specs.declared.pass.Pass.TheVariants.{Idle}
@@ -72,6 +76,18 @@ abbrev pub rolled_back : Session → Bool → Session × Answer
 rolled_back session true = (record session { working = session.kept; open_ = false }, Replied reply.Done)
 rolled_back session false = not_now session
 
+-- ---- settings
+
+-- the session with other settings; 14 where a table is of a form that isn't built
+abbrev pub set_to : Session → Settings → Session × Answer
+set_to session settings =
+    if are_built (defs_of session.working) then (record session { settings = settings }, Replied reply.Done) else (session, Refused (refusal_of NotBuilt))
+
+-- another rollout mode; 14 where it isn't built
+abbrev pub set_rollout : Session → RolloutMode → Session × Answer
+set_rollout session mode =
+    if is_built_mode mode then set_to session (record session.settings { rollout = mode }) else (session, Refused (refusal_of NotBuilt))
+
 -- ---- turns
 
 -- what is answered to LIST BLOCKS of a table of that name: the pages tell its blocks, and where there is none it is refused with 21
@@ -83,12 +99,25 @@ listed_of name (Some def) = ToldByPages
 abbrev pub listed : Definitions → Name → Answer
 listed defs name = if are_built defs then listed_of name (def_named defs name) else Refused (refusal_of NotBuilt)
 
+-- what is answered to EXPLAIN for what is said against its query: the first cause, or else what the pages tell, by which no sum is
+-- formed
+abbrev pub explained_for : List Cause → Answer
+explained_for [] = ToldByPages
+explained_for (cause ∷ causes) = Refused (refusal_of cause)
+
+-- what is answered to EXPLAIN of a query: 14 where a table is of a form that isn't built
+abbrev pub explained : Database → Select → Answer
+explained db select = if are_built (defs_of db) then explained_for (in_order (judged_of (defs_of db) (stmt.Query select))) else Refused (refusal_of NotBuilt)
+
 -- a statement in a session, with its answer
 abbrev pub turn : Session → Stmt → Session × Answer
 turn session stmt.Begin = begun session session.open_
 turn session stmt.Commit = committed session session.open_
 turn session stmt.Rollback = rolled_back session session.open_
+turn session (stmt.SetPlan mode) = set_to session (record session.settings { plan = mode })
+turn session (stmt.SetRollout mode) = set_rollout session mode
 turn session (stmt.ListBlocks name) = (session, listed (defs_of session.working) name)
+turn session (stmt.Explain select) = (session, explained session.working select)
 turn session statement = stepped session (step session.working statement)
 
 -- an item in a session: what can't be read is refused, and changes nothing

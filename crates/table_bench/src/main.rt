@@ -2,7 +2,7 @@
 //! `table_bench fill FILE ROWS SEED`.
 //!
 //! `show` prints each table in order of its place: its columns, dimensions and record indexes, and its rows by number, with
-//! values as a reply shows them. It stands on `plain_reading`, which looks at no index, so that anyone can judge the
+//! values as a reply shows them. It stands on `reference_reader`, which looks at no index, so that anyone can judge the
 //! layers above by `docs/FORMAT.md`. An empty database shows nothing.
 //!
 //! `fill` makes a table W in a database without one in place 0, puts so many rows into it, changes every fifth and deletes

@@ -3,7 +3,7 @@ use crate::setup::{opened, shape_of};
 use crate::stop::Stop;
 use crate::table_text::append_table;
 use mdc_outside::Host;
-use plain_reading::{ReadTable, read_database};
+use reference_reader::{ReadTable, read_database};
 use std::alloc::Global;
 
 /// Shows the tables of a file, in order of their places.

@@ -5,7 +5,7 @@ use crate::rows::append_rows;
 use crate::text::{append, append_name, append_number};
 use mdc_ast::TableDef;
 use mdc_values::Memory;
-use plain_reading::ReadTable;
+use reference_reader::ReadTable;
 
 /// Appends the lines of the table at a place.
 pub fn append_table(place: usize, table: &ReadTable, out: &mut Vec<u8>) -> Result<(), Memory> {

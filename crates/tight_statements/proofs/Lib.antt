@@ -1,9 +1,0 @@
-pub mod FullBeyondLemmas
-pub mod FullStepsLemmas
-pub mod OtherTablesLemmas
-pub mod StepsDoneLemmas
-pub mod TightBlocksLemmas
-pub mod TightCreatesLemmas
-pub mod TightIndexesLemmas
-pub mod TightInsertsLemmas
-pub mod TightStepsLemmas

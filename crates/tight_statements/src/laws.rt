@@ -10,6 +10,7 @@ ghost use Rattle.mdc_ast.specs.ValidDatabase.{IsValid};
 ghost use Rattle.mdc_ast.specs.declared.bound.Bound.{Bound};
 ghost use Rattle.mdc_ast.specs.declared.reply.Outcome.TheVariants as said;
 ghost use Rattle.mdc_ast.specs.declared.reply.Reply.{Reply};
+ghost use Rattle.mdc_ast.specs.declared.statement.RolloutMode.{RolloutMode};
 ghost use Rattle.mdc_ast.specs.declared.statement.Stmt.{Stmt};
 ghost use Rattle.statement_meaning.specs.Doing.{effect};
 ghost use Rattle.statement_meaning.specs.Step.{step};
@@ -25,7 +26,7 @@ ghost use Rattle.script_engine.specs.Doing.{DoesStep, PlacesOnPages, RunsFullAlo
 ghost use Rattle.script_engine.specs.Others.{KeepsOthers};
 ghost use Rattle.script_engine.specs.Ready.{AreServed};
 ghost use Rattle.script_engine.specs.declared.tables.Tables.{Tables};
-ghost use Rattle.tight_statements.specs.PuttingStatements.{OnlyPutsByText, OnlyPuts};
+ghost use Rattle.script_engine.specs.PuttingStatements.{OnlyPutsByText, OnlyPuts};
 
 use store_api::Pages;
 
@@ -36,7 +37,7 @@ pub fn statements_run_full_beyond_need()
         → KeepAllRules shape pages view → AreTightPages shape pages view → AreStored pages defs → PagesStandFor shape pages db → IsValid (effect db statement).0
         → OnlyPuts db statement → RunsFullAlone shape pages defs statement → shape.extents < need shape (effect db statement).0 }
     ensures text { (shape : Shape) (pages : PageList) (view : DatabaseView) (defs : Definitions) (db : Database) (statement : Stmt)
-        → KeepAllRules shape pages view → AreTightPages shape pages view → AreStored pages defs → AreServed defs → PagesStandFor shape pages db → IsValid db
+        → KeepAllRules shape pages view → AreTightPages shape pages view → AreStored pages defs → AreServed defs → PagesStandFor shape pages db
         → OnlyPutsByText statement → StepRunsFull shape pages defs statement → shape.extents < need shape (step db statement).0 }
 {}
 
@@ -51,17 +52,17 @@ pub fn bound_statements_leave_tight_pages()
         → KeepAllRules shape old view → AreTightPages shape old view → KeepAllRules shape new now → AreStored old defs → AreStored new defs_now → PagesStandFor shape old db
         → PagesStandFor shape new (effect db (bound.CreateIndex place index)).0 → def_at defs place ≡ Some def → KeepsOthers shape old new defs defs_now (Some place)
         → AreTightPages shape new now }
-    ensures insert { (shape : Shape) (old new : PageList) (view now : DatabaseView) (defs defs_now : Definitions) (db : Database) (place : ℕ) (tuples : List (List Value)) (def : TableDef)
+    ensures insert { (shape : Shape) (old new : PageList) (view now : DatabaseView) (defs defs_now : Definitions) (db : Database) (place : ℕ) (tuples : List (List Value)) (mode : RolloutMode) (def : TableDef)
         → KeepAllRules shape old view → AreTightPages shape old view → KeepAllRules shape new now → AreStored old defs → AreStored new defs_now → PagesStandFor shape old db
         → PagesStandFor shape new (effect db (bound.Insert place tuples)).0 → IsValid (effect db (bound.Insert place tuples)).0 → def_at defs place ≡ Some def
-        → KeepsOthers shape old new defs defs_now (Some place) → PlacesOnPages shape old new def (bound.Insert place tuples) → AreTightPages shape new now }
+        → KeepsOthers shape old new defs defs_now (Some place) → PlacesOnPages shape old new mode def (bound.Insert place tuples) → AreTightPages shape new now }
 {}
 
 /// A CREATE TABLE, a CREATE INDEX or an INSERT that the engine answers as done on tight pages leaves tight pages.
 pub fn statements_leave_tight_pages<P: Pages>()
     ensures { (old new : P) (before now : Tables) (statement : Stmt) (reply : Reply) (view after : DatabaseView) (db : Database)
         → DoesStep P.Pages old new before now statement (said.Done reply) → OnlyPutsByText statement → AreServed before.catalog → now.shape ≡ before.shape
-        → AreStored (pages_of P.Pages old) before.catalog → PagesStandFor before.shape (pages_of P.Pages old) db → IsValid db
+        → AreStored (pages_of P.Pages old) before.catalog → PagesStandFor before.shape (pages_of P.Pages old) db
         → KeepAllRules before.shape (pages_of P.Pages old) view → AreTightPages before.shape (pages_of P.Pages old) view
         → KeepAllRules now.shape (pages_of P.Pages new) after → AreTightPages now.shape (pages_of P.Pages new) after }
 {}

@@ -1,4 +1,4 @@
-use Rattle.std.proofs.Common.{◌≡◌, ◌<◌, arith, length, sym, ap, take, ◌∙◌}
+use Rattle.std.proofs.Common.{◌<◌, arith, length, sym, ap, take, ◌∙◌}
 use Rattle.std.specs.List.{take-map}
 use Rattle.std.proofs.lemmas.List.{length-map}
 use Rattle.mdc_ast.specs.Definitions.{column_names, is_among}

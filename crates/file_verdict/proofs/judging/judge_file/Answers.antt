@@ -12,6 +12,7 @@ use Rattle.page_store.specs.Standing.{pages_in}
 use Rattle.file_verdict.specs.Resting.{ComesToRest, StandsAsBefore}
 use Rattle.file_verdict.specs.SoundFile.{StatesExtents}
 use Rattle.file_verdict.specs.Verdict.{IsNoVerdict, IsVerdictOnPages}
+use Rattle.file_verdict.proofs.GrowingLemmas.{grew_opened, grew_unopened}
 use Rattle.file_verdict.proofs.JudgingLemmas.{answer_on_sound, judged_left, no_verdict_on_sound, verdict_on_file}
 use Rattle.file_verdict.proofs.RestingLemmas.{goes_on, kept_beside, left_at_rest, rests_on_file, rests_refused, stays_attached, stays_file}
 use Rattle.file_verdict.proofs.SoundFilesLemmas.{refused_served, sound_is_served, stands_before, states_stood}
@@ -45,7 +46,7 @@ rests g c before said is told =
     let stands = after.2.1 (served_formed before.bytes served.0) in
     let leaves = c.judge_store.ensures.leaves after.0 said after.1 (ap (λ b. b.tape) opened.opens.beside ∙ told) in
     rests_on_file g.H.Disk _ store before said (λ image tape. StandsAsBefore before.bytes image × (tape ≡ said)) c.args.host store.host c.judge_store.result.host
-    (judged_left _ g.H.Disk store c.judge_store.result.host before.bytes after.0.bytes said stands served.1 leaves)
+    (judged_left _ g.H.Disk store c.judge_store.result.host before.bytes after.0.bytes said (served_formed before.bytes served.0) stands served.1 leaves)
     (opened.opens.crash before said is told) refl c.judge_store.ensures.later (λ t pages heard left. (left.4, left.5)) (opened.base_since before is said)
 
 pub returns-in-Ok-clause-verdict : goal.returns-in-Ok-clause-verdict
@@ -92,6 +93,9 @@ returns-in-Ok-clause-writes g c = λ file is.
     c.judge_store.ensures.same_bytes ∙ (opened.writes ∙ ap (λ (told : Option File). option_map opened_bytes (file_bytes told)) is) in
     record { at_most = λ other. inr ((opened.served file is).0, after); opened = λ judged served. after }
 
+pub returns-in-Ok-clause-grew : goal.returns-in-Ok-clause-grew
+returns-in-Ok-clause-grew g c = grew_opened g.H.Disk c.args.host c.in-Ok.store.host c.judge_store.result.host c.in-Ok.ensures.opens c.judge_store.ensures.same_bytes
+
 pub returns-in-Ok-clause-device : goal.returns-in-Ok-clause-device
 returns-in-Ok-clause-device g c = counts_fault_then c.in-Ok.ensures.count c.judge_store.ensures.device
 
@@ -114,14 +118,14 @@ returns-in-Err-clause-sound g c = λ before is sound.
 pub returns-in-Err-clause-rests : goal.returns-in-Err-clause-rests
 returns-in-Err-clause-rests g c = λ before said is told formed.
     rests_refused g.H.Disk before said (λ image tape. StandsAsBefore before.bytes image × (tape ≡ said)) c.args.host c.in-Err.field-0.host (MayComeFirst c.in-Err.field-0.fault) (IsNoVerdict c.verdict_of_opening.result)
-    (λ image heard stands same. (stands_before before.bytes image (stands.1 formed), same)) c.verdict_of_opening.ensures.no_verdict is told c.in-Err.ensures.opens_or_leaves
+    (λ image heard stands same. (stands_before before.bytes image formed (stands.1 formed), same)) c.verdict_of_opening.ensures.no_verdict is told c.in-Err.ensures.opens_or_leaves
 
 pub returns-in-Err-clause-told : goal.returns-in-Err-clause-told
 returns-in-Err-clause-told g c = stays_file g.H.Disk c.args.host c.in-Err.field-0.host (MayComeFirst c.in-Err.field-0.fault) c.in-Err.ensures.opens_or_leaves
 
 pub returns-in-Err-clause-leaves : goal.returns-in-Err-clause-leaves
 returns-in-Err-clause-leaves g c = λ before said is told formed judged. elim c.in-Err.ensures.opens_or_leaves [
-  | inl opens ↦ let after = opens.told before is in (after.0, after.1, λ image left. stands_before before.bytes image ((after.3 image left).1 formed))
+  | inl opens ↦ let after = opens.told before is in (after.0, after.1, λ image left. stands_before before.bytes image formed ((after.3 image left).1 formed))
   | inr first ↦ absurd (judged (c.verdict_of_opening.ensures.no_verdict first.0))
 ]
 
@@ -133,6 +137,9 @@ returns-in-Err-clause-writes g c = λ file is. record {
   at_most = λ other. inl (c.in-Err.ensures.untouched (λ fault. other (c.verdict_of_opening.ensures.device.1 fault)) ∙ ap file_bytes is);
   opened = λ judged served. absurd (judged (c.verdict_of_opening.ensures.no_verdict (refused_served c.in-Err.field-0.fault file.bytes served (c.in-Err.ensures.refused file is))));
 }
+
+pub returns-in-Err-clause-grew : goal.returns-in-Err-clause-grew
+returns-in-Err-clause-grew g c = grew_unopened g.H.Disk c.args.host c.in-Err.field-0.host c.in-Err.field-0.fault c.verdict_of_opening.ensures.device.1 c.in-Err.ensures.untouched c.in-Err.ensures.opens_or_leaves
 
 pub returns-in-Err-clause-device : goal.returns-in-Err-clause-device
 returns-in-Err-clause-device g c = counts_fault_as c.verdict_of_opening.ensures.device.0 c.verdict_of_opening.ensures.device.1 c.in-Err.ensures.cause

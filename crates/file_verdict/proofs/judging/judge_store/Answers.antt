@@ -2,6 +2,7 @@
 use Rattle.std.proofs.Common.{◌≡◌, ◌≤◌, is_some, subst, sym, ◌∙◌, ap}
 use Rattle.std.proofs.lemmas.Result.{IfOk-weaker}
 use Rattle.page_store.proofs.BesideLemmas.{beside_of-attaches, beside_of-shape}
+use Rattle.page_store.proofs.FrontAgreesLemmas.{agrees_bytes}
 use Rattle.page_store.specs.Opened.{file_bytes}
 use Rattle.file_verdict.proofs.JudgingLemmas.{found_counted, found_on_pages, left_base, same_beside}
 use Rattle.file_verdict.proofs.ToldLemmas.{stays_by_test, told_by_test}
@@ -31,9 +32,10 @@ returns-clause-leaves g c = λ file said is told.
     let now_told = told_by_test (g.H.Disk.file last.host) (steady.is_told ∙ ap is_some is) in
     let same_cap = ap (λ shape. shape.extents) (kept_shape g c) ∙ (sym (ap (λ parts. parts.0) c.shape-extents.ensures.parts) ∙ sym stated.0) in
     let same_size = ap (λ shape. shape.extent_pages) (kept_shape g c) ∙ (sym (ap (λ parts. parts.1) c.shape-extents.ensures.parts) ∙ sym stated.1) in
+    let same = agrees_bytes steady.file file now_told.0 is now_told.1 in
     record {
       since = λ t early image heard now.
-          left_base _ last.desk.shape file.bytes now_told.0.bytes said c.args.store last t image heard steady early told same_cap same_size
+          left_base _ last.desk.shape file.bytes now_told.0.bytes said c.args.store last t image heard steady early told same_cap same_size same
           (c.close.ensures.left now_told.0 said now_told.1 (steady.told ∙ told) t image heard now);
     }
 

@@ -1,20 +1,21 @@
 -- What is said of the verdict, and then its line.
-use Rattle.std.proofs.Common.{◌≡◌, ◌∙◌, ℕ, List, Option, Some, Err, ap, subst, sym}
+use Rattle.std.proofs.Common.{◌≡◌, ◌∙◌, ℕ, List, Option, Some, ap, subst, sym}
 use Rattle.mdc_outside.specs.Disk.{File, IsImage}
 use Rattle.page_file.proofs.LeavesLemmas.{sound_image}
 use Rattle.page_store.specs.Opened.{file_bytes}
 use Rattle.page_store.specs.Standing.{IsFormed}
-use Rattle.script_session.proofs.ToldLemmas.{same-told, told_then}
+use Rattle.session.proofs.ToldLemmas.{same-told, told_then}
 use Rattle.file_verdict.specs.Resting.{StandsAsBefore}
 use Rattle.file_verdict.specs.SoundFile.{IsSoundFile}
 use Rattle.file_verdict.specs.Written.{IsSameOrOpened}
 use Rattle.file_verdict.proofs.RestingLemmas.{each_since, leaves_since}
 use Rattle.file_verdict.proofs.SoundFilesLemmas.{sound_standing}
-use Rattle.file_session.specs.Well.{IsWell}
+use Rattle.session.specs.file.Well.{IsWell}
 use Rattle.mdc_shell.specs.Check.{IsUnsettled, SaysVerdict, line_of_verdict, status_of_verdict}
 use Rattle.mdc_shell.proofs.CheckLemmas.{checks_formed-said, done-sound, done_settled, no_verdict-quiet, no_verdict-unsettled, status-device, status-on_sound, status-one_of, status-unsaid, well_standing}
 use Rattle.mdc_shell.proofs.CreateLemmas.{tape_stays}
 use Rattle.mdc_shell.proofs.RunsLemmas.{refused_time, same_bytes}
+use Rattle.mdc_shell.proofs.GrowingLemmas.{grew_as}
 use Rattle.mdc_shell.proofs.checking.check_attached.Given.{Over}
 use Rattle.mdc_shell.proofs.checking.check_attached.Goals as goal
 
@@ -145,3 +146,8 @@ returns-clause-told g c = (
   told_then _ _ _ c.judge_file-judged.ensures.told (same-told _ _ c.say_verdict.ensures.disk.same_file),
   λ was is. c.say_verdict.ensures.told was (same_tape g c ∙ is),
 )
+
+pub returns-clause-grew : goal.returns-clause-grew
+returns-clause-grew g c = λ before after is now.
+    grew_as before after.bytes (λ failed. (c.say_verdict.ensures.quiet (ap line_of_verdict failed)).1 ∙ ap status_of_verdict failed)
+    (c.judge_file-judged.ensures.grew before after is (sym c.say_verdict.ensures.disk.same_file ∙ now))

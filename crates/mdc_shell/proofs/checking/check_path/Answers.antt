@@ -4,11 +4,12 @@ use Rattle.std.specs.Option.{option_map}
 use Rattle.mdc_words.proofs.TimeLemmas.{over_time_wider}
 use Rattle.mdc_outside.specs.Disk.{opened}
 use Rattle.page_file.proofs.LeavesLemmas.{sound_image}
-use Rattle.script_session.proofs.ToldLemmas.{same-told, told_then}
+use Rattle.session.proofs.ToldLemmas.{same-told, told_then}
 use Rattle.file_verdict.specs.declared.unjudged.Unjudged.TheVariants.{Device}
 use Rattle.mdc_shell.proofs.CheckLemmas.{checks_formed-before, checks_formed-opened, checks_path-before, checks_path-opened, checks_unserved-before, checks_unserved-opened}
 use Rattle.mdc_shell.proofs.CreateLemmas.{tape_stays}
 use Rattle.mdc_shell.proofs.RunsLemmas.{attach_failed, could_be_left-quiet}
+use Rattle.page_store.proofs.GrowingLemmas.{grew_not_at_all}
 use Rattle.mdc_shell.proofs.checking.check_path.Goals as goal
 
 pub returns-in-Ok-clause-checks : goal.returns-in-Ok-clause-checks
@@ -112,3 +113,9 @@ returns-in-Err-clause-stays_sound g c = λ before said is told sound. (before, a
 
 pub returns-in-Err-clause-stays_well : goal.returns-in-Err-clause-stays_well
 returns-in-Err-clause-stays_well g c = λ before said is told well. (before, attach_failed _ _ c.in-Err.ensures.file_failed ∙ is, well)
+
+pub returns-in-Ok-clause-grew : goal.returns-in-Ok-clause-grew
+returns-in-Ok-clause-grew g c = λ before after is now. c.check_attached.ensures.grew (opened before) after (c.in-Ok.ensures.opened ∙ ap (option_map opened) is) now
+
+pub returns-in-Err-clause-grew : goal.returns-in-Err-clause-grew
+returns-in-Err-clause-grew g c = λ before after is now. grew_not_at_all before after (attach_failed _ _ c.in-Err.ensures.file_failed) is now

@@ -1,8 +1,9 @@
-use Rattle.std.proofs.Common.{◌∙◌, Err, refl, ap}
+use Rattle.std.proofs.Common.{◌∙◌, Err, refl, ap, sym}
 use Rattle.mdc_words.proofs.TimeLemmas.{over_time_then, over_time_wider}
 use Rattle.mdc_shell.proofs.CreateLemmas.{completes_made, creates_exists, creates_failed, creates_made, left_by_making-told, made_of_nothing, says_end-told, tape_stays}
-use Rattle.script_session.proofs.ToldLemmas.{same-told}
+use Rattle.session.proofs.ToldLemmas.{same-told}
 use Rattle.mdc_shell.proofs.LeavingLemmas.{left_by_create-exists, left_by_create-made, left_by_create-making}
+use Rattle.mdc_shell.proofs.GrowingLemmas.{grew_as, refused_not_failed}
 use Rattle.mdc_shell.proofs.create.create.Goals as goal
 
 pub returns-in-Ok-clause-creates : goal.returns-in-Ok-clause-creates
@@ -71,3 +72,14 @@ returns-in_default-clause-told g c =
       left_by_making-told c.args.shape.extents c.args.shape.extent_pages _ _ _ c.make_at.ensures.told refl,
       same-told _ _ (tape_stays _ _ _ _ c.make_at.ensures.beside (lies c.make_at.new.disk).0 (lies c.args.host.now).0),
     )
+
+pub returns-in-Ok-clause-grew : goal.returns-in-Ok-clause-grew
+returns-in-Ok-clause-grew g c = λ before after is now.
+    grew_as before after.bytes (λ failed. absurd (let ok = c.in-Ok.is in cc)) (c.make_at.ensures.grew before after is (sym c.end_with.ensures.file ∙ now))
+
+pub returns-in-Exists-clause-grew : goal.returns-in-Exists-clause-grew
+returns-in-Exists-clause-grew g c = λ before after is now.
+    grew_as before after.bytes (λ failed. absurd (refused_not_failed (Err c.in-Err.fault) c.in-Err.fault refl c.in-Exists.is failed)) (c.in-Err.ensures.grew before after is (sym c.end_with-in-Exists.ensures.file ∙ now))
+
+pub returns-in_default-clause-grew : goal.returns-in_default-clause-grew
+returns-in_default-clause-grew g c = λ before after is now. grew_as before after.bytes (λ failed. refl) (c.make_at.ensures.grew before after is now)

@@ -4,6 +4,7 @@ use Rattle.mdc_outside.specs.Disk.{opened}
 use Rattle.mdc_words.proofs.TimeLemmas.{over_time_then, over_time_wider}
 use Rattle.mdc_shell.proofs.CreateLemmas.{both_made, left_by_attach, left_by_making, opens_as_it_was, stays_opened}
 use Rattle.mdc_shell.proofs.LeavingLemmas.{of_making-quiet}
+use Rattle.mdc_shell.proofs.GrowingLemmas.{grew_attached}
 use Rattle.mdc_shell.proofs.create.make_at.Goals as goal
 
 pub returns-in_err-attach-clause-time : goal.returns-in_err-attach-clause-time
@@ -35,3 +36,9 @@ returns-clause-told g c = left_by_making c.args.extents c.args.extent_pages _ _ 
 
 pub returns-clause-untouched : goal.returns-clause-untouched
 returns-clause-untouched g c = stays_opened _ _ _ (g.met.D.Disk.sound c.args.disk.now) c.in_ok-attach.ensures.opened c.make.ensures.untouched
+
+pub returns-in_err-attach-clause-grew : goal.returns-in_err-attach-clause-grew
+returns-in_err-attach-clause-grew g c = grew_attached (g.D.Disk.file c.args.disk.now) (g.D.Disk.file c.attach.new.self) true c.in_err-attach.ensures.file_failed
+
+pub returns-clause-grew : goal.returns-clause-grew
+returns-clause-grew g c = λ before after is now. c.make.ensures.grew (opened before) after (c.in_ok-attach.ensures.opened ∙ ap (option_map opened) is) now

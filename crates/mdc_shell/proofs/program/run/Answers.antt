@@ -4,7 +4,7 @@ use Rattle.mdc_words.proofs.TimeLemmas.{over_time_none}
 use Rattle.page_file.proofs.LeavesLemmas.{sound_image}
 use Rattle.page_store.specs.Opened.{file_bytes}
 use Rattle.file_verdict.specs.declared.unjudged.Unjudged.TheVariants as unjudged
-use Rattle.file_session.specs.declared.stop.FileStop.TheVariants.{Memory}
+use Rattle.session.specs.declared.file.stop.FileStop.TheVariants.{Memory}
 use Rattle.mdc_shell.specs.Leaving.{LeftByCreate}
 use Rattle.mdc_shell.specs.Words.{CheckFile, CreateFile, RunFile, RunScratch}
 use Rattle.mdc_shell.proofs.AnyRunsLemmas.{runs_any-before}
@@ -12,6 +12,7 @@ use Rattle.mdc_shell.proofs.Asking.{one_line}
 use Rattle.mdc_shell.proofs.CheckLemmas.{checks_formed-before, checks_path-before, checks_unserved-before}
 use Rattle.mdc_shell.proofs.CreateLemmas.{create_line-one}
 use Rattle.mdc_shell.proofs.RunsLemmas.{refuses_file-before, reopens_file-before, runs_items-complete, runs_path-before, runs_scratch-ended, says_end-quiet, serves_path-before, takes_none}
+use Rattle.page_store.proofs.GrowingLemmas.{grew_not_at_all}
 use Rattle.mdc_shell.proofs.program.run.Goals as goal
 
 pub returns-in-Ok-Some-RunScratch-clause-complete : goal.returns-in-Ok-Some-RunScratch-clause-complete
@@ -257,3 +258,26 @@ returns-in-Err-clause-keeps_unserved g c = λ path line before is not_served.
 
 pub returns-in-Err-clause-check_completes : goal.returns-in-Err-clause-check_completes
 returns-in-Err-clause-check_completes g c = λ path line no_disk no_say. inr (inr (inl refl))
+
+-- ---- what becomes of the file
+
+pub returns-in-Ok-Some-RunScratch-clause-grew : goal.returns-in-Ok-Some-RunScratch-clause-grew
+returns-in-Ok-Some-RunScratch-clause-grew g c = λ other.
+    let a = c.in-Ok-Some-RunScratch in
+    let asked = rw (a.field-0-is, a.field-0-0-is, c.as_slice.ensures.value) at a.ensures in
+    absurd (other asked)
+
+pub returns-in-Ok-Some-RunFile-clause-grew : goal.returns-in-Ok-Some-RunFile-clause-grew
+returns-in-Ok-Some-RunFile-clause-grew g c = λ other. c.run_path.ensures.grew
+
+pub returns-in-Ok-Some-Check-clause-grew : goal.returns-in-Ok-Some-Check-clause-grew
+returns-in-Ok-Some-Check-clause-grew g c = λ other. c.check_path.ensures.grew
+
+pub returns-in-Ok-Some-Create-clause-grew : goal.returns-in-Ok-Some-Create-clause-grew
+returns-in-Ok-Some-Create-clause-grew g c = λ other. c.create_file.ensures.grew
+
+pub returns-in-Ok-None-clause-grew : goal.returns-in-Ok-None-clause-grew
+returns-in-Ok-None-clause-grew g c = λ other before after is now. grew_not_at_all before after c.say_usage.ensures.disk.same_file is now
+
+pub returns-in-Err-clause-grew : goal.returns-in-Err-clause-grew
+returns-in-Err-clause-grew g c = λ other before after is now. grew_not_at_all before after refl is now

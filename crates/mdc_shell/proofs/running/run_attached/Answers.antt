@@ -1,12 +1,13 @@
-use Rattle.std.proofs.Common.{◌⊎◌, ◌++◌, ℕ, List, Option, sym, subst, ◌∙◌, ap}
+use Rattle.std.proofs.Common.{◌⊎◌, ◌++◌, ℕ, List, Option, sym, subst, ◌∙◌, ap, refl}
 use Rattle.page_file.proofs.LeavesLemmas.{sound_image}
-use Rattle.script_session.specs.Told.{TellsMore}
-use Rattle.file_session.specs.AnyServing.{RunsOnServed}
-use Rattle.file_session.specs.Ending.{IsRefused}
+use Rattle.session.specs.script.Told.{TellsMore}
+use Rattle.session.specs.file.AnyServing.{RunsOnServed}
+use Rattle.session.specs.file.Ending.{IsRefused}
 use Rattle.mdc_shell.specs.Status.{SaysEnd, line_of_end, status_of}
 use Rattle.mdc_shell.proofs.AnyRunsLemmas.{runs_any-said}
 use Rattle.mdc_shell.proofs.RunsLemmas.{refused_time, reopens_file-said, runs_items-quiet, runs_path-ended, same_bytes, status_either, takes_by_status}
-use Rattle.script_session.proofs.ToldLemmas.{same-told, tells_more-told, told_behind, told_then}
+use Rattle.session.proofs.ToldLemmas.{same-told, tells_more-told, told_behind, told_then}
+use Rattle.mdc_shell.proofs.GrowingLemmas.{grew_as}
 use Rattle.mdc_shell.proofs.running.run_attached.Goals as goal
 
 pub returns-clause-runs : goal.returns-clause-runs
@@ -111,3 +112,11 @@ returns-clause-takes g c =
     let end_ = c.serve_file-ended.result.end in
     takes_by_status (left c.args.input.now) (left c.serve_file-ended.new.input) end_ c.end_run.result.status.0 (λ refused. ap left (c.serve_file-ended.ensures.refused refused).0) c.serve_file-ended.ensures.takes
     (status_either _ _ c.end_run.result.status.0 end_ c.end_run.ensures.ends) (λ none. (c.end_run.ensures.quiet none).1)
+
+pub serve_file-ended-requires-clause-origin : goal.serve_file-ended-requires-clause-origin
+serve_file-ended-requires-clause-origin g c = refl
+
+pub returns-clause-grew : goal.returns-clause-grew
+returns-clause-grew g c = λ before after is now.
+    grew_as before after.bytes (λ ends. (c.end_run.ensures.quiet (ap line_of_end ends)).1 ∙ ap status_of ends)
+    (c.serve_file-ended.ensures.grew before after is (sym c.end_run.ensures.disk.same_file ∙ now))

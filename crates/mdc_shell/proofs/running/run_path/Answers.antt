@@ -3,10 +3,11 @@ use Rattle.std.specs.Option.{option_map}
 use Rattle.page_file.proofs.LeavesLemmas.{sound_image}
 use Rattle.mdc_words.proofs.TimeLemmas.{over_time_wider}
 use Rattle.mdc_outside.specs.Disk.{opened}
-use Rattle.file_session.specs.declared.stop.FileStop.TheVariants.{Device}
+use Rattle.session.specs.declared.file.stop.FileStop.TheVariants.{Device}
 use Rattle.mdc_shell.proofs.AnyRunsLemmas.{runs_any-before, runs_any-opened}
 use Rattle.mdc_shell.proofs.CreateLemmas.{tape_stays}
 use Rattle.mdc_shell.proofs.RunsLemmas.{attach_failed, could_be_left-quiet, refuses_file-before, refuses_file-opened, reopens_file-before, reopens_file-opened, runs_path-before, runs_path-opened, says_end-quiet, serves_path-before, serves_path-opened, takes_none}
+use Rattle.page_store.proofs.GrowingLemmas.{grew_not_at_all}
 use Rattle.mdc_shell.proofs.running.run_path.Goals as goal
 
 pub returns-in-Ok-clause-runs : goal.returns-in-Ok-clause-runs
@@ -106,3 +107,9 @@ returns-in-Err-clause-keeps_refused g c = λ before is not_served.
 
 pub returns-in-Err-clause-takes : goal.returns-in-Err-clause-takes
 returns-in-Err-clause-takes g c = takes_none (g.I.Source.left c.args.input.now) 3 (λ e. absurd (cc)) (λ e. absurd (cc)) (λ e. absurd (cc))
+
+pub returns-in-Ok-clause-grew : goal.returns-in-Ok-clause-grew
+returns-in-Ok-clause-grew g c = λ before after is now. c.run_attached.ensures.grew (opened before) after (c.in-Ok.ensures.opened ∙ ap (option_map opened) is) now
+
+pub returns-in-Err-clause-grew : goal.returns-in-Err-clause-grew
+returns-in-Err-clause-grew g c = λ before after is now. grew_not_at_all before after (attach_failed _ _ c.in-Err.ensures.file_failed) is now

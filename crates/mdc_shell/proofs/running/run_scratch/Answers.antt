@@ -1,9 +1,9 @@
 use Rattle.std.proofs.Common.{◌∙◌, arith, inl, inr, refl, sym}
-use Rattle.file_session.specs.declared.stop.FileStop.TheVariants.{Device}
+use Rattle.session.specs.declared.file.stop.FileStop.TheVariants.{Device}
 use Rattle.page_file.proofs.LeavesLemmas.{sound_image}
 use Rattle.mdc_shell.proofs.CreateLemmas.{left_by_making-told, made_of_nothing, tape_stays}
 use Rattle.mdc_shell.proofs.RunsLemmas.{runs_scratch-ended, takes_none}
-use Rattle.script_session.proofs.ToldLemmas.{same-told, told_then}
+use Rattle.session.proofs.ToldLemmas.{same-told, told_then}
 use Rattle.mdc_shell.proofs.running.run_scratch.Goals as goal
 
 pub returns-in-Ok-clause-runs : goal.returns-in-Ok-clause-runs

@@ -6,7 +6,7 @@ use Rattle.script_engine.proofs.damage.try_exactly.Goals as goal
 
 pub returns-in-Err-Damaged-clause-exact : goal.returns-in-Err-Damaged-clause-exact
 returns-in-Err-Damaged-clause-exact g c =
-    subst (λ (shape : Shape). NamesExactly g.P.Pages shape c.try_again.result c.try_again.new.pages) c.try_statement.ensures.tries.shape c.try_again.ensures.exact
+    subst (λ (shape : Shape). NamesExactly g.P.Pages shape c.try_again.result c.try_again.new.pages) c.try_statement.ensures.tries.tries.shape c.try_again.ensures.exact
 
 pub returns-in-Err-Damaged-clause-tries : goal.returns-in-Err-Damaged-clause-tries
 returns-in-Err-Damaged-clause-tries g c =

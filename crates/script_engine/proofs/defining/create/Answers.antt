@@ -41,6 +41,7 @@ returns-clause-does g c ready =
 pub returns-clause-keeps : goal.returns-clause-keeps
 returns-clause-keeps g c = record {
   shape = refl;
+  settings = refl;
   served = served_more c.args.tables.now.catalog c.add_table.new.catalog c.in_ok-place.place c.args.def c.in_ok-place.ensures.entered.0 c.requires.served c.requires.free c.requires.plain
       c.in_ok-place.ensures.entered.1 c.in_ok-place.ensures.limits;
   kept = tt;

@@ -28,6 +28,7 @@ returns-clause-does g c ready =
 pub returns-clause-keeps : goal.returns-clause-keeps
 returns-clause-keeps g c = record {
   shape = refl;
+  settings = refl;
   served = served_less c.args.tables.now.catalog c.drop_table.new.catalog c.args.table c.requires.served c.in_ok-drop_table.ensures.left c.in_ok-drop_table.ensures.limits;
   kept = tt;
 }

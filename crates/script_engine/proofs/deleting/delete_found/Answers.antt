@@ -46,7 +46,7 @@ returns-clause-does g c ready =
     let left = room_left c.args.tables.now.rooms.by_table c.args.table c.delete_rows.new.rooms low in
     delete_does g.P.Pages c.args.pages.now c.find_rows.new.pages c.delete_rows.new.pages c.args.tables.now _ c.args.table c.in-Some.def.now c.args.pred.now c.in_ok-hits.hits.items c.as_slice.result.now
     c.len.result c.requires.served c.in-Some.ensures lent left c.in_ok-hits.ensures.runs.works.steady.is_told c.find_rows.ensures.same c.in_ok-hits.ensures.finds c.as_slice.ensures.value
-    (c.len.ensures ∙ sym c.as_slice.ensures.len ∙ ap length c.as_slice.ensures.value) c.in_ok-delete_rows.ensures.deletes refl refl (rooms_beside c.args.tables.now.rooms.by_table c.args.table c.delete_rows.new.rooms) ready
+    (c.len.ensures ∙ sym c.as_slice.ensures.len ∙ ap length c.as_slice.ensures.value) (c.requires.rows c.in-Some.def.now c.in-Some.ensures) c.in_ok-delete_rows.ensures.deletes refl refl (rooms_beside c.args.tables.now.rooms.by_table c.args.table c.delete_rows.new.rooms) ready
 
 pub returns-clause-runs : goal.returns-clause-runs
 returns-clause-runs g c =

@@ -1,6 +1,6 @@
 use Rattle.std.proofs.Common.{refl, rules}
 use Rattle.store_api.proofs.RunsOverPagesLemmas.{runs_none}
-use Rattle.script_engine.proofs.ExecutingLemmas.{IsIdle, does_nothing}
+use Rattle.script_engine.proofs.ExecutingLemmas.{IsIdle, does_nothing, leaves_all}
 use Rattle.script_engine.proofs.FetchesForQueryLemmas.{fetches_none}
 use Rattle.script_engine.proofs.executing.carry_out.Goals as goal
 
@@ -11,9 +11,8 @@ returns g c =
       does = does_nothing g.P.Pages c.args.pages.now c.args.tables.now c.args.bound idle;
       refused = λ refusal e. cc;
       full = tt;
-      reads = λ e. refl;
-      catalog = λ e. refl;
+      reads = λ e. leaves_all g.P.Pages c.args.pages.now c.args.tables.now;
       fetches = fetches_none g.P.Pages c.args.tables.now.shape c.args.tables.now.catalog c.args.pages.now c.args.bound;
-      keeps = record { shape = refl; served = c.requires.served; kept = tt };
+      keeps = record { shape = refl; settings = refl; served = c.requires.served; kept = tt };
       runs = runs_none;
     }

@@ -1,10 +1,12 @@
 use Rattle.std.proofs.Common.{◌≡◌, false, subst, sym, true, ◌∙◌}
 use Rattle.mdc_ast.specs.declared.bound.Bound.TheVariants as bound
-use Rattle.store_api.proofs.RunsOverPagesLemmas.{runs_exit_as}
+use Rattle.store_api.proofs.RunsOverPagesLemmas.{runs_exit_as, runs_none}
 use Rattle.extent_map.specs.Damages.{store_part_of}
-use Rattle.script_engine.proofs.ExecutingLemmas.{full_as_bound, may_execute, reads_as_bound, runs_wanting, steps_as_bound, unbuilt_wanting}
+use Rattle.script_engine.proofs.ExecutingLemmas.{executes_step, none_told, form_other, full_as_bound, may_execute, reads_as_bound, runs_wanting, steps_as_bound, steps_other, unbuilt_wanting}
 use Rattle.script_engine.specs.Fetching.{FetchesForQuery}
 use Rattle.script_engine.proofs.FetchesForQueryLemmas.{fetches_none}
+use Rattle.script_engine.specs.Roles.{role_of}
+use Rattle.script_engine.proofs.ListingLemmas.{lists_ready}
 use Rattle.script_engine.proofs.executing.execute.Goals as goal
 
 pub returns-in_err-whole-clause-runs : goal.returns-in_err-whole-clause-runs
@@ -19,7 +21,8 @@ insert-requires-clause-there g c =
 pub returns-in-Some-clause-does : goal.returns-in-Some-clause-does
 returns-in-Some-clause-does g c =
     let whole = rw c.in-Some.is at c.in_ok-whole.ensures.bound in
-    steps_as_bound g.P.Pages c.args.pages.now c.insert.new.pages c.args.tables.now c.insert.new.tables c.args.stmt.now (bound.Insert c.in-Some.whole.table c.in-Some.whole.rows) c.insert.result c.requires.served whole c.insert.ensures.does
+    executes_step g.P.Pages c.args.pages.now c.insert.new.pages c.args.tables.now c.insert.new.tables c.args.stmt.now c.insert.result (steps_other c.args.stmt.now whole.built)
+    (steps_as_bound g.P.Pages c.args.pages.now c.insert.new.pages c.args.tables.now c.insert.new.tables c.args.stmt.now (bound.Insert c.in-Some.whole.table c.in-Some.whole.rows) c.insert.result c.requires.served whole c.insert.ensures.does)
 
 pub returns-in-Some-clause-full : goal.returns-in-Some-clause-full
 returns-in-Some-clause-full g c =
@@ -45,10 +48,14 @@ returns-in_err-whole-clause-unbuilt g c unbuilt = unbuilt_wanting c.from_residua
 pub returns-in-Some-clause-unbuilt : goal.returns-in-Some-clause-unbuilt
 returns-in-Some-clause-unbuilt g c unbuilt =
     let whole = rw c.in-Some.is at c.in_ok-whole.ensures.bound in
-    let wrong : true ≡ false = sym whole.built ∙ unbuilt in
+    let wrong : true ≡ false = sym whole.built ∙ form_other c.args.stmt.now (steps_other c.args.stmt.now whole.built) unbuilt in
     absurd (cc)
 
-pub returns-in-Some-clause-catalog : goal.returns-in-Some-clause-catalog
-returns-in-Some-clause-catalog g c =
-    let whole = rw c.in-Some.is at c.in_ok-whole.ensures.bound in
-    reads_as_bound c.args.tables.now.catalog c.args.stmt.now (bound.Insert c.in-Some.whole.table c.in-Some.whole.rows) whole (λ e. absurd cc)
+pub returns-else-is_explain-clause-does : goal.returns-else-is_explain-clause-does
+returns-else-is_explain-clause-does g c =
+    executes_step g.P.Pages c.args.pages.now c.step.new.pages c.args.tables.now c.step.new.tables c.args.stmt.now c.step.result (none_told (role_of c.args.stmt.now) c.in-None.ensures (sym c.is_explain.ensures ∙ c.if-is_explain.false)) c.step.ensures.does
+
+pub returns-in_ok-list-in-Some-listed-clause-does : goal.returns-in_ok-list-in-Some-listed-clause-does
+returns-in_ok-list-in-Some-listed-clause-does g c ready =
+    lists_ready g.P.Pages c.args.pages.now c.list.new.pages c.args.tables.now c.in-Some-listed.name.now c.requires.served.built c.in_ok-list-in-Some-listed.field-0 c.in_ok-list-in-Some-listed.ensures.absent
+    c.in_ok-list-in-Some-listed.ensures.tells ready c.args.stmt.now c.in-Some-listed.ensures c.in_ok-list-in-Some-listed.ensures.runs.works.steady.is_told c.list.ensures.same

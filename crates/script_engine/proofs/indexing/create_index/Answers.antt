@@ -110,6 +110,7 @@ returns-clause-does g c ready =
 pub returns-clause-keeps : goal.returns-clause-keeps
 returns-clause-keeps g c = record {
   shape = refl;
+  settings = refl;
   served = served_gained c.args.tables.now.catalog c.add_index.new.catalog c.args.table c.args.index c.requires.served c.requires.there c.requires.free c.in_ok-add_index.ensures.entered c.in_ok-add_index.ensures.limits;
   kept = tt;
 }

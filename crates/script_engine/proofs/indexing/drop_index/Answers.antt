@@ -42,6 +42,7 @@ returns-clause-does g c ready =
 pub returns-clause-keeps : goal.returns-clause-keeps
 returns-clause-keeps g c = record {
   shape = refl;
+  settings = refl;
   served = served_lost c.args.tables.now.catalog c.drop_index.new.catalog c.args.table c.args.index c.requires.served c.requires.there c.in_ok-drop_index.ensures.left c.in_ok-drop_index.ensures.limits;
   kept = tt;
 }

@@ -60,6 +60,7 @@ returns-in-Ok-clause-keeps g c =
     let there = there_is _ _ c.requires.there in
     record {
       shape = c.in_ok-put_rows.ensures.shape;
+      settings = c.in_ok-put_rows.ensures.settings;
       served = subst AreServed (sym (c.in_ok-put_rows.ensures.numbers there.0 there.1))
           (served_on c.args.tables.now.catalog c.args.table there.0 (length c.args.tuples) c.requires.served there.1 (numbers_left there.0 c.args.tuples (of_that _ there.0 _ there.1 c.requires.unsaid)));
       kept = tt;
@@ -77,7 +78,7 @@ returns-in-Err-clause-keeps g c =
     let there = there_is _ _ c.requires.there in
     let back = numbered_back c.args.tables.now.catalog c.put_rows.new.tables.catalog c.args.table there.0 (length c.args.tuples) c.requires.served there.1
     (c.in_ok-put_rows.ensures.numbers there.0 there.1) c.len-count.result c.number_back.new.tables.catalog c.len-count.ensures c.number_back.ensures.numbers in
-    record { shape = ap (λ (t : Tables). t.shape) c.number_back.ensures.same ∙ c.in_ok-put_rows.ensures.shape; served = subst AreServed (sym back) c.requires.served; kept = back }
+    record { shape = ap (λ (t : Tables). t.shape) c.number_back.ensures.same ∙ c.in_ok-put_rows.ensures.shape; settings = ap (λ (t : Tables). t.settings) c.number_back.ensures.same ∙ c.in_ok-put_rows.ensures.settings; served = subst AreServed (sym back) c.requires.served; kept = back }
 
 pub returns-in-Err-clause-runs : goal.returns-in-Err-clause-runs
 returns-in-Err-clause-runs g c =

@@ -36,12 +36,12 @@ returns-in-Err-told-clause-runs g c =
 
 pub returns-in_err-account-clause-fetches : goal.returns-in_err-account-clause-fetches
 returns-in_err-account-clause-fetches g c =
-    lists_counted g.P.Pages c.args.pages.now c.account_of.new.pages c.args.tables.now.catalog c.args.name.now c.in-Some.def.now c.in-Some.ensures.found c.in_err-account.ensures.runs.brings
+    lists_counted g.P.Pages c.args.tables.now.catalog c.args.pages.now c.account_of.new.pages c.args.name.now c.in-Some.def.now c.in-Some.ensures.found c.in_err-account.ensures.runs.brings
 
 pub returns-in-Ok-told-clause-fetches : goal.returns-in-Ok-told-clause-fetches
 returns-in-Ok-told-clause-fetches g c =
-    lists_counted g.P.Pages c.args.pages.now c.account_of.new.pages c.args.tables.now.catalog c.args.name.now c.in-Some.def.now c.in-Some.ensures.found c.in_ok-account.ensures.runs.brings
+    lists_counted g.P.Pages c.args.tables.now.catalog c.args.pages.now c.account_of.new.pages c.args.name.now c.in-Some.def.now c.in-Some.ensures.found c.in_ok-account.ensures.runs.brings
 
 pub returns-in-Err-told-clause-fetches : goal.returns-in-Err-told-clause-fetches
 returns-in-Err-told-clause-fetches g c =
-    lists_counted g.P.Pages c.args.pages.now c.account_of.new.pages c.args.tables.now.catalog c.args.name.now c.in-Some.def.now c.in-Some.ensures.found c.in_ok-account.ensures.runs.brings
+    lists_counted g.P.Pages c.args.tables.now.catalog c.args.pages.now c.account_of.new.pages c.args.name.now c.in-Some.def.now c.in-Some.ensures.found c.in_ok-account.ensures.runs.brings

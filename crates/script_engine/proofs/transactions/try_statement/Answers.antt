@@ -6,8 +6,8 @@ pub returns-in_ok-keep-in-Ok : goal.returns-in_ok-keep-in-Ok
 returns-in_ok-keep-in-Ok g c = record {
   tries = try_kept g.P.Pages c.args.pages.now c.mark.new.self c.execute.new.pages c.args.tables.now c.execute.new.tables c.args.stmt.now c.mark.ensures.marked c.mark.ensures.disk_faults c.mark.ensures.say_faults c.mark.ensures.time
       c.execute.result c.execute.ensures.runs c.execute.ensures.keeps c.in-Ok.outcome c.keep.new.self c.in-Ok.is c.in_ok-keep-in-Ok.ensures.ok (c.in_ok-keep-in-Ok.ensures.disk_faults.still (λ r. absurd (cc)))
-      c.in_ok-keep-in-Ok.ensures.say_faults c.in_ok-keep-in-Ok.ensures.time c.in-Ok.ensures.does (λ refusal r. c.in-Ok.ensures.refused refusal (ap Ok r)) c.in-Ok.ensures.unbuilt c.execute.ensures.reads c.execute.ensures.catalog
-      c.execute.ensures.fetches;
+      c.in_ok-keep-in-Ok.ensures.say_faults c.in_ok-keep-in-Ok.ensures.time c.in-Ok.ensures.does (λ refusal r. c.in-Ok.ensures.refused refusal (ap Ok r)) c.in-Ok.ensures.unbuilt c.execute.ensures.reads
+      c.execute.ensures.fetches c.execute.ensures.lists;
 }
 
 pub returns-in-Err-Full : goal.returns-in-Err-Full
@@ -15,7 +15,7 @@ returns-in-Err-Full g c = record {
   tries = try_full g.P.Pages c.args.pages.now c.mark.new.self c.execute.new.pages c.args.tables.now c.execute.new.tables c.args.stmt.now c.mark.ensures.marked c.mark.ensures.disk_faults c.mark.ensures.say_faults c.mark.ensures.time
       c.execute.result c.execute.ensures.runs c.execute.ensures.keeps c.in-Err-Full.extents c.in-Err-Full.field-0 c.file_full.result c.undo.new.self c.forget.new.self c.in-Err-Full.is c.in-Err-Full.field-0-is c.file_full.ensures
       c.undo.ensures.undone c.undo.ensures.disk_faults c.undo.ensures.say_faults c.undo.ensures.time c.in-Err-Full.ensures.full c.in-Err-Full.ensures.keeps.kept c.requires.served
-      c.forget.ensures.catalog c.forget.ensures.shape c.forget.ensures.notes c.forget.ensures.rooms c.execute.ensures.fetches c.in-Err-Full.ensures.unbuilt;
+      c.forget.ensures.catalog c.forget.ensures.shape c.forget.ensures.settings c.forget.ensures.notes c.forget.ensures.rooms c.execute.ensures.fetches c.execute.ensures.lists c.in-Err-Full.ensures.unbuilt;
 }
 
 pub returns-in-Err-Store : goal.returns-in-Err-Store
@@ -23,5 +23,5 @@ returns-in-Err-Store g c = record {
   tries = try_stops g.P.Pages c.args.pages.now c.mark.new.self c.execute.new.pages c.args.tables.now c.execute.new.tables c.args.stmt.now c.mark.ensures.marked c.mark.ensures.disk_faults c.mark.ensures.say_faults c.mark.ensures.time
       c.execute.result c.execute.ensures.runs c.execute.ensures.keeps c.in-Err-Store.fault c.from.result c.undo-in-Err-Store.new.self c.forget-in-Err-Store.new.self (c.in-Err-Store.is ∙ ap Err c.in-Err-Store.field-0-is) c.from.ensures
       c.undo-in-Err-Store.ensures.undone c.undo-in-Err-Store.ensures.disk_faults c.undo-in-Err-Store.ensures.say_faults c.undo-in-Err-Store.ensures.time c.in-Err-Store.ensures.keeps.kept
-      c.forget-in-Err-Store.ensures.catalog c.forget-in-Err-Store.ensures.shape;
+      c.forget-in-Err-Store.ensures.catalog c.forget-in-Err-Store.ensures.shape c.forget-in-Err-Store.ensures.settings;
 }

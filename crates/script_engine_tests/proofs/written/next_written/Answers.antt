@@ -1,4 +1,4 @@
-use Rattle.script_session.proofs.WrittenLemmas.{found_written}
+use Rattle.session.proofs.WrittenLemmas.{found_written}
 use Rattle.script_engine_tests.proofs.WrittenLemmas.{still_reading}
 use Rattle.script_engine_tests.proofs.written.next_written.Goals as goal
 

@@ -1,4 +1,4 @@
-use Rattle.tight_statements.proofs.TightStepsLemmas.{steps_tight}
+use Rattle.script_engine.proofs.TightStepsLemmas.{steps_tight}
 use Rattle.tight_statements.proofs.laws.statements_leave_tight_pages.Goals as goal
 
 pub returns : goal.returns

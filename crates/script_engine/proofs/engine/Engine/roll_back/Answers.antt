@@ -8,7 +8,7 @@ use Rattle.script_engine.proofs.engine.Engine.roll_back.Goals as goal
 
 pub returns-then-not-self-clause-any : goal.returns-then-not-self-clause-any
 returns-then-not-self-clause-any g c going =
-    any_out_of_state g.S.Pages statement.Rollback c.args.self.now c.not_in_state.result refl (λ e. absurd (cc)) going (ap said.Refused c.not_in_state.ensures ∙ sym (ap answer_in_state c.if-not-self.true))
+    any_out_of_state g.S.Pages statement.Rollback c.args.self.now c.not_in_state.result refl (λ e. absurd (cc)) going (ap said.Refused c.not_in_state.ensures ∙ sym (ap answer_in_state c.if-not-self.true)) refl
 
 pub returns-in_err-self : goal.returns-in_err-self
 returns-in_err-self g c = record {

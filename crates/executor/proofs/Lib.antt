@@ -1,0 +1,9 @@
+pub mod ChosenPlansLemmas
+pub mod ListedPartsLemmas
+pub mod MatchingLemmas
+pub mod PartRowsLemmas
+pub mod PartRunsLemmas
+pub mod PassingLemmas
+pub mod ReadingLemmas
+pub mod SlotRowsLemmas
+pub mod StandingPartsLemmas

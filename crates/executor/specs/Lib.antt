@@ -1,0 +1,3 @@
+pub mod PartRows
+pub mod Planned
+pub mod RowBlocks

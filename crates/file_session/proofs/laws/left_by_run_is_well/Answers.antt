@@ -1,6 +1,0 @@
--- What a crash within a run leaves is well.
-use Rattle.file_session.proofs.WellFilesLemmas.{well_left}
-use Rattle.file_session.proofs.laws.left_by_run_is_well.Goals as goal
-
-pub returns : goal.returns
-returns c = well_left

@@ -1,6 +1,0 @@
-pub mod AnyServing
-pub mod Ending
-pub mod Leaving
-pub mod Running
-pub mod Serving
-pub mod Well

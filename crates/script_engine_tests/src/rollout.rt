@@ -1,0 +1,295 @@
+// Deletion by whole blocks, and free blocks that are given back. Behind each script the pages are sound.
+use crate::scripts::answers;
+use std::test::Fail;
+
+const BOTH_MODES: &[u8] = b"CREATE TABLE T (A INTEGER, B INTEGER) ORGANIZE BY DIMENSIONS (A);
+CREATE INDEX V ON T (B);
+INSERT INTO T VALUES (1, 1), (1, 2), (2, 3);
+SET CURRENT MDC ROLLOUT MODE NONE;
+DELETE FROM T WHERE A = 1;
+LIST BLOCKS T;
+SET CURRENT MDC ROLLOUT MODE IMMEDIATE;
+DELETE FROM T;
+LIST BLOCKS T;
+REORG TABLE T RECLAIM EXTENTS;
+LIST BLOCKS T";
+
+const BOTH_MODES_SAID: &[u8] = b"OK
+OK
+3 ROWS INSERTED
+OK
+2 ROWS DELETED
+USED 1 FREE 1 PENDING 0
+OK
+1 ROWS DELETED
+USED 0 FREE 2 PENDING 0
+OK
+USED 0 FREE 0 PENDING 0
+";
+
+// A block that is free is taken again before it is given back.
+const TAKEN_AGAIN: &[u8] = b"CREATE TABLE T (A INTEGER, B INTEGER) ORGANIZE BY DIMENSIONS (A);
+INSERT INTO T VALUES (1, 10);
+DELETE FROM T WHERE B = 10;
+LIST BLOCKS T;
+INSERT INTO T VALUES (9, 5);
+LIST BLOCKS T;
+REORG TABLE T RECLAIM EXTENTS;
+LIST BLOCKS T;
+SELECT * FROM T";
+
+const TAKEN_AGAIN_SAID: &[u8] = b"OK
+1 ROWS INSERTED
+1 ROWS DELETED
+USED 0 FREE 1 PENDING 0
+1 ROWS INSERTED
+USED 1 FREE 0 PENDING 0
+OK
+USED 1 FREE 0 PENDING 0
+A|B
+9|5
+1 ROWS
+";
+
+#[test]
+fn blocks_become_free_and_are_given_back(rt: HostRuntime) -> Result<(), Fail> {
+    answers(&rt, BOTH_MODES, BOTH_MODES_SAID)?;
+    answers(&rt, TAKEN_AGAIN, TAKEN_AGAIN_SAID)?;
+    Ok(())
+}
+
+// Tables without blocks and without free ones, and names that no table has.
+const NONE_FREE: &[u8] = b"REORG TABLE T RECLAIM EXTENTS;
+CREATE TABLE T (A INTEGER, B INTEGER) ORGANIZE BY (A);
+REORG TABLE T RECLAIM EXTENTS;
+LIST BLOCKS T;
+INSERT INTO T VALUES (1, 10), (2, 20), (1, 30);
+REORG TABLE T RECLAIM EXTENTS;
+REORG TABLE U RECLAIM EXTENTS;
+LIST BLOCKS T;
+SELECT * FROM T;
+DROP TABLE T;
+REORG TABLE T RECLAIM EXTENTS";
+
+const NONE_FREE_SAID: &[u8] = b"ERROR 21 no table T
+OK
+OK
+USED 0 FREE 0 PENDING 0
+3 ROWS INSERTED
+OK
+ERROR 21 no table U
+USED 2 FREE 0 PENDING 0
+A|B
+1|10
+2|20
+1|30
+3 ROWS
+OK
+ERROR 21 no table T
+";
+
+#[test]
+fn no_block_is_given_back_where_none_is_free(rt: HostRuntime) -> Result<(), Fail> {
+    answers(&rt, NONE_FREE, NONE_FREE_SAID)
+}
+
+// Seven rows in six cells. Tests take two columns of one dimension, column against column and nulls; the keys of rows that went are
+// free, and that of one that stays isn't.
+const CELLS: &[u8] =
+    b"CREATE TABLE G (A INTEGER, B INTEGER, C INTEGER, D INTEGER) ORGANIZE BY (A, (B, C));
+CREATE UNIQUE INDEX U ON G (D);
+CREATE INDEX V ON G (B DESC, D);
+INSERT INTO G VALUES (1, 1, 1, 10), (1, 1, 2, 20), (2, 2, 2, 30), (2, 3, 1, 40), (NULL, 3, NULL, 50), (3, 3, 3, 60), (1, 1, 1, 70);
+LIST BLOCKS G;
+DELETE FROM G WHERE B = 1 AND C = 2;
+DELETE FROM G WHERE A < B;
+DELETE FROM G WHERE A = C AND NOT B = 2;
+DELETE FROM G WHERE A = 7 OR B > C;
+LIST BLOCKS G;
+SELECT * FROM G;
+INSERT INTO G VALUES (9, 9, 9, 30);
+INSERT INTO G VALUES (9, 9, 9, 10), (9, 9, 9, 70), (8, 8, 8, 20);
+LIST BLOCKS G;
+DELETE FROM G WHERE A IS NULL OR B IN (8, 7);
+REORG TABLE G RECLAIM EXTENTS;
+LIST BLOCKS G;
+SELECT D FROM G WHERE B > 1";
+
+const CELLS_SAID: &[u8] = b"OK
+OK
+OK
+7 ROWS INSERTED
+USED 6 FREE 0 PENDING 0
+1 ROWS DELETED
+1 ROWS DELETED
+3 ROWS DELETED
+0 ROWS DELETED
+USED 2 FREE 4 PENDING 0
+A|B|C|D
+2|2|2|30
+NULL|3|NULL|50
+2 ROWS
+ERROR 40 duplicate key in U
+3 ROWS INSERTED
+USED 4 FREE 2 PENDING 0
+2 ROWS DELETED
+OK
+USED 2 FREE 0 PENDING 0
+D
+30
+10
+70
+3 ROWS
+";
+
+#[test]
+fn cells_that_qualify_go_with_their_entries(rt: HostRuntime) -> Result<(), Fail> {
+    answers(&rt, CELLS, CELLS_SAID)
+}
+
+// A row has 780 bytes, so a page has five and a block ten: the cell of 1 has three blocks. A test on K, which is no dimension, takes
+// rows out of two of them.
+const MANY_BLOCKS: &[u8] =
+    b"CREATE TABLE W (D INTEGER, K INTEGER, X CHAR(254), Y CHAR(254), Z CHAR(254)) ORGANIZE BY (D);
+CREATE INDEX I ON W (K);
+INSERT INTO W (D, K) VALUES (1, 1), (1, 2), (1, 3), (1, 4), (1, 5), (1, 6), (1, 7), (1, 8), (1, 9), (1, 10), (1, 11), (1, 12),
+(1, 13), (1, 14), (1, 15), (1, 16), (1, 17), (1, 18), (1, 19), (1, 20), (2, 22), (1, 21), (2, 23);
+LIST BLOCKS W;
+DELETE FROM W WHERE D = 1 AND K < 15;
+LIST BLOCKS W;
+DELETE FROM W WHERE D = 1;
+LIST BLOCKS W;
+REORG TABLE W RECLAIM EXTENTS;
+LIST BLOCKS W;
+INSERT INTO W (D, K) VALUES (1, 24);
+SELECT D, K FROM W";
+
+const MANY_BLOCKS_SAID: &[u8] = b"OK
+OK
+23 ROWS INSERTED
+USED 4 FREE 0 PENDING 0
+14 ROWS DELETED
+USED 3 FREE 1 PENDING 0
+7 ROWS DELETED
+USED 1 FREE 3 PENDING 0
+OK
+USED 1 FREE 0 PENDING 0
+1 ROWS INSERTED
+D|K
+2|22
+2|23
+1|24
+3 ROWS
+";
+
+#[test]
+fn a_cell_of_several_blocks_goes_whole(rt: HostRuntime) -> Result<(), Fail> {
+    answers(&rt, MANY_BLOCKS, MANY_BLOCKS_SAID)
+}
+
+const ROLLED_BACK: &[u8] = b"CREATE TABLE T (A INTEGER, B INTEGER) ORGANIZE BY (A);
+CREATE UNIQUE INDEX U ON T (B);
+INSERT INTO T VALUES (1, 10), (2, 20), (1, 30), (3, 40);
+DELETE FROM T WHERE A = 3;
+BEGIN;
+DELETE FROM T WHERE A = 1;
+LIST BLOCKS T;
+INSERT INTO T VALUES (5, 10);
+LIST BLOCKS T;
+ROLLBACK;
+LIST BLOCKS T;
+SELECT * FROM T;
+INSERT INTO T VALUES (6, 10);
+BEGIN;
+REORG TABLE T RECLAIM EXTENTS;
+LIST BLOCKS T;
+DELETE FROM T;
+REORG TABLE T RECLAIM EXTENTS;
+LIST BLOCKS T;
+ROLLBACK;
+LIST BLOCKS T;
+SELECT B FROM T WHERE A = 1;
+BEGIN;
+DELETE FROM T WHERE A = 1;
+REORG TABLE T RECLAIM EXTENTS;
+COMMIT;
+LIST BLOCKS T;
+SELECT * FROM T";
+
+const ROLLED_BACK_SAID: &[u8] = b"OK
+OK
+4 ROWS INSERTED
+1 ROWS DELETED
+OK
+2 ROWS DELETED
+USED 1 FREE 2 PENDING 0
+1 ROWS INSERTED
+USED 2 FREE 1 PENDING 0
+OK
+USED 2 FREE 1 PENDING 0
+A|B
+1|10
+2|20
+1|30
+3 ROWS
+ERROR 40 duplicate key in U
+OK
+OK
+USED 2 FREE 0 PENDING 0
+3 ROWS DELETED
+OK
+USED 0 FREE 0 PENDING 0
+OK
+USED 2 FREE 1 PENDING 0
+B
+10
+30
+2 ROWS
+OK
+2 ROWS DELETED
+OK
+OK
+USED 1 FREE 0 PENDING 0
+A|B
+2|20
+1 ROWS
+";
+
+#[test]
+fn a_rollback_brings_rolled_out_blocks_back(rt: HostRuntime) -> Result<(), Fail> {
+    answers(&rt, ROLLED_BACK, ROLLED_BACK_SAID)
+}
+
+const MODES: &[u8] = b"SET CURRENT MDC ROLLOUT MODE DEFERRED;
+SET CURRENT MDC ROLLOUT MODE NONE;
+SET CURRENT MDC ROLLOUT MODE AUTO;
+SET PLAN NONE;
+SET PLAN SCAN;
+BEGIN;
+SET CURRENT MDC ROLLOUT MODE DEFERRED;
+SET CURRENT MDC ROLLOUT MODE IMMEDIATE;
+SET PLAN BLOCK;
+SET PLAN RECORD;
+COMMIT;
+SET PLAN AUTO;
+ROLLBACK";
+
+const MODES_SAID: &[u8] = b"ERROR 14 not built
+OK
+ERROR 10 syntax at byte 30
+ERROR 10 syntax at byte 10
+OK
+OK
+ERROR 14 not built
+OK
+OK
+OK
+OK
+OK
+ERROR 12 transaction state
+";
+
+#[test]
+fn modes_are_set_in_transactions_and_outside(rt: HostRuntime) -> Result<(), Fail> {
+    answers(&rt, MODES, MODES_SAID)
+}

@@ -1,0 +1,94 @@
+// Row pages that are broken, and aren't met: which ones a DELETE fetches hangs on how it goes, and so does what a mode is set to.
+use crate::broken::{damage_of, tried};
+use crate::patches::{Patch, bytes_at};
+use std::process::Abort;
+use std::test::Fail;
+use store_api::Damage;
+
+// The trees of T are the pages 18 to 20; the block of the cell of 1 has the pages 22 and 23, and that of 2 has 24 and 25.
+const TABLE: &[u8] = b"CREATE TABLE T (A INTEGER, B INTEGER) ORGANIZE BY (A);
+INSERT INTO T VALUES (1, 10), (2, 20), (1, 30)";
+
+// The same with a record index, on page 21.
+const INDEXED: &[u8] = b"CREATE TABLE T (A INTEGER, B INTEGER) ORGANIZE BY (A);
+INSERT INTO T VALUES (1, 10), (2, 20), (1, 30);
+CREATE INDEX V ON T (B)";
+
+// On broken tables a script is answered so up to the damage that is named, or to its end.
+fn comes(
+    rt: &(impl Abort + AllocGlobal),
+    making: &[u8],
+    patches: &[Patch],
+    script: &[u8],
+    replies: &[u8],
+    named: Option<Damage>,
+) -> Result<(), Fail> {
+    let came = tried(rt.alloc(), making, patches, script)?;
+    assert_eq!(rt; came.damage, named, "{}", script.escape_ascii());
+    assert_eq!(rt; came.said.as_slice(), replies, "{}", script.escape_ascii());
+    Ok(())
+}
+
+// On T with the first row page broken a script comes to its end.
+fn passes(rt: &(impl Abort + AllocGlobal), script: &[u8], replies: &[u8]) -> Result<(), Fail> {
+    comes(rt, TABLE, &[bytes_at(22, 0, b"S")], script, replies, None)
+}
+
+// On T with the first row page broken a script stops there.
+fn stops(rt: &(impl Abort + AllocGlobal), script: &[u8], replies: &[u8]) -> Result<(), Fail> {
+    let broken = [bytes_at(22, 0, b"S")];
+    comes(rt, TABLE, &broken, script, replies, damage_of(7, 22))
+}
+
+#[test]
+fn a_rollout_fetches_no_row_page_where_no_record_index_is(rt: HostRuntime) -> Result<(), Fail> {
+    let script =
+        b"DELETE FROM T WHERE A = 1; LIST BLOCKS T; INSERT INTO T VALUES (1, 40); SELECT B FROM T";
+    let said = b"2 ROWS DELETED\nUSED 1 FREE 1 PENDING 0\n1 ROWS INSERTED\nB\n20\n40\n2 ROWS\n";
+    passes(&rt, script, said)?;
+    passes(&rt, b"DELETE FROM T", b"3 ROWS DELETED\n")?;
+    stops(&rt, b"DELETE FROM T WHERE A = 1 AND B > 5", b"")?;
+    stops(&rt, b"DELETE FROM T WHERE B = 20 OR A = 1", b"")?;
+    Ok(())
+}
+
+#[test]
+fn a_rollout_of_a_cell_fetches_row_pages_of_it_alone(rt: HostRuntime) -> Result<(), Fail> {
+    let broken = [bytes_at(22, 0, b"S")];
+    let script = b"DELETE FROM T WHERE A = 2; LIST BLOCKS T";
+    let said = b"1 ROWS DELETED\nUSED 1 FREE 1 PENDING 0\n";
+    comes(&rt, INDEXED, &broken, script, said, None)?;
+    let script = b"DELETE FROM T WHERE A = 1";
+    comes(&rt, INDEXED, &broken, script, b"", damage_of(7, 22))?;
+    Ok(())
+}
+
+#[test]
+fn a_rollout_mode_outlives_a_rollback_and_what_is_refused(rt: HostRuntime) -> Result<(), Fail> {
+    stops(
+        &rt,
+        b"SET CURRENT MDC ROLLOUT MODE NONE; DELETE FROM T WHERE A = 1",
+        b"OK\n",
+    )?;
+    stops(
+        &rt,
+        b"BEGIN; SET CURRENT MDC ROLLOUT MODE NONE; ROLLBACK; DELETE FROM T WHERE A = 1",
+        b"OK\nOK\nOK\n",
+    )?;
+    stops(
+        &rt,
+        b"SET CURRENT MDC ROLLOUT MODE NONE; SET CURRENT MDC ROLLOUT MODE DEFERRED; DELETE FROM T WHERE A = 1",
+        b"OK\nERROR 14 not built\n",
+    )?;
+    passes(
+        &rt,
+        b"SET CURRENT MDC ROLLOUT MODE NONE; BEGIN; SET CURRENT MDC ROLLOUT MODE IMMEDIATE; ROLLBACK; DELETE FROM T WHERE A = 1",
+        b"OK\nOK\nOK\nOK\n2 ROWS DELETED\n",
+    )?;
+    passes(
+        &rt,
+        b"SET CURRENT MDC ROLLOUT MODE DEFERRED; DELETE FROM T WHERE A = 1",
+        b"ERROR 14 not built\n2 ROWS DELETED\n",
+    )?;
+    Ok(())
+}

@@ -1,5 +1,0 @@
-use Rattle.script_session.proofs.ListsLemmas.{goes_on_lists}
-use Rattle.script_session.proofs.laws.goes_on_lists.Goals as goal
-
-pub returns : goal.returns
-returns c = goes_on_lists

@@ -1,0 +1,34 @@
+// Runs of scripts on the file of a host.
+use mdc_outside::{Host, MemHost, MemSource, Source};
+use session::{FileStop, Served, serve_file};
+use std::alloc::Global;
+use std::marker::Brand;
+use std::test::Fail;
+
+/// How a run ended.
+pub type End = Result<Served, FileStop>;
+
+// Attaches the file of a host, and serves a source on it.
+fn serve_source<I: Source, H: Host + Drop>(
+    alloc: Global,
+    input: &mut I,
+    mut host: H,
+) -> Result<(End, H), Fail> {
+    host.attach("table", false)?;
+    let ended = serve_file::<I, H, Brand>(alloc, input, host);
+    Ok((ended.end, ended.host))
+}
+
+/// How a script ends on the file of a host, and the host.
+pub fn run_script<H: Host + Drop>(alloc: Global, script: &[u8], host: H) -> Result<(End, H), Fail> {
+    let mut source = MemSource::new(script.to_vec(alloc)?, 4096, Vec::new(alloc));
+    serve_source(alloc, &mut source, host)
+}
+
+/// How a script ends on the file of a host, and what it says.
+pub fn said_by(alloc: Global, script: &[u8], host: MemHost) -> Result<(End, Vec<u8>), Fail> {
+    let begun = host.said().len();
+    let (end, host) = run_script(alloc, script, host)?;
+    let said = host.said().get(begun..).unwrap_or_default();
+    Ok((end, said.to_vec(alloc)?))
+}

@@ -1,0 +1,5 @@
+pub mod FullFileLemmas
+pub mod FullRowsLemmas
+pub mod FullSpaceLemmas
+pub mod RunningFullLemmas
+pub mod TightInstancesLemmas
