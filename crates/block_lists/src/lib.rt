@@ -3,7 +3,7 @@
 //! It promises that an intersection and a union stand for exactly the rows of both and of either, that lists are
 //! determined by the rows that they stand for, that of given blocks exactly those are answered which lists touch, and
 //! that the cursor gives the parts of a tree's lists one after another, by rising block: a part for each block that they
-//! touch. It stands on `mdc_values`. The program doesn't use it yet.
+//! touch. It stands on `mdc_values`.
 #![tactic(auto)]
 
 mod joining;

@@ -6,7 +6,7 @@
 //! of the plan; and that of row pages only those of such blocks come to hand. Of the plans that the plan rule chooses it promises that
 //! they can be matched so, and that in modes AUTO and BLOCK no other block is read than one in whose cell a row may qualify. It stands
 //! on `plan_chooser` for plans, on `plan_lists` for their lists, on `block_lists` for the cursor over them, and on `mdc_table` for
-//! blocks and rows. The program doesn't use it yet.
+//! blocks and rows.
 #![tactic(auto)]
 
 mod by_plan;

@@ -4,7 +4,7 @@
 //! are one span; that such a plan has each row of which the predicate is true; that where it goes by cells alone, the predicate may
 //! hold in the cell of each row that it has; and that it asks dimensions and record indexes that are there for spans of their
 //! columns' kinds. It stands on `cell_filter` for what may hold in a cell, on `key_codec` for what lies in a span, and on
-//! `row_groups`, whose lemmas say that the order of values is total. The program doesn't use it yet.
+//! `row_groups`, whose lemmas say that the order of values is total.
 #![tactic(auto)]
 
 mod choosing;

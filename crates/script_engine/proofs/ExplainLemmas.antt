@@ -12,15 +12,13 @@ use Rattle.mdc_ast.specs.declared.statement.Stmt.TheVariants.{Explain, Query}
 use Rattle.mdc_ast.specs.Database.{Database, defs_of}
 use Rattle.mdc_ast.specs.Definitions.{Definitions, def_at, place_of}
 use Rattle.statement_meaning.specs.Binding.{bound_of, bound_select, columns_of, on_place}
-use Rattle.statement_meaning.specs.Built.{are_built}
 use Rattle.statement_meaning.specs.Cause.{Cause, NotBuilt, refusal_of}
 use Rattle.statement_meaning.specs.Judged.{judged_of, query_judged}
 use Rattle.statement_meaning.specs.Judging.{in_order, on_table}
-use Rattle.statement_meaning.specs.Session.{AgreesWith, Session, explained, explained_for}
+use Rattle.statement_meaning.specs.Session.{AgreesWith, explained, explained_for}
 use Rattle.statement_meaning.specs.Step.{Answer, Refused}
 use Rattle.store_api.specs.declared.fault.StoreFault.{StoreFault}
 use Rattle.store_api.specs.declared.pages.Pages.{Ghosts}
-use Rattle.table_trees.specs.ToldPages.{PageList}
 use Rattle.mdc_sound.specs.StandingTable.{pages_of}
 use Rattle.mdc_sound.specs.StandsForDatabase.{PagesStandFor}
 use Rattle.mdc_ast.proofs.TestsLemmas.{some_is}

@@ -1,5 +1,5 @@
 -- The plan rule looks at no root: a definition without roots has the plans of the one with them.
-use Rattle.std.proofs.Common.{◌≡◌, ◌∙◌, ◌+◌, ℕ, Bool, true, false, List, [], ◌∷◌, length, map, refl, sym, ap, subst, cond, Option, Some, None}
+use Rattle.std.proofs.Common.{◌≡◌, ◌∙◌, ◌+◌, ℕ, Bool, false, List, [], ◌∷◌, length, map, refl, sym, ap, subst, cond, Option, Some, None}
 use Rattle.std.specs.Prelude.{nat_lt, not, ◌&&◌, if◌then◌else◌, position}
 use Rattle.std.specs.List.{position_or_len}
 use Rattle.std.proofs.lemmas.List.{length-map}
@@ -8,7 +8,6 @@ use Rattle.mdc_values.specs.declared.truth.Op.TheVariants.{AtLeast, AtMost, Equa
 use Rattle.mdc_values.specs.declared.value.Value.{Value}
 use Rattle.mdc_ast.specs.declared.definition.IndexDef.{IndexDef}
 use Rattle.mdc_ast.specs.declared.definition.TableDef.{TableDef}
-use Rattle.mdc_ast.specs.declared.predicate.Atom.{Atom}
 use Rattle.mdc_ast.specs.declared.predicate.Pred.{Pred}
 use Rattle.mdc_ast.specs.declared.predicate.Pred.TheFolds.{fold-roll-Pred, ind-Pred, map-Pred}
 use Rattle.mdc_ast.specs.declared.predicate.Pred.TheOpen.{Pred-F}
@@ -22,9 +21,9 @@ use Rattle.mdc_ast.specs.declared.statement.PlanMode.TheVariants as mode
 use Rattle.mdc_sound.specs.StandsForDatabase.{rootless, rootless_index}
 use Rattle.predicate.specs.Pushed.{op_if}
 use Rattle.plan_chooser.specs.declared.cover.Cover.{Cover}
-use Rattle.plan_chooser.specs.Covers.{any_covers, joined, plan_of_cover}
+use Rattle.plan_chooser.specs.Covers.{joined, plan_of_cover}
 use Rattle.plan_chooser.specs.Rule.{comparison_cover, cover_under, is_unequal, layer_cover, plan_of, spans_cover, test_cover, turned}
-use Rattle.plan_chooser.specs.Sources.{begins_with, dimension_of, index_of, source_at, source_of, takes_blocks, takes_records}
+use Rattle.plan_chooser.specs.Sources.{begins_with, dimension_of, source_at, source_of, takes_blocks, takes_records}
 use Rattle.plan_chooser.specs.Spans.{null_span, spans_of}
 
 -- the earliest record index that begins with a column

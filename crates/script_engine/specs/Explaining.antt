@@ -1,5 +1,5 @@
 -- EXPLAIN: what is told of how a query is carried out.
-use Rattle.std.specs.Prelude.{◌≡◌, ℕ, Bool, true, false, List, filter, length, Option, Some}
+use Rattle.std.specs.Prelude.{◌≡◌, ℕ, Bool, true, false, filter, length, Option, Some}
 use Rattle.mdc_ast.specs.declared.bound.Bound.{Bound}
 use Rattle.mdc_ast.specs.declared.bound.Bound.TheVariants as bound
 use Rattle.mdc_ast.specs.declared.definition.TableDef.{TableDef}

@@ -36,7 +36,7 @@ mod reference;
 #[cfg(test)]
 mod reopening;
 #[cfg(test)]
-mod rollout;
+mod rolled_out;
 #[cfg(test)]
 mod scripts;
 mod stores;

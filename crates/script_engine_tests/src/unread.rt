@@ -1,4 +1,4 @@
-// Row pages that are broken, and aren't met: which ones a DELETE fetches hangs on how it goes, and so does what a mode is set to.
+// Row pages that are broken, and aren't met: which ones a statement fetches hangs on how it goes, and so on what a mode is set to.
 use crate::broken::{damage_of, tried};
 use crate::patches::{Patch, bytes_at};
 use std::process::Abort;
@@ -90,5 +90,33 @@ fn a_rollout_mode_outlives_a_rollback_and_what_is_refused(rt: HostRuntime) -> Re
         b"SET CURRENT MDC ROLLOUT MODE DEFERRED; DELETE FROM T WHERE A = 1",
         b"ERROR 14 not built\n2 ROWS DELETED\n",
     )?;
+    Ok(())
+}
+
+const PLANS: &[u8] = b"EXPLAIN SELECT * FROM T WHERE A = 2;
+EXPLAIN SELECT * FROM T WHERE B = 20;
+EXPLAIN SELECT * FROM T WHERE A = 2 OR B = 20;
+EXPLAIN SELECT * FROM T WHERE A = 1 AND B = 20";
+
+const PLANS_SAID: &[u8] = b"PLAN BLOCK
+BLOCKS 1
+ROWS 1
+PLAN RECORD
+BLOCKS 1
+ROWS 1
+PLAN MIXED
+BLOCKS 1
+ROWS 1
+PLAN MIXED
+BLOCKS 0
+ROWS 0
+";
+
+#[test]
+fn a_plan_fetches_row_pages_of_its_blocks_alone(rt: HostRuntime) -> Result<(), Fail> {
+    let broken = [bytes_at(22, 0, b"S")];
+    comes(&rt, INDEXED, &broken, PLANS, PLANS_SAID, None)?;
+    let script = b"SET PLAN SCAN; EXPLAIN SELECT * FROM T WHERE A = 2";
+    comes(&rt, INDEXED, &broken, script, b"OK\n", damage_of(7, 22))?;
     Ok(())
 }

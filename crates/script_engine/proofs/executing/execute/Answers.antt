@@ -1,6 +1,6 @@
 use Rattle.std.proofs.Common.{◌≡◌, false, subst, sym, true, ◌∙◌}
 use Rattle.mdc_ast.specs.declared.bound.Bound.TheVariants as bound
-use Rattle.store_api.proofs.RunsOverPagesLemmas.{runs_exit_as, runs_none}
+use Rattle.store_api.proofs.RunsOverPagesLemmas.{runs_exit_as}
 use Rattle.extent_map.specs.Damages.{store_part_of}
 use Rattle.script_engine.proofs.ExecutingLemmas.{executes_step, none_told, form_other, full_as_bound, may_execute, reads_as_bound, runs_wanting, steps_as_bound, steps_other, unbuilt_wanting}
 use Rattle.script_engine.specs.Fetching.{FetchesForQuery}

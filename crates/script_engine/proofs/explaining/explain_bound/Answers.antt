@@ -1,5 +1,4 @@
-use Rattle.std.proofs.Common.{ap, subst, sym}
-use Rattle.mdc_ast.specs.declared.bound.Bound.{Bound}
+use Rattle.std.proofs.Common.{subst}
 use Rattle.row_checks.specs.Served.{IsServed}
 use Rattle.script_engine.proofs.explaining.explain_bound.Goals as goal
 

@@ -10,4 +10,4 @@ pub returns-clause-index : goal.returns-clause-index
 returns-clause-index c = indexes_tight
 
 pub returns-clause-insert : goal.returns-clause-insert
-returns-clause-insert c = λ shape old new view now defs defs_now db place tuples mode. inserts_tight {mode} shape old new view now defs defs_now db place tuples
+returns-clause-insert c = λ shape old new view now defs defs_now db place tuples mode. inserts_tight {mode = mode} shape old new view now defs defs_now db place tuples
