@@ -1,21 +1,24 @@
 -- How a rule is seen to hold on pages that are written out: what ranges over all numbers is computed below a bound, and what ranges
 -- over a list by recursion.
-use Rattle.std.specs.Prelude.{◌≡◌, ◌<◌, ◌*◌, ◌^◌, ◌==◌, ◌&&◌, ◌||◌, not, nat_le, nat_lt, ℕ, zero, suc, Bool, true, false, List, [], ◌∷◌, drop, take, None, AllPairs, Contains}
+use Rattle.std.specs.Prelude.{◌≡◌, ◌≢◌, ◌<◌, ◌≤◌, ◌*◌, ◌^◌, ◌==◌, ◌&&◌, ◌||◌, not, nat_le, nat_lt, ℕ, zero, suc, Bool, true, false, List, [], ◌∷◌, drop, length, take, None, AllPairs, Contains}
 use Rattle.std.specs.List.{AllByRecursion, list_any}
 use Rattle.std.specs.Str.{bytes_eq}
-use Rattle.std.proofs.Common.{refl, arith, sym, subst}
-use Rattle.std.proofs.lemmas.Bool.{eq-eqb, eqb-true, le-leb, ltb-true, not-true}
+use Rattle.std.proofs.Common.{refl, arith, sym, subst, inl, inr}
+use Rattle.std.proofs.lemmas.Bool.{cases_Bool, cases_lt, eq-eqb, eqb-true, le-leb, leb-true, ltb-true, not-true}
 use Rattle.std.proofs.lemmas.Bool.Decides.{Decides-below_and}
 use Rattle.std.proofs.lemmas.Cmp.{nat_list_eq_equiv}
 use Rattle.std.proofs.lemmas.Map.Views.{list_any-from_Contains}
 use Rattle.std.proofs.lemmas.Slice.Eq.{bytes_eq-Decides}
 use Rattle.mdc_words.specs.ByteOrder.{Entry}
 use Rattle.mdc_ast.specs.declared.definition.ColumnDef.{ColumnDef}
+use Rattle.store_api.specs.Extents.{first_count, first_page_of, map_pages}
 use Rattle.store_api.specs.StoreState.{page_at, zero_page}
-use Rattle.extent_map.specs.Kinds.{IsKindOf, is_block_kind}
-use Rattle.extent_map.specs.Owners.{owner_of}
+use Rattle.store_api.specs.declared.shape.Shape.{Shape}
+use Rattle.extent_map.specs.Kinds.{IsKindOf, is_block_kind, is_free_kind, is_used_place}
+use Rattle.extent_map.specs.Owners.{IsUsedPage, extent_of, owner_of, place_in_extent}
 use Rattle.extent_map.specs.declared.kind.Kind.{Kind}
 use Rattle.extent_map.specs.declared.kind.Kind.TheVariants.{Free, Block, Index}
+use Rattle.extent_map.proofs.BitsLemmas.{is_free-Free}
 use Rattle.node_page.specs.Node.{node_of}
 use Rattle.node_page.specs.Node.Node.{LeafNode}
 use Rattle.row_page.specs.Row.{row_bytes, row_in}
@@ -26,7 +29,7 @@ use Rattle.entry_tree.proofs.ForestLemmas.{once_least}
 use Rattle.table_page.proofs.PartsLemmas.{all_at}
 use Rattle.table_trees.specs.TableTrees.{TreePlace}
 use Rattle.table_trees.specs.ToldPages.{HasTree, PageList}
-use Rattle.mdc_sound.specs.SpaceRules.{IsOwnerThere}
+use Rattle.mdc_sound.specs.SpaceRules.{AreTreePagesSound, DatabaseView, IsMapPageSound, IsMapSound, IsOwnerThere, IsTreePageSound, times_in_trees}
 use Rattle.mdc_sound.specs.TablePages.{IsTableThere}
 
 -- ---- tests that are computed
@@ -114,10 +117,89 @@ is_block_of t (Index used) = false
 pub block_is_of : (t : ℕ) (kind : Kind) → kind ≡ Block t → is_block_of t kind ≡ true
 block_is_of t kind is = subst (λ kind. is_block_of t kind ≡ true) (sym is) (eq-eqb t t refl)
 
-pub owner_is_there : (pages : PageList) (t : ℕ) → IsTableThere pages t → (kind : Kind) → (not (is_block_kind kind) || is_block_of t kind) ≡ true → IsOwnerThere pages kind
+pub kinds_are : (extent_pages : ℕ) (owners : List Kind) → all_owners (λ e kind. is_kind extent_pages kind) owners ≡ true → (e : ℕ) → IsKindOf extent_pages (owner_of owners e)
+kinds_are extent_pages owners all e = kind_is extent_pages (owner_of owners e) (each_owner (λ e kind. is_kind extent_pages kind) owners all (λ e. refl) e)
+
+-- an extent in use is one of the first n
+pub in_use_is_below : (n : ℕ) (owners : List Kind) → all_owners (λ e kind. is_free_kind kind || nat_lt e n) owners ≡ true → (e : ℕ) → owner_of owners e ≢ Free → e < n
+in_use_is_below n owners all e owned = elim (cases_Bool (is_free_kind (owner_of owners e))) [
+  | inl free ↦ absurd (owned (is_free-Free (owner_of owners e) free))
+  | inr not_free ↦
+      let test = each_owner (λ e kind. is_free_kind kind || nat_lt e n) owners all (λ e. refl) e in
+      ltb-true e n (if_not_first (is_free_kind (owner_of owners e)) (nat_lt e n) test not_free)
+]
+
+owner_is_there : (pages : PageList) (t : ℕ) → IsTableThere pages t → (kind : Kind) → (not (is_block_kind kind) || is_block_of t kind) ≡ true → IsOwnerThere pages kind
 owner_is_there pages t there Free is = tt
 owner_is_there pages t there (Block table) is = subst (IsTableThere pages) (sym (eqb-true table t is)) there
 owner_is_there pages t there (Index used) is = tt
+
+-- each block is one of table t
+abbrev pub are_blocks_of : ℕ → List Kind → Bool
+are_blocks_of t owners = all_owners (λ e kind. not (is_block_kind kind) || is_block_of t kind) owners
+
+pub owners_are_there : (pages : PageList) (t : ℕ) (owners : List Kind) → IsTableThere pages t → are_blocks_of t owners ≡ true → (e : ℕ) → IsOwnerThere pages (owner_of owners e)
+owners_are_there pages t owners there all e =
+    owner_is_there pages t there (owner_of owners e) (each_owner (λ e kind. not (is_block_kind kind) || is_block_of t kind) owners all (λ e. refl) e)
+
+-- a map of one page
+pub map_of_one_page : (shape : Shape) (pages : PageList) (owners : List Kind) → length owners ≡ shape.extents → map_pages shape.extents ≡ 1
+    → IsMapPageSound shape pages owners 0 → IsMapSound shape pages owners
+map_of_one_page shape pages owners count one page = record { count = count; each = each_page }
+  where
+    each_page : (i : ℕ) → i < map_pages shape.extents → IsMapPageSound shape pages owners i
+    each_page zero low = page
+    each_page (suc i) low = absurd (omega (arith, low, one))
+
+-- a page behind the first ones is a used one by this test
+abbrev is_used : Shape → List Kind → ℕ → Bool
+is_used shape owners p = nat_le (first_count shape.extents) p && is_used_place (place_in_extent shape p) (owner_of owners (extent_of shape p))
+
+used_passes : (shape : Shape) (owners : List Kind) (p : ℕ) → IsUsedPage shape owners p → is_used shape owners p ≡ true
+used_passes shape owners p used = both_true
+    (nat_le (first_count shape.extents) p)
+    (is_used_place (place_in_extent shape p) (owner_of owners (extent_of shape p)))
+    (le-leb (first_count shape.extents) p used.page.behind)
+    used.used
+
+used_by_test : (shape : Shape) (owners : List Kind) (p : ℕ) → is_used shape owners p ≡ true → p < first_page_of shape.extents shape.extent_pages shape.extents → IsUsedPage shape owners p
+used_by_test shape owners p test low =
+    let behind = first_true (nat_le (first_count shape.extents) p) (is_used_place (place_in_extent shape p) (owner_of owners (extent_of shape p))) test in
+    let used = second_true (nat_le (first_count shape.extents) p) (is_used_place (place_in_extent shape p) (owner_of owners (extent_of shape p))) test in
+    record { page = record { behind = leb-true (first_count shape.extents) p behind; within = low }; used = used }
+
+-- the page stands in the trees once where it is used, and else never
+abbrev pub is_counted : Shape → DatabaseView → ℕ → Bool
+is_counted shape view p = (not (is_used shape view.owners p) || (times_in_trees p view == 1)) && (is_used shape view.owners p || (times_in_trees p view == 0))
+
+used_once : (shape : Shape) (view : DatabaseView) (p : ℕ) → is_counted shape view p ≡ true → is_used shape view.owners p ≡ true → times_in_trees p view ≡ 1
+used_once shape view p counted used =
+    let once = first_true (not (is_used shape view.owners p) || (times_in_trees p view == 1)) (is_used shape view.owners p || (times_in_trees p view == 0)) counted in
+    eqb-true (times_in_trees p view) 1 (if_first (is_used shape view.owners p) (times_in_trees p view == 1) once used)
+
+unused_never : (shape : Shape) (view : DatabaseView) (p : ℕ) → is_counted shape view p ≡ true → is_used shape view.owners p ≡ false → times_in_trees p view ≡ 0
+unused_never shape view p counted unused =
+    let never = second_true (not (is_used shape view.owners p) || (times_in_trees p view == 1)) (is_used shape view.owners p || (times_in_trees p view == 0)) counted in
+    eqb-true (times_in_trees p view) 0 (if_not_first (is_used shape view.owners p) (times_in_trees p view == 0) never unused)
+
+-- so it is of a page of an extent that there is
+counted_is_sound : (shape : Shape) (view : DatabaseView) (p : ℕ) → is_counted shape view p ≡ true → p < first_page_of shape.extents shape.extent_pages shape.extents
+    → IsTreePageSound shape view p
+counted_is_sound shape view p counted low = record {
+  used = λ used. used_once shape view p counted (used_passes shape view.owners p used);
+  others = λ unused. elim (cases_Bool (is_used shape view.owners p)) [
+    | inl is ↦ absurd (unused (used_by_test shape view.owners p is low))
+    | inr is ↦ unused_never shape view p counted is
+  ];
+}
+
+-- each page is sound where those of the n pages are counted, and one behind them stands in no tree
+pub counted_pages_are_sound : (shape : Shape) (view : DatabaseView) (n : ℕ) → first_page_of shape.extents shape.extent_pages shape.extents ≡ n
+    → passes_below (is_counted shape view) n ≡ true → ((p : ℕ) → n ≤ p → times_in_trees p view ≡ 0) → AreTreePagesSound shape view
+counted_pages_are_sound shape view n count counted behind p = elim (cases_lt p n) [
+  | inl low ↦ counted_is_sound shape view p (passes (is_counted shape view) n counted p low) (omega (arith, low, count))
+  | inr far ↦ record { used = λ used. absurd (omega (arith, used.page.within, far, count)); others = λ unused. behind p far }
+]
 
 -- ---- pages
 

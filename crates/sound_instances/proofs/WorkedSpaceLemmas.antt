@@ -2,23 +2,20 @@
 use Rattle.std.specs.Prelude.{◌≡◌, ◌≢◌, ◌<◌, ◌≤◌, ◌+◌, ◌==◌, ◌&&◌, ◌||◌, not, nat_le, nat_lt, ℕ, true, zero, suc, [], ◌∷◌, Contains, slice_index}
 use Rattle.std.specs.List.{list_any}
 use Rattle.std.proofs.Common.{refl, arith, sym, ap, subst, inl, inr}
-use Rattle.std.proofs.lemmas.Bool.{cases_Bool, eqb-true, leb-true, ltb-true, not-true}
+use Rattle.std.proofs.lemmas.Bool.{eqb-true, leb-true, ltb-true, not-true}
 use Rattle.std.proofs.lemmas.Map.Views.{Contains-from_any}
 use Rattle.mdc_ast.specs.declared.definition.IndexDef.{IndexDef}
 use Rattle.mdc_ast.specs.declared.definition.TableDef.{TableDef}
 use Rattle.mdc_ast.specs.TableLimits.{IsTableDef}
-use Rattle.store_api.specs.Extents.{first_page_of}
-use Rattle.extent_map.specs.Kinds.{IsKindOf, is_block_kind, is_free_kind}
 use Rattle.extent_map.specs.Owners.{extent_of, owner_of}
-use Rattle.extent_map.specs.declared.kind.Kind.TheVariants.{Free, Block}
-use Rattle.extent_map.proofs.BitsLemmas.{is_free-Free}
+use Rattle.extent_map.specs.declared.kind.Kind.TheVariants.{Block}
 use Rattle.block_map.specs.MapLines.{AreMapEntries, IsMapEntry}
 use Rattle.table_page.specs.TablePage.{IsTablePageOf}
 use Rattle.table_page.proofs.TablePageLemmas.{no_blank_table}
 use Rattle.mdc_sound.specs.EmptyDatabase.{few_extents}
-use Rattle.mdc_sound.specs.SpaceRules.{AreRootsInIndexes, AreTablePagesSound, IsBlockMapSound, IsIndexKind, IsIndexPage, IsMapPageSound, IsMapSound, IsOwnerThere, IsRootSound, definitions_in, indexes_in}
-use Rattle.mdc_sound.specs.TablePages.{DefinesTable}
-use Rattle.sound_instances.proofs.InstancesLemmas.{block_is_of, each_owner, each_pair, first_true, if_first, if_not_first, is_block_of, is_kind, kind_is, owner_is_there, second_true}
+use Rattle.mdc_sound.specs.SpaceRules.{AreRootsInIndexes, AreTablePagesSound, IsBlockMapSound, IsIndexKind, IsIndexPage, IsMapPageSound, IsMapSound, IsRootSound, definitions_in, indexes_in}
+use Rattle.mdc_sound.specs.TablePages.{DefinesTable, IsTableThere}
+use Rattle.sound_instances.proofs.InstancesLemmas.{block_is_of, each_owner, each_pair, first_true, if_first, in_use_is_below, is_block_of, kinds_are, map_of_one_page, owners_are_there, second_true}
 use Rattle.sound_instances.specs.WorkedDatabase.{view_news, view_sales, worked_view}
 use Rattle.sound_instances.specs.WorkedPages.{worked_owners, worked_pages}
 use Rattle.sound_instances.specs.WorkedTables.{def_news, def_sales, index_by_day, index_by_price}
@@ -67,39 +64,21 @@ defines_news = record { limits = limits_of_news; printed = refl }
 
 -- ---- rule 2
 
-kinds_are : (e : ℕ) → IsKindOf 2 (owner_of worked_owners e)
-kinds_are e = kind_is 2 (owner_of worked_owners e) (each_owner (λ e kind. is_kind 2 kind) worked_owners refl (λ e. refl) e)
+is_there : IsTableThere worked_pages 2
+is_there = (omega arith, λ blank. no_blank_table 2 def_sales (subst (λ page. IsTablePageOf 2 def_sales page) blank defines_sales))
 
--- an extent in use lies within the 44 pages
-owned_within : (e : ℕ) → owner_of worked_owners e ≢ Free → first_page_of 16 2 (e + 1) ≤ 44
-owned_within e owned = elim (cases_Bool (is_free_kind (owner_of worked_owners e))) [
-  | inl free ↦ absurd (owned (is_free-Free (owner_of worked_owners e) free))
-  | inr not_free ↦
-      let test = each_owner (λ e kind. is_free_kind kind || nat_lt e 13) worked_owners refl (λ e. refl) e in
-      let low = ltb-true e 13 (if_not_first (is_free_kind (owner_of worked_owners e)) (nat_lt e 13) test not_free) in omega (arith, low)
-]
-
-owners_there : (e : ℕ) → IsOwnerThere worked_pages (owner_of worked_owners e)
-owners_there e = owner_is_there
-    worked_pages
-    2
-    (omega arith, λ blank. no_blank_table 2 def_sales (subst (λ page. IsTablePageOf 2 def_sales page) blank defines_sales))
-    (owner_of worked_owners e)
-    (each_owner (λ e kind. not (is_block_kind kind) || is_block_of 2 kind) worked_owners refl (λ e. refl) e)
+first_map_page : IsMapPageSound few_extents worked_pages worked_owners 0
+first_map_page = record {
+  held = record {
+    page = record { is_told = refl; within = omega arith; bytes_are = refl };
+    kinds = λ e on. kinds_are 2 worked_owners refl e;
+    there = λ e on owned. let low = in_use_is_below 13 worked_owners refl e owned in omega (arith, low);
+  };
+  owned = λ e on. owners_are_there worked_pages 2 worked_owners is_there refl e;
+}
 
 pub map_is_sound : IsMapSound few_extents worked_pages worked_owners
-map_is_sound = record { count = refl; each = each_page }
-  where
-    each_page : (i : ℕ) → i < 1 → IsMapPageSound few_extents worked_pages worked_owners i
-    each_page zero low = record {
-      held = record {
-        page = record { is_told = refl; within = omega arith; bytes_are = refl };
-        kinds = λ e on. kinds_are e;
-        there = λ e on owned. owned_within e owned;
-      };
-      owned = λ e on. owners_there e;
-    }
-    each_page (suc i) low = absurd (omega (arith, low))
+map_is_sound = map_of_one_page few_extents worked_pages worked_owners refl refl first_map_page
 
 -- ---- rule 3
 

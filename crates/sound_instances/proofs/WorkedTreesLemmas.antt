@@ -1,22 +1,20 @@
 -- The worked database keeps rules 4 and 5: its trees, and whose pages they are.
-use Rattle.std.specs.Prelude.{◌≡◌, ◌<◌, ◌≤◌, ◌==◌, ◌&&◌, ◌||◌, not, nat_le, ℕ, Bool, true, false, []}
+use Rattle.std.specs.Prelude.{◌≡◌, ◌≤◌, nat_le, ℕ, []}
 use Rattle.std.proofs.Common.{refl, arith, inl, inr}
-use Rattle.std.proofs.lemmas.Bool.{cases_Bool, cases_lt, eqb-true, le-leb, leb-true}
+use Rattle.std.proofs.lemmas.Bool.{cases_lt, leb-true}
 use Rattle.mdc_words.specs.ByteOrder.{below}
 use Rattle.store_api.specs.StoreState.{zero_page}
-use Rattle.extent_map.specs.Kinds.{is_used_place}
-use Rattle.extent_map.specs.Owners.{IsUsedPage, extent_of, owner_of, place_in_extent}
 use Rattle.node_page.specs.Node.{node_of}
 use Rattle.entry_tree.specs.Forest.{times}
 use Rattle.entry_tree.specs.Forest.Forest.{Leaf, Nil}
 use Rattle.entry_tree.proofs.ForestLemmas.{once_other}
 use Rattle.table_trees.specs.ToldPages.{HasTree}
 use Rattle.mdc_sound.specs.EmptyDatabase.{few_extents}
-use Rattle.mdc_sound.specs.SpaceRules.{AreTreesSound, IsTreePageSound, times_in_trees}
-use Rattle.sound_instances.proofs.InstancesLemmas.{both_true, first_true, if_first, if_not_first, leaf_is_held, passes, second_true}
+use Rattle.mdc_sound.specs.SpaceRules.{AreTreePagesSound, AreTreesSound, times_in_trees}
+use Rattle.sound_instances.proofs.InstancesLemmas.{counted_pages_are_sound, leaf_is_held, passes}
 use Rattle.sound_instances.specs.WorkedDatabase.{price_tree, worked_view}
 use Rattle.sound_instances.specs.WorkedEntries.{sales_cells, sales_cities, sales_days, sales_lines, sales_months}
-use Rattle.sound_instances.specs.WorkedPages.{worked_owners, worked_pages}
+use Rattle.sound_instances.specs.WorkedPages.{worked_pages}
 
 -- ---- rule 4
 
@@ -94,54 +92,23 @@ trees_are = (
 
 -- ---- rule 5
 
--- a page behind the first ones is a used one by this test
-abbrev is_used : ℕ → Bool
-is_used p = nat_le 18 p && is_used_place (place_in_extent few_extents p) (owner_of worked_owners (extent_of few_extents p))
+no_tree_behind : (p : ℕ) → 50 ≤ p → times_in_trees p worked_view ≡ 0
+no_tree_behind p far = omega (
+  arith,
+  once_other p 18 (λ e. omega (arith, e, far)),
+  once_other p 27 (λ e. omega (arith, e, far)),
+  once_other p 23 (λ e. omega (arith, e, far)),
+  once_other p 19 (λ e. omega (arith, e, far)),
+  once_other p 33 (λ e. omega (arith, e, far)),
+  once_other p 22 (λ e. omega (arith, e, far)),
+  once_other p 42 (λ e. omega (arith, e, far)),
+  once_other p 40 (λ e. omega (arith, e, far)),
+  once_other p 43 (λ e. omega (arith, e, far)),
+  once_other p 36 (λ e. omega (arith, e, far)),
+  once_other p 32 (λ e. omega (arith, e, far)),
+  once_other p 41 (λ e. omega (arith, e, far)),
+  once_other p 37 (λ e. omega (arith, e, far)),
+)
 
-used_passes : (p : ℕ) → IsUsedPage few_extents worked_owners p → is_used p ≡ true
-used_passes p used =
-    both_true (nat_le 18 p) (is_used_place (place_in_extent few_extents p) (owner_of worked_owners (extent_of few_extents p))) (le-leb 18 p used.page.behind) used.used
-
-used_by_test : (p : ℕ) → is_used p ≡ true → p < 50 → IsUsedPage few_extents worked_owners p
-used_by_test p test low =
-    let behind : 18 ≤ p = leb-true 18 p (first_true (nat_le 18 p) (is_used_place (place_in_extent few_extents p) (owner_of worked_owners (extent_of few_extents p))) test) in
-    record { page = record { behind = behind; within = low }; used = second_true (nat_le 18 p) (is_used_place (place_in_extent few_extents p) (owner_of worked_owners (extent_of few_extents p))) test }
-
-far_page : (p : ℕ) → 50 ≤ p → IsTreePageSound few_extents worked_view p
-far_page p far = record {
-  used = λ used. absurd (omega (arith, used.page.within, far));
-  others = λ unused. omega (
-    arith,
-    once_other p 18 (λ e. omega (arith, e, far)),
-    once_other p 27 (λ e. omega (arith, e, far)),
-    once_other p 23 (λ e. omega (arith, e, far)),
-    once_other p 19 (λ e. omega (arith, e, far)),
-    once_other p 33 (λ e. omega (arith, e, far)),
-    once_other p 22 (λ e. omega (arith, e, far)),
-    once_other p 42 (λ e. omega (arith, e, far)),
-    once_other p 40 (λ e. omega (arith, e, far)),
-    once_other p 43 (λ e. omega (arith, e, far)),
-    once_other p 36 (λ e. omega (arith, e, far)),
-    once_other p 32 (λ e. omega (arith, e, far)),
-    once_other p 41 (λ e. omega (arith, e, far)),
-    once_other p 37 (λ e. omega (arith, e, far)),
-  );
-}
-
-used_once : (p : ℕ) → p < 50 → (not (is_used p) || (times_in_trees p worked_view == 1)) ≡ true
-used_once p low = passes (λ p. not (is_used p) || (times_in_trees p worked_view == 1)) 50 refl p low
-
-unused_none : (p : ℕ) → p < 50 → (is_used p || (times_in_trees p worked_view == 0)) ≡ true
-unused_none p low = passes (λ p. is_used p || (times_in_trees p worked_view == 0)) 50 refl p low
-
-not_used : (p : ℕ) → p < 50 → (IsUsedPage few_extents worked_owners p → ⊥) → is_used p ≡ false
-not_used p low unused = elim (cases_Bool (is_used p)) [ inl is ↦ absurd (unused (used_by_test p is low)) | inr is ↦ is ]
-
-pub tree_pages_are : (p : ℕ) → IsTreePageSound few_extents worked_view p
-tree_pages_are p = elim (cases_lt p 50) [
-  | inl low ↦ record {
-    used = λ used. eqb-true (times_in_trees p worked_view) 1 (if_first (is_used p) (times_in_trees p worked_view == 1) (used_once p low) (used_passes p used));
-    others = λ unused. eqb-true (times_in_trees p worked_view) 0 (if_not_first (is_used p) (times_in_trees p worked_view == 0) (unused_none p low) (not_used p low unused));
-  }
-  | inr far ↦ far_page p far
-]
+pub tree_pages_are : AreTreePagesSound few_extents worked_view
+tree_pages_are = counted_pages_are_sound few_extents worked_view 50 refl refl no_tree_behind

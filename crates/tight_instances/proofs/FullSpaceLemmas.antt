@@ -1,19 +1,16 @@
 -- The full file keeps rules 1 to 6: its root page, extent map, table pages, trees and block map.
-use Rattle.std.specs.Prelude.{◌≡◌, ◌≢◌, ◌<◌, ◌≤◌, ◌+◌, ◌==◌, ◌&&◌, ◌||◌, not, nat_le, nat_lt, ℕ, Bool, true, false, zero, suc, [], ◌∷◌, Contains}
+use Rattle.std.specs.Prelude.{◌≡◌, ◌≢◌, ◌≤◌, ◌==◌, ◌||◌, not, ℕ, [], ◌∷◌, Contains}
 use Rattle.std.specs.List.{list_any}
 use Rattle.std.proofs.Common.{refl, arith, sym, subst, inl, inr}
-use Rattle.std.proofs.lemmas.Bool.{cases_Bool, cases_lt, eqb-true, le-leb, leb-true, ltb-true}
+use Rattle.std.proofs.lemmas.Bool.{eqb-true}
 use Rattle.std.proofs.lemmas.Map.Views.{Contains-from_any}
 use Rattle.mdc_words.specs.ByteOrder.{below}
 use Rattle.mdc_ast.specs.TableLimits.{IsTableDef}
 use Rattle.mdc_ast.specs.declared.definition.IndexDef.{IndexDef}
 use Rattle.mdc_ast.specs.declared.definition.TableDef.{TableDef}
-use Rattle.store_api.specs.Extents.{first_page_of}
 use Rattle.store_api.specs.StoreState.{zero_page}
-use Rattle.extent_map.specs.Kinds.{IsKindOf, is_block_kind, is_free_kind, is_used_place}
-use Rattle.extent_map.specs.Owners.{IsUsedPage, extent_of, owner_of, place_in_extent}
-use Rattle.extent_map.specs.declared.kind.Kind.TheVariants.{Free, Block}
-use Rattle.extent_map.proofs.BitsLemmas.{is_free-Free}
+use Rattle.extent_map.specs.Owners.{owner_of}
+use Rattle.extent_map.specs.declared.kind.Kind.TheVariants.{Block}
 use Rattle.node_page.specs.Node.{node_of}
 use Rattle.entry_tree.specs.Forest.Forest.{Leaf, Nil}
 use Rattle.entry_tree.proofs.ForestLemmas.{once_other}
@@ -22,9 +19,9 @@ use Rattle.table_page.specs.TablePage.{IsTablePageOf}
 use Rattle.table_page.proofs.TablePageLemmas.{no_blank_table}
 use Rattle.table_trees.specs.ToldPages.{HasTree}
 use Rattle.mdc_sound.specs.SmallDatabase.{def_t}
-use Rattle.mdc_sound.specs.SpaceRules.{AreRootsInIndexes, AreTablePagesSound, AreTreesSound, IsBlockMapSound, IsMapPageSound, IsMapSound, IsOwnerThere, IsRootSound, IsTreePageSound, definitions_in, indexes_in, times_in_trees}
-use Rattle.mdc_sound.specs.TablePages.{DefinesTable}
-use Rattle.sound_instances.proofs.InstancesLemmas.{block_is_of, both_true, each_owner, each_pair, first_true, if_first, if_not_first, is_block_of, is_kind, kind_is, leaf_is_held, owner_is_there, passes, second_true}
+use Rattle.mdc_sound.specs.SpaceRules.{AreRootsInIndexes, AreTablePagesSound, AreTreePagesSound, AreTreesSound, IsBlockMapSound, IsMapPageSound, IsMapSound, IsRootSound, definitions_in, indexes_in, times_in_trees}
+use Rattle.mdc_sound.specs.TablePages.{DefinesTable, IsTableThere}
+use Rattle.sound_instances.proofs.InstancesLemmas.{block_is_of, counted_pages_are_sound, each_owner, each_pair, if_first, in_use_is_below, is_block_of, kinds_are, leaf_is_held, map_of_one_page, owners_are_there}
 use Rattle.tight_instances.specs.FullFile.{four_extents, full_cells, full_lines, full_owners, full_pages, full_rows, full_table, full_view}
 
 -- ---- rules 1 and 2
@@ -50,39 +47,21 @@ limits_are = record {
 pub defines : DefinesTable full_pages 0 def_t
 defines = record { limits = limits_are; printed = refl }
 
-kinds_are : (e : ℕ) → IsKindOf 2 (owner_of full_owners e)
-kinds_are e = kind_is 2 (owner_of full_owners e) (each_owner (λ e kind. is_kind 2 kind) full_owners refl (λ e. refl) e)
+is_there : IsTableThere full_pages 0
+is_there = (omega arith, λ blank. no_blank_table 0 def_t (subst (λ page. IsTablePageOf 0 def_t page) blank defines))
 
--- an extent in use lies within the 26 pages
-owned_within : (e : ℕ) → owner_of full_owners e ≢ Free → first_page_of 4 2 (e + 1) ≤ 26
-owned_within e owned = elim (cases_Bool (is_free_kind (owner_of full_owners e))) [
-  | inl free ↦ absurd (owned (is_free-Free (owner_of full_owners e) free))
-  | inr not_free ↦
-      let test = each_owner (λ e kind. is_free_kind kind || nat_lt e 4) full_owners refl (λ e. refl) e in
-      let low = ltb-true e 4 (if_not_first (is_free_kind (owner_of full_owners e)) (nat_lt e 4) test not_free) in omega (arith, low)
-]
-
-owners_there : (e : ℕ) → IsOwnerThere full_pages (owner_of full_owners e)
-owners_there e = owner_is_there
-    full_pages
-    0
-    (omega arith, λ blank. no_blank_table 0 def_t (subst (λ page. IsTablePageOf 0 def_t page) blank defines))
-    (owner_of full_owners e)
-    (each_owner (λ e kind. not (is_block_kind kind) || is_block_of 0 kind) full_owners refl (λ e. refl) e)
+first_map_page : IsMapPageSound four_extents full_pages full_owners 0
+first_map_page = record {
+  held = record {
+    page = record { is_told = refl; within = omega arith; bytes_are = refl };
+    kinds = λ e on. kinds_are 2 full_owners refl e;
+    there = λ e on owned. let low = in_use_is_below 4 full_owners refl e owned in omega (arith, low);
+  };
+  owned = λ e on. owners_are_there full_pages 0 full_owners is_there refl e;
+}
 
 pub map_is_sound : IsMapSound four_extents full_pages full_owners
-map_is_sound = record { count = refl; each = each_page }
-  where
-    each_page : (i : ℕ) → i < 1 → IsMapPageSound four_extents full_pages full_owners i
-    each_page zero low = record {
-      held = record {
-        page = record { is_told = refl; within = omega arith; bytes_are = refl };
-        kinds = λ e on. kinds_are e;
-        there = λ e on owned. owned_within e owned;
-      };
-      owned = λ e on. owners_there e;
-    }
-    each_page (suc i) low = absurd (omega (arith, low))
+map_is_sound = map_of_one_page four_extents full_pages full_owners refl refl first_map_page
 
 -- ---- rule 3
 
@@ -128,48 +107,17 @@ trees_are = ((lines_at_18, (cells_at_19, (cells_at_20, (rows_at_21, tt)))), tt)
 
 -- ---- rule 5
 
--- a page behind the first ones is a used one by this test
-abbrev is_used : ℕ → Bool
-is_used p = nat_le 18 p && is_used_place (place_in_extent four_extents p) (owner_of full_owners (extent_of four_extents p))
+no_tree_behind : (p : ℕ) → 26 ≤ p → times_in_trees p full_view ≡ 0
+no_tree_behind p far = omega (
+  arith,
+  once_other p 18 (λ e. omega (arith, e, far)),
+  once_other p 19 (λ e. omega (arith, e, far)),
+  once_other p 20 (λ e. omega (arith, e, far)),
+  once_other p 21 (λ e. omega (arith, e, far)),
+)
 
-used_passes : (p : ℕ) → IsUsedPage four_extents full_owners p → is_used p ≡ true
-used_passes p used =
-    both_true (nat_le 18 p) (is_used_place (place_in_extent four_extents p) (owner_of full_owners (extent_of four_extents p))) (le-leb 18 p used.page.behind) used.used
-
-used_by_test : (p : ℕ) → is_used p ≡ true → p < 26 → IsUsedPage four_extents full_owners p
-used_by_test p test low =
-    let behind : 18 ≤ p = leb-true 18 p (first_true (nat_le 18 p) (is_used_place (place_in_extent four_extents p) (owner_of full_owners (extent_of four_extents p))) test) in
-    record { page = record { behind = behind; within = low }; used = second_true (nat_le 18 p) (is_used_place (place_in_extent four_extents p) (owner_of full_owners (extent_of four_extents p))) test }
-
-far_page : (p : ℕ) → 26 ≤ p → IsTreePageSound four_extents full_view p
-far_page p far = record {
-  used = λ used. absurd (omega (arith, used.page.within, far));
-  others = λ unused. omega (
-    arith,
-    once_other p 18 (λ e. omega (arith, e, far)),
-    once_other p 19 (λ e. omega (arith, e, far)),
-    once_other p 20 (λ e. omega (arith, e, far)),
-    once_other p 21 (λ e. omega (arith, e, far)),
-  );
-}
-
-used_once : (p : ℕ) → p < 26 → (not (is_used p) || (times_in_trees p full_view == 1)) ≡ true
-used_once p low = passes (λ p. not (is_used p) || (times_in_trees p full_view == 1)) 26 refl p low
-
-unused_none : (p : ℕ) → p < 26 → (is_used p || (times_in_trees p full_view == 0)) ≡ true
-unused_none p low = passes (λ p. is_used p || (times_in_trees p full_view == 0)) 26 refl p low
-
-not_used : (p : ℕ) → p < 26 → (IsUsedPage four_extents full_owners p → ⊥) → is_used p ≡ false
-not_used p low unused = elim (cases_Bool (is_used p)) [ inl is ↦ absurd (unused (used_by_test p is low)) | inr is ↦ is ]
-
-pub tree_pages_are : (p : ℕ) → IsTreePageSound four_extents full_view p
-tree_pages_are p = elim (cases_lt p 26) [
-  | inl low ↦ record {
-    used = λ used. eqb-true (times_in_trees p full_view) 1 (if_first (is_used p) (times_in_trees p full_view == 1) (used_once p low) (used_passes p used));
-    others = λ unused. eqb-true (times_in_trees p full_view) 0 (if_not_first (is_used p) (times_in_trees p full_view == 0) (unused_none p low) (not_used p low unused));
-  }
-  | inr far ↦ far_page p far
-]
+pub tree_pages_are : AreTreePagesSound four_extents full_view
+tree_pages_are = counted_pages_are_sound four_extents full_view 26 refl refl no_tree_behind
 
 -- ---- rule 6
 
