@@ -6,15 +6,16 @@ use Rattle.std.proofs.lemmas.List.{length-take-le}
 use Rattle.std.proofs.Math.Seq.{take-append_seam, drop-append_seam}
 use Rattle.entry_tree.proofs.DescentLemmas.{left_below, outside, put_at, right_above}
 use Rattle.entry_tree.proofs.EntryBoundsLemmas.{put_between, put_rises}
-use Rattle.entry_tree.proofs.ForestLemmas.{EachNode-and, EachNode-from_and, Fits-count, HoldsForest-agree, heads-and, leaf_entries-and, once_other, once_same, times-and}
+use Rattle.entry_tree.proofs.ForestLemmas.{EachNode-and, EachNode-from_and, Fits-count, HoldsForest-agree, filled_leaves-and, heads-and, leaf_entries-and, once_other, once_same, times-and}
 use Rattle.entry_tree.proofs.LeavesLemmas.{HoldsEntry-moved, KeepsBeside, holds_with_entry, keeps_plug, length-with_entry}
+use Rattle.entry_tree.proofs.OneLeafLemmas.{gains_as, gains_beside, gains_one, gains_plug, gains_two}
 use Rattle.entry_tree.proofs.TreeChangesLemmas.{changed, leaf_change, root_split}
 use Rattle.entry_tree.proofs.TreePlacesLemmas.{EachNode-from_plug, Fits-frame, Fits-plug, leaf_entries-plug, times-plug}
 use Rattle.entry_tree.proofs.TreeRowLemmas.{Halves, halves_at, leaf_row, row_done, row_entries, row_up}
 use Rattle.entry_tree.specs.EntryBounds.{AtLeast, Bound, IsEntryOf, Rises, Under, with_entry}
-use Rattle.entry_tree.specs.Forest.{EachNode, Fits, Forest, HasNode, HoldsForest, IsTree, NoPageTwice, heads, leaf_entries, once, times, ◌&◌}
+use Rattle.entry_tree.specs.Forest.{EachNode, Fits, Forest, HasNode, HoldsForest, IsTree, NoPageTwice, filled_leaves, heads, leaf_entries, once, times, ◌&◌}
 use Rattle.entry_tree.specs.Forest.Forest.{Fork, Leaf, Nil}
-use Rattle.entry_tree.specs.TreeChanges.{IsAdded, IsHalfHead, IsHalfway, IsTreeRow, KeepsLeaf, times_among}
+use Rattle.entry_tree.specs.TreeChanges.{GainsInLeaf, IsAdded, IsHalfHead, IsHalfway, IsTreeRow, KeepsLeaf, times_among}
 use Rattle.entry_tree.specs.TreePlaces.{AreMatched, Frame, IsAtPlace, first_or, high_of, last_or, low_of, places, plug, times_beside}
 use Rattle.mdc_words.specs.ByteOrder.{Entry}
 use Rattle.node_page.specs.Node.{Node, leaf_room}
@@ -109,6 +110,10 @@ up_end width old now new t x root p i stack page s b seps children claims w h e 
               ∙ sym (leaf_entries-plug fs (Fork f.page (f.lows ++ f.highs) (f.left & (h.row & f.right)) Nil))
               ∙ put_at (f ∷ fs) h.spot h.row x (outside None None (f ∷ fs) h.spot page x m h.head was.fits l u) h.adds
               ∙ ap (λ (v : Forest). with_entry x (leaf_entries v)) (sym c);
+          one_leaf =
+              gains_as x _ _ _ _ (ap filled_leaves c) refl
+              (gains_plug x fs (Fork f.page (f.lows ++ f.highs) (f.left & (h.spot & f.right)) Nil) (Fork f.page (f.lows ++ s ∷ f.highs) (f.left & (h.row & f.right)) Nil)
+              (gains_as x _ _ _ _ (append-nil _) (append-nil _) (gains_beside x f.left h.spot h.row f.right h.one_leaf)));
           leaves =
               let beside = kb (f ∷ fs) h.spot c in
               keeps_plug width old t fs (Fork f.page (f.lows ++ s ∷ f.highs) (f.left & (h.row & f.right)) Nil) beside.2
@@ -193,6 +198,9 @@ up_step width old now new t x root p i stack page s b seps children claims lows 
               row_entries f h.spot h.row cut.first cut.second [] lows highs c cut.whole ∙ one
               ∙ sym (put_between x (leaf_entries f.left) (leaf_entries h.spot) (leaf_entries f.right) a.0 r.0)
               ∙ ap (with_entry x) (sym two);
+          one_leaf =
+              gains_as x _ _ _ _ (append-nil _) (ap (λ (l : List (List Entry)). filled_leaves cut.first ++ l) (append-nil (filled_leaves cut.second)) ∙ (sym (filled_leaves-and cut.first cut.second) ∙ ap filled_leaves (sym cut.whole)))
+              (gains_beside x f.left h.spot h.row f.right h.one_leaf);
           leaves =
               let beside = kb (f ∷ fs) h.spot d in
               let whole = EachNode-and (KeepsLeaf width old t) f.left (h.row & f.right) beside.0 (EachNode-and (KeepsLeaf width old t) h.row f.right h.leaves beside.1) in
@@ -258,6 +266,9 @@ leaf_end width old new t x root page stack items w v e absent k o kb =
           adds = put_at v.above (Leaf p xs Nil) (Leaf p (with_entry x xs) Nil) x (outside None None v.above (Leaf p xs Nil) page x v.matched h was.fits v.low v.high)
               (rw (append-nil, append-nil))
               ∙ ap (λ (u : Forest). with_entry x (leaf_entries u)) (sym d);
+          one_leaf =
+              gains_as x _ _ _ _ (ap filled_leaves d) refl
+              (gains_plug x v.above (Leaf p xs Nil) (Leaf p (with_entry x xs) Nil) (gains_as x _ _ _ _ (append-nil _) (append-nil _) (gains_one x xs)));
           leaves =
               keeps_plug width old t v.above (Leaf p (with_entry x xs) Nil) (kb v.above (Leaf p xs Nil) d)
               ((holds_with_entry p x xs, inr (xs, omega (arith, ap (times p) d, times-plug p v.above (Leaf p xs Nil), once_same p), held.0, omega (arith, length-with_entry x xs))), tt);
@@ -304,6 +315,7 @@ leaf_begins width old new t x root page stack items z zs y ys c w v e absent cut
           low = v.low;
           high = v.high;
           adds = rw (append-nil, append-nil) (sym parts);
+          one_leaf = gains_as x _ _ _ _ (append-nil _) refl (gains_two x xs (z ∷ zs) (y ∷ ys) parts);
           leaves = ((tt, inl half_one), ((tt, inl half_two), tt));
           half = half_one;
           claimed = λ n. omega arith;
@@ -327,10 +339,10 @@ raised width old now new t x root s b a claims w h z za e k o = top h.above h.wh
     off (Fork p seps kids next) e n z = let same : p ≡ root = cc in subst (λ (v : ℕ). n ≢ v) same (is_not n p (omega arith))
 
     go : (row : Forest) → t ≡ h.spot → Fits None None (s ∷ []) row → HoldsForest now row → NoPageTwice row → times a row ≡ 0 → heads row ≡ root ∷ b ∷ [] → leaf_entries row ≡ with_entry x (leaf_entries h.spot)
-        → EachNode (KeepsLeaf width old t) row → IsHalfHead width row → ((n : ℕ) → times n row ≡ times n t + times_among n claims)
+        → GainsInLeaf x (filled_leaves h.spot) (filled_leaves row) → EachNode (KeepsLeaf width old t) row → IsHalfHead width row → ((n : ℕ) → times n row ≡ times n t + times_among n claims)
         → ((n : ℕ) → times n t ≡ 0 → once n a + times_among n claims ≡ 0 → new n ≡ old n) → IsAdded width old new root t x (a ∷ claims)
-    go Nil d f g i out hr en kl hh pg kept = cc
-    go (Leaf p items next) d f g i out hr en kl hh pg kept =
+    go Nil d f g i out hr en ol kl hh pg kept = cc
+    go (Leaf p items next) d f g i out hr en ol kl hh pg kept =
         let same : p ≡ root = cc in
         let over : once p p + times p next ≤ 1 = i p in
         record {
@@ -345,6 +357,7 @@ raised width old now new t x root s b a claims w h z za e k o = top h.above h.wh
               (subst (λ (v : ℕ). times v (Leaf a items next) ≡ 0) same (omega (arith, over, once_same p, other p out)))
               (k ∙ ap (λ (l : List ℕ). InnerNode (s ∷ []) l) (let tail : heads next ≡ b ∷ [] = cc in rw tail));
           adds = rw append-nil (en ∙ ap (λ (u : Forest). with_entry x (leaf_entries u)) (sym d));
+          one_leaf = gains_as x _ _ _ _ (ap filled_leaves d) (append-nil _) ol;
           leaves = (tt, ((HoldsEntry-moved p a items kl.0.0, inl hh), kl.1), tt);
           pages = λ n. omega (arith, pg n, subst (λ (v : ℕ). once n v ≡ once n p) same refl);
           kept = kept;
@@ -358,7 +371,7 @@ raised width old now new t x root s b a claims w h z za e k o = top h.above h.wh
           | inl q ↦ subst (λ (v : ℕ). once v a + times v next ≤ 1) (sym q) (omega (arith, once_same a))
           | inr u ↦ omega (arith, once_other n a u, i n)
         ]
-    go (Fork p seps kids next) d f g i out hr en kl hh pg kept =
+    go (Fork p seps kids next) d f g i out hr en ol kl hh pg kept =
         let same : p ≡ root = cc in
         let over : once p p + (times p kids + times p next) ≤ 1 = i p in
         record {
@@ -369,6 +382,7 @@ raised width old now new t x root s b a claims w h z za e k o = top h.above h.wh
               (subst (λ (v : ℕ). times v (Fork a seps kids next) ≡ 0) same (omega (arith, over, once_same p, other)))
               (k ∙ ap (λ (l : List ℕ). InnerNode (s ∷ []) l) (let tail : heads next ≡ b ∷ [] = cc in rw tail));
           adds = rw append-nil (en ∙ ap (λ (u : Forest). with_entry x (leaf_entries u)) (sym d));
+          one_leaf = gains_as x _ _ _ _ (ap filled_leaves d) (append-nil _) ol;
           leaves = (tt, kl, tt);
           pages = λ n. omega (arith, pg n, subst (λ (v : ℕ). once n v ≡ once n p) same refl);
           kept = kept;
@@ -393,6 +407,6 @@ raised width old now new t x root s b a claims w h z za e k o = top h.above h.wh
     top : (above : List Frame) → t ≡ plug above h.spot → places above ≡ []
         → IsTreeRow old now (low_of None above) (high_of None above) t h.spot (s ∷ []) h.row → IsAdded width old new root t x (a ∷ claims)
     top [] d y r =
-        go h.row d r.fits r.holds r.distinct (omega (arith, h.claimed a, ap (times a) d)) h.heads_row h.adds h.leaves h.half (λ n. omega (arith, h.claimed n, ap (times n) d))
+        go h.row d r.fits r.holds r.distinct (omega (arith, h.claimed a, ap (times a) d)) h.heads_row h.adds h.one_leaf h.leaves h.half (λ n. omega (arith, h.claimed n, ap (times n) d))
         (λ n z q. o n (off t w.head n z) (is_not n a (omega arith)) ∙ r.wrote n (omega (arith, ap (times n) d)) (omega (arith, h.claimed n, ap (times n) d)))
     top (f ∷ fs) d y r = cc

@@ -87,7 +87,7 @@ above_node width old now t x root p i stack page s b claims w h = go h.above h.w
 
 pub among_them : {width : ℕ} {old new : ℕ → Node} {root : ℕ} {t : Forest} {x : Entry} (claims fresh : List ℕ) → ((n : ℕ) → times_among n claims ≡ times_among n fresh)
     → IsAdded width old new root t x claims → IsAdded width old new root t x fresh
-among_them claims fresh f a = record { after = a.after; tree = a.tree; adds = a.adds; leaves = a.leaves; pages = λ n. omega (arith, a.pages n, f n); kept = λ n z q. a.kept n z (omega (arith, f n, q)) }
+among_them claims fresh f a = record { after = a.after; tree = a.tree; adds = a.adds; one_leaf = a.one_leaf; leaves = a.leaves; pages = λ n. omega (arith, a.pages n, f n); kept = λ n z q. a.kept n z (omega (arith, f n, q)) }
 
 -- the node above has room
 pub goes_end : (width : ℕ) (old now new : ℕ → Node) (t : Forest) (x : Entry) (root p i : ℕ) (items rest : List (ℕ × ℕ)) (s : Entry) (b : ℕ) (fresh : List ℕ) (used : ℕ)

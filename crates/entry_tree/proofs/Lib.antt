@@ -30,6 +30,7 @@ pub mod LeavesLemmas
 pub mod LentNodesLemmas
 pub mod MakingLemmas
 pub mod NodeOnWayLemmas
+pub mod OneLeafLemmas
 pub mod OtherTreesLemmas
 pub mod PassedLemmas
 pub mod PruningLemmas

@@ -17,14 +17,14 @@ use Rattle.extent_map.specs.declared.kind.Kind.{Kind}
 use Rattle.extent_map.specs.declared.space_notes.SpaceNotes.{SpaceNotes}
 use Rattle.extent_map.proofs.HoldsMapLemmas.{holds_map_run, holds_map_same}
 use Rattle.entry_tree.specs.EntryBounds.{AtLeast, Bound, Climbs, IsEntryOf, Rises, Under, with_entry}
-use Rattle.entry_tree.specs.Forest.{Fits, Forest, IsTree, IsTrimTree, leaf_entries, once, times}
+use Rattle.entry_tree.specs.Forest.{Fits, Forest, IsTree, IsTrimTree, filled_leaf, filled_leaves, leaf_entries, once, times}
 use Rattle.entry_tree.specs.Forest.Forest.{Leaf, Nil}
 use Rattle.entry_tree.specs.HeldTrees.{nodes_in, HoldsTree}
 use Rattle.entry_tree.specs.LeafSpots.{IsItemSpot, IsParent}
 use Rattle.entry_tree.specs.Pruning.{BreaksDrop, BreaksTreeOrReturn, DropsLeaf, IsDropLook, IsDropPage, IsDroppableLeaf, IsDropping, HasLeafEntry, IsPruned, IsTreeOrMapPage, RemovesEntry, without_pages}
 use Rattle.entry_tree.specs.Standing.{StandsTree}
-use Rattle.entry_tree.specs.TreeChanges.{IsPut, times_among}
-use Rattle.entry_tree.specs.TreePlaces.{AreMatched, Frame, entries_before, entries_behind, high_of, low_of, plug}
+use Rattle.entry_tree.specs.TreeChanges.{IsPut, LosesInLeaf, times_among}
+use Rattle.entry_tree.specs.TreePlaces.{AreMatched, Frame, entries_before, entries_behind, high_of, leaves_before, leaves_behind, low_of, plug}
 use Rattle.entry_tree.specs.Writing.{BreaksWhere}
 use Rattle.entry_tree.specs.declared.tree.Tree.{Tree}
 use Rattle.entry_tree.proofs.DescentLemmas.{outside}
@@ -32,6 +32,7 @@ use Rattle.entry_tree.proofs.DroppingLemmas.{node_above, other_above}
 use Rattle.entry_tree.proofs.EntryBoundsLemmas.{AllAbove, AllAbove-and, AllBelow, AllBelow-and, Climbs-above, Climbs-and, Climbs-below, below_itself, from_below, in_between, not_below, put_between}
 use Rattle.entry_tree.proofs.ForestLemmas.{once_same}
 use Rattle.entry_tree.proofs.HeldTreesLemmas.{nodes_same}
+use Rattle.entry_tree.proofs.OneLeafLemmas.{filled_with, plain_leaves}
 use Rattle.entry_tree.proofs.PruningLemmas.{pruned_leaf}
 use Rattle.entry_tree.proofs.ReturnedPagesLemmas.{apart_from_map, used_beside}
 use Rattle.entry_tree.proofs.SublistLemmas.{IsSublist-remove, Rises-sublist}
@@ -94,6 +95,30 @@ removed_entries above page items at m f l =
     let plain : leaf_entries (plug above (Leaf page items Nil)) ≡ entries_before above ++ (items ++ entries_behind above) = leaf_entries-plug above (Leaf page items Nil) ∙ simp append-nil in
     (plain ∙ (ap (λ (k : List Entry). entries_before above ++ (k ++ entries_behind above)) parts ∙ r.0), r.1)
 
+-- the leaf has the others of its entries
+removed_item : (above : List Frame) (page : ℕ) (items : List Entry) (at : ℕ) → AreMatched above → Fits None None [] (plug above (Leaf page items Nil)) → at < length items
+    → items ≡ with_entry (get_or items at []) (remove items at)
+removed_item above page items at m f l =
+    let fit = Fits-plug None None above (Leaf page items Nil) page m refl f in
+    let parts = parts_at items at l in
+    let rising = rising_parts (low_of None above) (high_of None above) (take at items) (get_or items at []) (drop (suc at) items) (subst (Rises (low_of None above) (high_of None above)) parts fit.0.1) in
+    parts ∙ sym (put_between (get_or items at []) (take at items) [] (drop (suc at) items) rising.0 rising.1)
+
+-- and is the one that lost an entry
+loses_here : (above : List Frame) (page : ℕ) (items : List Entry) (at : ℕ) (after : Forest) → AreMatched above → Fits None None [] (plug above (Leaf page items Nil)) → at < length items
+    → filled_leaves after ≡ leaves_before above ++ (filled_leaf (remove items at) ++ leaves_behind above)
+    → LosesInLeaf (get_or items at []) (filled_leaves (plug above (Leaf page items Nil))) (filled_leaves after)
+loses_here above page items at after m f l has = record {
+  front = leaves_before above;
+  kept = remove items at;
+  back = leaves_behind above;
+  had =
+      plain_leaves above page items refl
+      ∙ ap (λ (k : List (List Entry)). leaves_before above ++ (k ++ leaves_behind above))
+      (ap filled_leaf (removed_item above page items at m f l) ∙ filled_with (get_or items at []) (remove items at));
+  has = has;
+}
+
 -- a page that isn't given back stays in use
 used_without : (shape : Shape) (owners : List Kind) (gone : List ℕ) (p : ℕ) → ((q : ℕ) → 0 < times_among q gone → IsExtentPage shape q) → times_among p gone ≡ 0 → IsUsedPage shape owners p
     → IsUsedPage shape (without_pages shape owners gone) p
@@ -127,6 +152,8 @@ module _ {S : Type 0} {g : Ghosts S} {shape : Shape} {s : S} {tree : Tree} {owne
         after = p.after;
         stands = stands_pruned st p map;
         takes = ap leaf_entries whole ∙ (r.0 ∙ ap (with_entry (get_or items at [])) (sym p.entries));
+        one_leaf = subst (λ (u : Forest). LosesInLeaf (get_or items at []) (filled_leaves u) (filled_leaves p.after)) (sym whole)
+            (loses_here above page items at p.after m (subst (Fits None None []) whole st.held.is_tree.fits) l p.leaves);
         absent = λ i. r.1 (subst (IsEntryOf (get_or items at [])) p.entries i);
         pages = p.counts;
         notes = notes;

@@ -210,6 +210,7 @@ module _ {S : Type 0} {g : Ghosts S} where
           used = λ p l. (used p (pages_apart t a.after claimed p a.pages l));
         };
         adds = a.adds;
+        one_leaf = a.one_leaf;
         absent = absent;
         asked = asks;
         claims = c.claims;

@@ -17,7 +17,7 @@ use Rattle.extent_map.specs.declared.kind.Kind.{Kind}
 use Rattle.extent_map.specs.declared.space_notes.SpaceNotes.{SpaceNotes}
 use Rattle.extent_map.proofs.HoldsMapLemmas.{holds_map_run}
 use Rattle.entry_tree.specs.EntryBounds.{Bound}
-use Rattle.entry_tree.specs.Forest.{Forest, IsTree, IsTrimTree, filled_leaf, filled_leaves, leaf_entries, times}
+use Rattle.entry_tree.specs.Forest.{Forest, IsTree, IsTrimTree, filled_leaf, leaf_entries, times}
 use Rattle.entry_tree.specs.Forest.Forest.{Leaf, Nil}
 use Rattle.entry_tree.specs.HeldTrees.{nodes_in, HoldsTree}
 use Rattle.entry_tree.specs.LeafSpots.{IsItemSpot, IsParent}
@@ -31,7 +31,8 @@ use Rattle.entry_tree.proofs.PruningLemmas.{pruned_leaf}
 use Rattle.entry_tree.proofs.RemovalLemmas.{spot_to_drop, stands_pruned}
 use Rattle.entry_tree.proofs.ReturnedPagesLemmas.{apart_from_map}
 use Rattle.entry_tree.proofs.SublistLemmas.{IsSublist, Rises-sublist}
-use Rattle.entry_tree.proofs.TreePlacesLemmas.{Fits-plug, filled_leaves-plug, leaf_entries-plug}
+use Rattle.entry_tree.proofs.OneLeafLemmas.{plain_leaves}
+use Rattle.entry_tree.proofs.TreePlacesLemmas.{Fits-plug, leaf_entries-plug}
 use Rattle.entry_tree.proofs.UnsweptLemmas.{IsLeafPart, length-part, part_before, part_none, unswept-items, unswept-part}
 use Rattle.entry_tree.proofs.WayLemmas.{place_times}
 
@@ -67,9 +68,6 @@ only_spot {page = page} spot is owners t st =
 
 plain_entries : {t : Forest} (above : List Frame) (page : ℕ) (items : List Entry) → t ≡ plug above (Leaf page items Nil) → leaf_entries t ≡ entries_before above ++ (items ++ entries_behind above)
 plain_entries above page items whole = ap leaf_entries whole ∙ (leaf_entries-plug above (Leaf page items Nil) ∙ simp append-nil)
-
-pub plain_leaves : {t : Forest} (above : List Frame) (page : ℕ) (items : List Entry) → t ≡ plug above (Leaf page items Nil) → filled_leaves t ≡ leaves_before above ++ (filled_leaf items ++ leaves_behind above)
-plain_leaves above page items whole = ap filled_leaves whole ∙ (filled_leaves-plug above (Leaf page items Nil) ∙ simp append-nil)
 
 module _ {S : Type 0} {g : Ghosts S} {shape : Shape} {before : SpaceNotes} {s : S} {tree : Tree} {owners : List Kind} {t : Forest} where
   -- no entry goes

@@ -16,7 +16,7 @@ use Rattle.entry_tree.specs.Sweeping.{IsFirstLeaf, SweepsLeaf, leaves_from, one_
 use Rattle.entry_tree.specs.TreePlaces.{Frame, entries_before, entries_behind, leaves_before, leaves_behind}
 use Rattle.entry_tree.specs.declared.tree.Tree.{Tree}
 use Rattle.entry_tree.proofs.ReadingLemmas.{AreAtLeast-down, AreAtLeast-from_and, AreUnder-from_and, AreUnder-up, entries_from-least}
-use Rattle.entry_tree.proofs.SweepingLemmas.{plain_leaves}
+use Rattle.entry_tree.proofs.OneLeafLemmas.{plain_leaves}
 use Rattle.entry_tree.proofs.UnsweptLemmas.{none_from}
 
 leaves_from-append : (bound : Entry) (xs ys : List (List Entry)) → leaves_from bound (xs ++ ys) ≡ leaves_from bound xs + leaves_from bound ys

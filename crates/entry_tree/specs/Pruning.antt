@@ -17,7 +17,7 @@ use Rattle.entry_tree.specs.Forest.Forest.{Leaf, Nil}
 use Rattle.entry_tree.specs.HeldTrees.{nodes_in, BreaksTree}
 use Rattle.entry_tree.specs.Standing.{StandsTree}
 use Rattle.entry_tree.specs.TreePlaces.{AreMatched, Frame, entries_before, entries_behind, leaves_before, leaves_behind, plug}
-use Rattle.entry_tree.specs.TreeChanges.{times_among}
+use Rattle.entry_tree.specs.TreeChanges.{LosesInLeaf, times_among}
 use Rattle.entry_tree.specs.Writing.{BreaksWhere}
 use Rattle.entry_tree.specs.declared.tree.Tree.{Tree}
 
@@ -126,6 +126,7 @@ pub record RemovesEntry {S : Type 0} (g : Ghosts S) (shape : Shape) (before note
   pub after : Forest
   pub stands : StandsTree g shape new tree (without_pages shape owners gone) after
   pub takes : leaf_entries t ≡ with_entry x (leaf_entries after)
+  pub one_leaf : LosesInLeaf x (filled_leaves t) (filled_leaves after)
   pub absent : IsEntryOf x (leaf_entries after) → ⊥
   pub pages : (n : ℕ) → times n after + times_among n gone ≡ times n t
   pub notes : AreRightNotes shape before owners → AreRightNotes shape noted (without_pages shape owners gone)

@@ -14,10 +14,10 @@ use Rattle.extent_map.specs.declared.kind.Kind.{Kind}
 use Rattle.extent_map.specs.declared.kind.Kind.TheVariants.{Free}
 use Rattle.extent_map.specs.declared.space_notes.SpaceNotes.{SpaceNotes}
 use Rattle.entry_tree.specs.EntryBounds.{with_entry, IsEntryOf}
-use Rattle.entry_tree.specs.Forest.{Forest, leaf_entries, times, EachNode}
+use Rattle.entry_tree.specs.Forest.{Forest, filled_leaves, leaf_entries, times, EachNode}
 use Rattle.entry_tree.specs.Forest.Forest.{Nil, Leaf}
 use Rattle.entry_tree.specs.TreePlaces.{IsAtPlace, pages_asked}
-use Rattle.entry_tree.specs.TreeChanges.{KeepsLeaf, times_among}
+use Rattle.entry_tree.specs.TreeChanges.{GainsInLeaf, KeepsLeaf, times_among}
 use Rattle.entry_tree.specs.HeldTrees.{nodes_in, HoldsTree}
 use Rattle.entry_tree.specs.declared.tree.Tree.{Tree}
 
@@ -94,6 +94,7 @@ pub record AddsEntry {S : Type 0} (g : Ghosts S) (shape : Shape) (before noted :
   pub after : Forest
   pub stands : StandsTree g shape new tree (with_pages shape owners claimed) after
   pub adds : leaf_entries after ≡ with_entry x (leaf_entries t)
+  pub one_leaf : GainsInLeaf x (filled_leaves t) (filled_leaves after)
   pub absent : IsEntryOf x (leaf_entries t) → ⊥
   pub asked : AsksPages tree.width (nodes_in tree.width (g.state old)) t x (length claimed)
   pub claims : AreClaims shape owners claimed

@@ -4,7 +4,7 @@ use Rattle.mdc_words.specs.ByteOrder.{Entry}
 use Rattle.node_page.specs.Node.{Node, leaf_room}
 use Rattle.node_page.specs.Node.Node.{LeafNode, InnerNode, NoNode}
 use Rattle.entry_tree.specs.EntryBounds.{Bound, AtLeast, Under, Rises, with_entry, IsEntryOf, IsLeafPlace}
-use Rattle.entry_tree.specs.Forest.{Forest, heads, leaf_entries, once, times, EachNode, HoldsEntry, HoldsForest, Fits, NoPageTwice, IsTree}
+use Rattle.entry_tree.specs.Forest.{Forest, filled_leaf, filled_leaves, heads, leaf_entries, once, times, EachNode, HoldsEntry, HoldsForest, Fits, NoPageTwice, IsTree}
 use Rattle.entry_tree.specs.Forest.Forest.{Nil, Leaf, Fork}
 use Rattle.entry_tree.specs.TreePlaces.{Frame, plug, low_of, high_of, AreMatched, places, IsAtPlace}
 
@@ -40,6 +40,29 @@ KeepsLeafCounts (Leaf page items next) (Leaf other others behind) = (page ≡ ot
 KeepsLeafCounts (Fork page seps kids next) (Fork other bounds children behind) = (page ≡ other) × KeepsLeafCounts kids children × KeepsLeafCounts next behind
 KeepsLeafCounts t u = ⊥
 
+-- Of leaves that hold an entry: one lost an entry, and is gone where it had no other. Each other has the entries that it had.
+pub record LosesInLeaf (x : Entry) (before after : List (List Entry)) : Type 0 where
+  pub front : List (List Entry)
+  pub kept : List Entry
+  pub back : List (List Entry)
+  pub had : before ≡ front ++ (with_entry x kept ∷ back)
+  pub has : after ≡ front ++ (filled_leaf kept ++ back)
+
+-- a leaf with these entries is one still, or was cut in two
+abbrev pub IsOneLeafOrTwo : List Entry → List (List Entry) → Type 0
+IsOneLeafOrTwo more are = (are ≡ more ∷ []) ⊎ ((lower : List Entry) × (upper : List Entry) × (more ≡ lower ++ upper) × (are ≡ lower ∷ upper ∷ []))
+
+-- Of leaves that hold an entry: one has an entry more, or comes to hold its first as a root, and is one still or was cut in two.
+-- Each other has the entries that it had.
+pub record GainsInLeaf (x : Entry) (before after : List (List Entry)) : Type 0 where
+  pub front : List (List Entry)
+  pub was : List Entry
+  pub are : List (List Entry)
+  pub back : List (List Entry)
+  pub had : before ≡ front ++ (filled_leaf was ++ back)
+  pub has : after ≡ front ++ (are ++ back)
+  pub one_or_two : IsOneLeafOrTwo (with_entry x was) are
+
 -- how often a page stands among those that were claimed
 abbrev pub times_among : ℕ → List ℕ → ℕ
 times_among n [] = 0
@@ -65,6 +88,7 @@ pub record IsHalfway (width : ℕ) (old now : ℕ → Node) (t : Forest) (x : En
   pub low : AtLeast (low_of None above) x
   pub high : Under (high_of None above) x
   pub adds : leaf_entries row ≡ with_entry x (leaf_entries spot)
+  pub one_leaf : GainsInLeaf x (filled_leaves spot) (filled_leaves row)
   pub leaves : EachNode (KeepsLeaf width old t) row
   pub half : IsHalfHead width row
   pub claimed : (n : ℕ) → times n row ≡ times n spot + times_among n claims
@@ -74,6 +98,7 @@ pub record IsAdded (width : ℕ) (old new : ℕ → Node) (root : ℕ) (t : Fore
   pub after : Forest
   pub tree : IsTree new root after
   pub adds : leaf_entries after ≡ with_entry x (leaf_entries t)
+  pub one_leaf : GainsInLeaf x (filled_leaves t) (filled_leaves after)
   pub leaves : EachNode (KeepsLeaf width old t) after
   pub pages : (n : ℕ) → times n after ≡ times n t + times_among n claims
   pub kept : (n : ℕ) → times n t ≡ 0 → times_among n claims ≡ 0 → new n ≡ old n

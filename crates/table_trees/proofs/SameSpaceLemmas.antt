@@ -151,8 +151,8 @@ module _ (shape : Shape) (olds news : List Kind) (old mid new : PageList) where
   effect_from same (ClaimBlock t block) keeps c = (c.0, c.1, keeps_from Forest.Nil keeps c.2)
   effect_from same (GiveBlock t block) keeps c = (c.0, c.1, keeps_from Forest.Nil keeps c.2, c.3 ∙ same)
   effect_from same (AddEntry place entry) keeps c =
-      (c.0, c.1, c.2, turns_from place c.0 c.1 keeps c.3, c.4, c.5, leaves_along mid old place.width c.0 c.1 (λ p l. sym (keeps p (c.3.was_used p l))) c.6)
-  effect_from same (RemoveEntry place entry) keeps c = (c.0, c.1, c.2, turns_from place c.0 c.1 keeps c.3, c.4, c.5)
+      (c.0, c.1, c.2, turns_from place c.0 c.1 keeps c.3, c.4, c.5, leaves_along mid old place.width c.0 c.1 (λ p l. sym (keeps p (c.3.was_used p l))) c.6, c.7)
+  effect_from same (RemoveEntry place entry) keeps c = (c.0, c.1, c.2, turns_from place c.0 c.1 keeps c.3, c.4, c.5, c.6)
   effect_from same (AmendEntry place was is) keeps c = (c.0, c.1, c.2, turns_from place c.0 c.1 keeps c.3, c.4, c.5, c.6, c.7)
   effect_from same (MakeTree place) keeps c = (c.0, c.1, c.2, keeps_from Forest.Nil keeps c.3, c.4)
 
@@ -160,8 +160,8 @@ module _ (shape : Shape) (olds news : List Kind) (old mid new : PageList) where
   pub effect_to : length olds ≡ shape.extents → length new ≡ length mid → (change : SpaceChange) → KeepsUsed shape news mid new → ChangesSpace shape change olds news old mid → ChangesSpace shape change olds news old new
   effect_to count same (ClaimBlock t block) keeps c = (c.0, c.1, keeps_to Forest.Nil keeps c.2)
   effect_to count same (GiveBlock t block) keeps c = (c.0, c.1, keeps_to Forest.Nil keeps c.2, same ∙ c.3)
-  effect_to count same (AddEntry place entry) keeps c = (c.0, c.1, c.2, turns_to place c.0 c.1 keeps c.3, c.4, c.5, c.6)
-  effect_to count same (RemoveEntry place entry) keeps c = (c.0, c.1, c.2, turns_to place c.0 c.1 keeps c.3, c.4, c.5)
+  effect_to count same (AddEntry place entry) keeps c = (c.0, c.1, c.2, turns_to place c.0 c.1 keeps c.3, c.4, c.5, c.6, c.7)
+  effect_to count same (RemoveEntry place entry) keeps c = (c.0, c.1, c.2, turns_to place c.0 c.1 keeps c.3, c.4, c.5, c.6)
   effect_to count same (AmendEntry place was is) keeps c = (c.0, c.1, c.2, turns_to place c.0 c.1 keeps c.3, c.4, c.5, c.6, c.7)
   effect_to count same (MakeTree place) keeps c =
       (has_along mid new place (Forest.Leaf place.root [] Forest.Nil) (λ p l. keeps p (root_used p l)) c.0, c.1, c.2, keeps_to Forest.Nil keeps c.3, c.4)

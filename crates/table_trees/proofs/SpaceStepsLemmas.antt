@@ -75,6 +75,7 @@ module _ {S : Type 0} {g : Ghosts S} where
       record { lowest = a.lowest notes; owners = refl; pages = a.pages },
       a.adds,
       keeps_leaves_same tree.width (nodes_in tree.width (g.state old)) (nodes_in tree.width (telling (g.state old).work)) t a.after (nodes_told tree.width (g.state old) told) a.leaves,
+      a.one_leaf,
     );
     few_extents = omega (arith, free_extents-with_pages shape owners a.claimed st.map.count (some_pages shape) (a.lowest notes));
     few_pages = used_index_pages-with_pages shape owners a.claimed st.map.count (some_pages shape) a.claims;
@@ -115,6 +116,7 @@ module _ {S : Type 0} {g : Ghosts S} where
           (removes_alone shape before noted old new tree x owners t st r),
       record { owners = refl; pages = r.pages },
       r.takes,
+      r.one_leaf,
     );
     few_extents = omega (arith, free_extents-without_pages shape owners r.gone);
     few_pages = omega (arith, used_index_pages-without_pages shape owners r.gone);

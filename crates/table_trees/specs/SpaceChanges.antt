@@ -12,11 +12,11 @@ use Rattle.extent_map.specs.Owners.{IsLowestClaimable, IsLowestFree, IsUsedPage,
 use Rattle.extent_map.specs.declared.kind.Kind.{Kind}
 use Rattle.extent_map.specs.declared.kind.Kind.TheVariants as kind
 use Rattle.entry_tree.specs.EntryBounds.{IsEntryOf, with_entry}
-use Rattle.entry_tree.specs.Forest.{EachNode, Forest, leaf_entries, times}
+use Rattle.entry_tree.specs.Forest.{EachNode, Forest, filled_leaves, leaf_entries, times}
 use Rattle.entry_tree.specs.HeldTrees.{nodes_in}
 use Rattle.entry_tree.specs.Pruning.{without_pages}
 use Rattle.entry_tree.specs.Standing.{AreLowestClaims, AsksPages, with_pages}
-use Rattle.entry_tree.specs.TreeChanges.{KeepsLeaf, KeepsLeafCounts, times_among}
+use Rattle.entry_tree.specs.TreeChanges.{GainsInLeaf, KeepsLeaf, KeepsLeafCounts, LosesInLeaf, times_among}
 use Rattle.table_trees.specs.TableTrees.{TreePlace}
 use Rattle.table_trees.specs.ToldPages.{HasTree, PageList, telling, told_pages}
 
@@ -107,10 +107,11 @@ ChangesSpace shape (GiveBlock t block) old_owners new_owners old new =
 ChangesSpace shape (AddEntry place entry) old_owners new_owners old new =
     (before : Forest) × (after : Forest) × (claimed : List ℕ) × TurnsTree shape old_owners new_owners old new place before after
     × ClaimsForTree shape old_owners new_owners before after claimed × (leaf_entries after ≡ with_entry entry (leaf_entries before))
-    × EachNode (KeepsLeaf place.width (nodes_in place.width (telling old)) before) after
+    × EachNode (KeepsLeaf place.width (nodes_in place.width (telling old)) before) after × GainsInLeaf entry (filled_leaves before) (filled_leaves after)
 ChangesSpace shape (RemoveEntry place entry) old_owners new_owners old new =
     (before : Forest) × (after : Forest) × (gone : List ℕ) × TurnsTree shape old_owners new_owners old new place before after
     × ReturnsOfTree shape old_owners new_owners before after gone × (leaf_entries before ≡ with_entry entry (leaf_entries after))
+    × LosesInLeaf entry (filled_leaves before) (filled_leaves after)
 ChangesSpace shape (AmendEntry place was is) old_owners new_owners old new =
     (before : Forest) × (after : Forest) × (rest : List Entry) × TurnsTree shape old_owners new_owners old new place before after
     × (leaf_entries before ≡ with_entry was rest) × (leaf_entries after ≡ with_entry is rest)
