@@ -3,10 +3,12 @@ pub mod HeldRowsLemmas
 pub mod CellColumnsLemmas
 pub mod HitStepsLemmas
 pub mod KeptRowsLemmas
+pub mod ListedSlotsLemmas
 pub mod MetRowsLemmas
 pub mod PageRowsLemmas
 pub mod PartsLemmas
 pub mod PlacedRowsLemmas
 pub mod ReadValuesLemmas
+pub mod ScannedSlotsLemmas
 pub mod SeatsLemmas
 pub mod SeenPagesLemmas

@@ -18,7 +18,7 @@ module _ {X : Type 0} (P : X → Type 0) where
   each_append [] ys first second = second
   each_append (x ∷ xs) ys first second = (first.0, each_append xs ys first.1 second)
 
-  each_front : (xs ys : List X) → AllByRecursion P (xs ++ ys) → AllByRecursion P xs
+  pub each_front : (xs ys : List X) → AllByRecursion P (xs ++ ys) → AllByRecursion P xs
   each_front [] ys all = tt
   each_front (x ∷ xs) ys all = (all.0, each_front xs ys all.1)
 

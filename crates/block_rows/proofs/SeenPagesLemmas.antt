@@ -41,19 +41,19 @@ module _ (shape : Shape) (pages : PageList) (def : TableDef) (block : ℕ) where
   abbrev slots : List (Option Row)
   slots = block_slots shape pages def block
 
-  abbrev rows_to : ℕ → List PlacedRow
+  abbrev pub rows_to : ℕ → List PlacedRow
   rows_to n = rows_from_slot block 0 (take (n * c) slots)
 
-  none_to : rows_to 0 ≡ []
+  pub none_to : rows_to 0 ≡ []
   none_to = let none : 0 * c ≡ 0 = omega arith in ap (λ k. rows_from_slot block 0 (take k slots)) none
 
   -- the rows of one page more
-  rows_to_more : (j : ℕ) → j < shape.extent_pages → rows_to (j + 1) ≡ rows_to j ++ rows_from_slot block (j * c) (rows_of def.columns (block_page shape pages block j))
+  pub rows_to_more : (j : ℕ) → j < shape.extent_pages → rows_to (j + 1) ≡ rows_to j ++ rows_from_slot block (j * c) (rows_of def.columns (block_page shape pages block j))
   rows_to_more j less =
       rows_more block c j slots (parts_within shape.extent_pages c j (length slots) (length-block_slots shape pages def block) (omega (arith, less)))
       ∙ ap (λ l. rows_to j ++ rows_from_slot block (j * c) l) (part_of_page shape pages def block j less)
 
-  rows_to_all : (j : ℕ) → shape.extent_pages ≤ j → rows_to j ≡ rows_in_block shape pages def block
+  pub rows_to_all : (j : ℕ) → shape.extent_pages ≤ j → rows_to j ≡ rows_in_block shape pages def block
   rows_to_all j end =
       let all : shape.extent_pages * c ≤ j * c = mul-le-mul_right c end in
       ap (rows_from_slot block 0) (take_all (j * c) slots (omega (arith, length-block_slots shape pages def block, all)))

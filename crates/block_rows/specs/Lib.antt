@@ -1,6 +1,7 @@
 pub mod CellColumns
 pub mod Giving
 pub mod HeldRows
+pub mod ListedSlots
 pub mod PageRows
 pub mod Seats
 pub mod SeenRows

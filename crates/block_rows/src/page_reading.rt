@@ -166,7 +166,7 @@ pub(crate) fn scan_page<P: Pages, K: RowSink>(
     ensures runs { RunsOverPages P.Pages NoPage (OnlyPage p) (RefusesPage P.Pages shape.now.columns.now pages.old p) pages.old pages.new (fault_of result) }
 {
     bring(pages, p)?;
-    match scan_slots(
+    match scan_rows(
         alloc,
         shape,
         cells,
@@ -184,7 +184,7 @@ pub(crate) fn scan_page<P: Pages, K: RowSink>(
 }
 
 /// Gives a sink the rows in the bytes of page p that a filter takes, and meets each row.
-fn scan_slots<K: RowSink>(
+fn scan_rows<K: RowSink>(
     alloc: Global,
     shape: &RowShape<'_>,
     cells: &CellColumns,
@@ -235,7 +235,7 @@ fn scan_slots<K: RowSink>(
 }
 
 /// Gives a sink a row that is lent, if a filter takes it.
-fn give_if_taken<K: RowSink>(
+pub(crate) fn give_if_taken<K: RowSink>(
     alloc: Global,
     row: &RowView,
     rid: Rid,

@@ -12,3 +12,4 @@ pub mod SearchedRoomLemmas
 pub mod SeenPlacesLemmas
 pub mod StandingBlocksLemmas
 pub mod TakingRowsLemmas
+pub mod UsedSlotsLemmas

@@ -1,5 +1,5 @@
 -- What a call that looked for the row in a place has seen, whatever the pages hold.
-use Rattle.std.specs.Prelude.{◌≢◌, ◌≤◌, ◌⊎◌, ℕ, Option, Some, None}
+use Rattle.std.specs.Prelude.{◌≢◌, ◌≤◌, ◌⊎◌, ℕ, List, Option, Some, None}
 use Rattle.mdc_values.specs.declared.rid.Rid.{Rid}
 use Rattle.mdc_ast.specs.declared.definition.TableDef.{TableDef}
 use Rattle.mdc_ast.specs.declared.row.Row.{Row}
@@ -9,10 +9,12 @@ use Rattle.entry_tree.specs.Forest.{Forest}
 use Rattle.block_map.specs.BlockMaps.{FindsBlock}
 use Rattle.block_map.specs.declared.row.BlockRow.{BlockRow}
 use Rattle.block_map.specs.declared.state.BlockState.TheVariants.{Used}
+use Rattle.block_rows.specs.ListedSlots.{HasSeenSlots}
 use Rattle.table_trees.specs.TableTrees.{map_place}
 use Rattle.table_trees.specs.TreesBeside.{HoldsTreeAt}
 use Rattle.mdc_sound.specs.Placing.{block_slot_count}
-use Rattle.table_blocks.specs.SeenSlots.{SeesUsedSlot}
+use Rattle.mdc_sound.specs.StandingTable.{pages_of}
+use Rattle.table_blocks.specs.SeenSlots.{IsUsedInMap, SeesUsedSlot}
 
 -- no row of a block map, or that of a block which isn't Used
 abbrev pub IsUnusedRow : Option BlockRow → Type 0
@@ -34,3 +36,7 @@ IsNoPlace shape def rid = (shape.extents ≤ rid.block) ⊎ (block_slot_count sh
 abbrev pub SeesPlace : {S : Type 0} → Ghosts S → Shape → S → TableDef → Rid → Option Row → Type 0
 SeesPlace g shape s def rid None = SeesUsedSlot g shape s def rid None ⊎ (IsSeenUnused g s def rid.block ⊎ IsNoPlace shape def rid)
 SeesPlace g shape s def rid (Some row) = SeesUsedSlot g shape s def rid (Some row)
+
+-- The pages in which some slots of a Used block lie were seen, or the block isn't Used, or there is no such extent.
+abbrev pub SeesSlots : {S : Type 0} → Ghosts S → Shape → S → TableDef → ℕ → List ℕ → Type 0
+SeesSlots g shape s def block slots = (IsUsedInMap g s def block × HasSeenSlots shape (pages_of g s) def block slots) ⊎ (IsSeenUnused g s def block ⊎ (shape.extents ≤ block))

@@ -1,6 +1,6 @@
 //! The rows of a table, in blocks by cell.
 //!
-//! `row_at`, `rows_of_used_block`, `scan_listed_block`, `used_blocks`, `used_lines` and `account_of` read them. `place_row` puts a row where placing
+//! `row_at`, `rows_of_used_block`, `scan_listed_block`, `scan_slots`, `used_blocks`, `used_lines` and `account_of` read them. `place_row` puts a row where placing
 //! says: into the lowest Used block of its cell that has an empty slot, else into the lowest Free block, else into the lowest free
 //! extent. `take_row` takes one out, and `overwrite_row` puts another of the same cell in its place, and asks the block map of a block
 //! only where that isn't known to be Used. Wherever the table was told to stand, it stands afterwards and has the rows that the call's
@@ -17,6 +17,7 @@ mod listed;
 mod overwriting;
 mod placing;
 mod reading;
+mod slots;
 mod taking;
 
 pub use account::{Account, account_of};
@@ -26,4 +27,5 @@ pub use listed::{ListedBlock, scan_listed_block};
 pub use overwriting::overwrite_row;
 pub use placing::place_row;
 pub use reading::{row_at, rows_of_line, rows_of_used_block, used_blocks, used_lines};
+pub use slots::scan_slots;
 pub use taking::take_row;

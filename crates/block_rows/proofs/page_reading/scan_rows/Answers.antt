@@ -14,7 +14,7 @@ use Rattle.block_rows.proofs.GivingLemmas.{given_more_qualifying, given_none}
 use Rattle.block_rows.proofs.MetRowsLemmas.{each_append, last_met, last_none, met_more}
 use Rattle.block_rows.proofs.PageRowsLemmas.{ends-view, next-view, seen-view, unheaded-view}
 use Rattle.block_rows.proofs.ReadValuesLemmas.{read-slot}
-use Rattle.block_rows.proofs.page_reading.scan_slots.Goals as goal
+use Rattle.block_rows.proofs.page_reading.scan_rows.Goals as goal
 
 pub slots-init : goal.slots-init
 slots-init g c = record {

@@ -6,7 +6,7 @@ use Rattle.block_rows.specs.CellColumns.{places_of}
 use Rattle.block_rows.specs.Giving.{WasGiven}
 use Rattle.block_rows.specs.HeldRows.{HasReadValues, qualifying}
 use Rattle.block_rows.specs.SeenRows.{HasMet, IsLastRow}
-use Rattle.block_rows.proofs.page_reading.scan_slots.Given as goal
+use Rattle.block_rows.proofs.page_reading.scan_rows.Given as goal
 
 -- the rows of the slots so far were met, and the sink was given those that qualify
 abbrev pub invariant-slots : goal.invariant-slots
