@@ -1,6 +1,7 @@
 -- The plans that the plan rule chooses: they cover their predicate, may be asked of the table, and have rows in few blocks.
-use Rattle.std.proofs.Common.{◌≡◌, ℕ, true}
+use Rattle.std.proofs.Common.{◌≡◌, ◌<◌, ℕ, arith, length, true}
 use Rattle.std.specs.Prelude.{IsTrue, None, Option, Some}
+use Rattle.mdc_ast.specs.TableLimits.{IsTableDef}
 use Rattle.mdc_ast.specs.declared.definition.TableDef.{TableDef}
 use Rattle.mdc_ast.specs.declared.predicate.Pred.{Pred}
 use Rattle.mdc_ast.specs.declared.row.Row.{Row}
@@ -24,6 +25,13 @@ use Rattle.plan_chooser.proofs.KindsLemmas.{judged_kinds, samples_have_keys}
 use Rattle.plan_chooser.proofs.PlanLemmas.{fits_plan-Scan, plan_row-Scan}
 use Rattle.plan_chooser.proofs.PlannedLemmas.{plan_of_true}
 use Rattle.executor.specs.Planned.{CoversIfAny, IsChosenPageIfSound, IsPlannedRowPage}
+
+-- a table's dimensions and indexes have numbers of 8 bits
+pub few_dims : (def : TableDef) → IsTableDef def.number def → length def.dims < 256
+few_dims def limits = omega (arith, limits.dims.few)
+
+pub few_indexes : (def : TableDef) → IsTableDef def.number def → length def.indexes < 256
+few_indexes def limits = omega (arith, limits.indexes.few)
 
 -- a predicate may be judged on each row that was read
 abbrev IsJudged : TableDef → Option Pred → Type 0

@@ -1,9 +1,11 @@
 pub mod ChosenPlansLemmas
 pub mod ListedPartsLemmas
 pub mod MatchingLemmas
+pub mod MovedPlacesLemmas
 pub mod PartRowsLemmas
 pub mod PartRunsLemmas
+pub mod PartsLemmas
 pub mod PassingLemmas
-pub mod ReadingLemmas
-pub mod SlotRowsLemmas
+pub mod PlanPagesLemmas
+pub mod SeenPartsLemmas
 pub mod StandingPartsLemmas

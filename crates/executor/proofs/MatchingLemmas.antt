@@ -1,10 +1,10 @@
 -- The rows of a plan, found part by part in the lists that stand for it.
-use Rattle.std.proofs.Common.{◌≡◌, ◌∙◌, inl, inr, ℕ, List, Bool, true, ap, arith, length, map, subst, sym}
-use Rattle.std.specs.Prelude.{Contains, IsPermutation, IsTrue, None, Option, filter}
-use Rattle.std.specs.List.Sorted.{IsNonDecreasingBy}
+use Rattle.std.proofs.Common.{◌≡◌, ◌≢◌, ◌∙◌, inl, inr, ℕ, List, Bool, true, ap, length, subst, sym}
+use Rattle.std.specs.Prelude.{AllPairs, Contains, IsPermutation, IsTrue, None, Option, filter}
 use Rattle.std.proofs.lemmas.Bool.{cases_Bool, or_left}
 use Rattle.std.proofs.lemmas.List.Elements.{All-contains}
-use Rattle.std.proofs.lemmas.List.Sorted.{Contains-permutation, IsPermutation-map, IsPermutation-sym, IsPermutation-trans}
+use Rattle.std.proofs.lemmas.List.Kept.{AllPairs-filter}
+use Rattle.mdc_values.specs.Rising.{IsLower, IsRising}
 use Rattle.mdc_values.specs.declared.rid.Rid.{Rid}
 use Rattle.mdc_ast.specs.Truth.{qualifies}
 use Rattle.mdc_ast.specs.declared.definition.TableDef.{TableDef}
@@ -19,8 +19,9 @@ use Rattle.store_api.proofs.RunsOverPagesLemmas.{runs_then, runs_wider}
 use Rattle.extent_map.specs.declared.kind.Kind.{Kind}
 use Rattle.row_filter.specs.Filtering.{may_filter}
 use Rattle.block_map.specs.MapLines.{used_blocks}
-use Rattle.block_rows.specs.HeldRows.{HasReadValues, placed_row, qualifying}
-use Rattle.block_rows.specs.declared.hit.Hit.{Hit}
+use Rattle.block_rows.specs.Giving.{WasGiven}
+use Rattle.block_rows.specs.HeldRows.{HasReadValues, qualifying}
+use Rattle.block_rows.specs.declared.row_sink.RowSink
 use Rattle.table_trees.specs.TableTrees.{map_place}
 use Rattle.mdc_sound.specs.BlockRules.{AreTableIndexesSound}
 use Rattle.mdc_sound.specs.StandingTable.{BreaksTable, StandsTable, TableForests, pages_of, view_of}
@@ -28,10 +29,11 @@ use Rattle.mdc_sound.specs.TableRows.{PlacedRow, rows_in_block, rows_in_table}
 use Rattle.mdc_sound.proofs.ElementsLemmas.{contains_flat, flat_contains}
 use Rattle.mdc_sound.proofs.StandingTableLemmas.{stands_same}
 use Rattle.mdc_table.proofs.ReadValuesLemmas.{read_of_fitting}
+use Rattle.row_entries.proofs.StandingRowsLemmas.{lie_apart}
 use Rattle.live_rows.proofs.LookRunsLemmas.{at_still}
 use Rattle.live_rows.proofs.StandingTwinsLemmas.{lies_in_used}
 use Rattle.block_lists.specs.Merging.{ArePartsOf}
-use Rattle.block_lists.specs.Parts.{AreSlots, in_part, in_parts}
+use Rattle.block_lists.specs.Parts.{AreSlots, blocks_of, in_part, in_parts}
 use Rattle.block_lists.specs.Places.{has_number, has_rid}
 use Rattle.block_lists.specs.Trees.{tree_holds, tree_lists_block}
 use Rattle.block_lists.specs.declared.part.Part.{Part}
@@ -39,25 +41,31 @@ use Rattle.block_lists.specs.declared.tree.ListTree.{ListTree}
 use Rattle.plan_chooser.specs.PlanRows.{plan_row}
 use Rattle.plan_chooser.specs.declared.plan.Plan.{Plan}
 use Rattle.plan_lists.specs.PlanTrees.{IsListPage, StandsForPlan}
-use Rattle.table_scan.specs.FoundRows.{FindsRows}
+use Rattle.table_scan.specs.FoundRows.{GivesRows}
 use Rattle.table_scan.proofs.ScannedRowsLemmas.{perm_filter}
 use Rattle.executor.specs.PartRows.{IsPartsPage, parts_with_rows, rows_in_part, rows_in_parts}
-use Rattle.executor.specs.Planned.{CountsPlanned, CoversIfAny, IsFoundPage, IsPlannedBlock}
+use Rattle.executor.specs.Planned.{CountsPlanned, CoversIfAny, GivesSome, IsFoundPage, IsPlannedBlock}
 use Rattle.executor.specs.RowBlocks.{IsBlockWith}
 use Rattle.executor.proofs.ListedPartsLemmas.{place_in, whole_is_listed}
+use Rattle.executor.proofs.MovedPlacesLemmas.{apart_moved}
 use Rattle.executor.proofs.PartRowsLemmas.{in_parts_of, rows_part_by_part}
 use Rattle.executor.proofs.PassingLemmas.{is_kept, kept_anyway, of_kept}
 use Rattle.executor.proofs.StandingPartsLemmas.{counts_parts, in_own_block, own, used_has_row}
 
--- rows that were read part by part, and brought in order, are rows of all
-pub copies_lie : (pred : Option Pred) (rows : List PlacedRow) (parts : List Part) (hits sorted : List Hit) → map placed_row hits ≡ qualifying pred (rows_in_parts rows parts) → IsPermutation hits sorted
-    → (placed : PlacedRow) → Contains (map placed_row sorted) placed → Contains (qualifying pred rows) placed
-copies_lie pred rows parts hits sorted copies moved placed there =
+-- rows of parts are rows of all
+parts_lie : (pred : Option Pred) (rows : List PlacedRow) (parts : List Part) (placed : PlacedRow) → Contains (qualifying pred (rows_in_parts rows parts)) placed → Contains (qualifying pred rows) placed
+parts_lie pred rows parts placed there =
     let p : PlacedRow → Bool = λ placed. qualifies pred placed.row.values in
-    let back = IsPermutation-sym (map placed_row hits) (map placed_row sorted) (IsPermutation-map placed_row hits sorted moved) in
-    let read = of_kept p (rows_in_parts rows parts) placed (subst (λ l. Contains l placed) copies (Contains-permutation (map placed_row sorted) (map placed_row hits) placed back there)) in
+    let read = of_kept p (rows_in_parts rows parts) placed there in
     let (part, in_parts_too, within) = flat_contains (rows_in_part rows) parts placed read.0 in
     is_kept p rows placed (of_kept (λ (placed : PlacedRow). in_part part placed.rid) rows placed within).0 read.1
+
+-- no two of those of parts of rising blocks lie in one place, where no two of all do
+parts_apart : (pred : Option Pred) (rows : List PlacedRow) (parts : List Part) → IsRising IsLower (blocks_of parts) → AllPairs (λ a b. a.rid ≢ b.rid) rows → AllPairs (λ a b. a.rid ≢ b.rid) (qualifying pred (rows_in_parts rows parts))
+parts_apart pred rows parts rise apart =
+    let q : PlacedRow → Bool = λ placed. in_parts parts placed.rid in
+    AllPairs-filter (λ (a b : PlacedRow). a.rid ≢ b.rid) (λ placed. qualifies pred placed.row.values) (rows_in_parts rows parts)
+    (apart_moved (filter q rows) (rows_in_parts rows parts) (rows_part_by_part rows parts rise) (AllPairs-filter (λ (a b : PlacedRow). a.rid ≢ b.rid) q rows apart))
 
 module _ {S : Type 0} {g : Ghosts S} (shape : Shape) (s : S) (def : TableDef) (plan : Plan) (tree : ListTree) (parts : List Part) (stands : StandsForPlan g shape s def plan tree) (are : ArePartsOf tree parts) where
   -- a block that is listed whole is Used
@@ -65,6 +73,18 @@ module _ {S : Type 0} {g : Ghosts S} (shape : Shape) (s : S) (def : TableDef) (p
   whole_is_used part there whole owners forests st =
       let listed = whole_is_listed are.lists.blocks are.lists.rids part (subst (λ l. Contains l part) are.of_lists there) whole in
       stands.blocks owners forests st part.block (sym (are.of_tree.blocks part.block) ∙ listed)
+
+  -- a sink that was given the rows of the parts that qualify was given some rows of the table, whatever its record indexes say
+  pub some_by_parts : (owners : List Kind) (forests : TableForests) → StandsTable g shape s def owners forests → (pred : Option Pred) {K : Type 0} (sinks : RowSink.Ghosts K) (old new : K)
+      → WasGiven sinks old new (qualifying pred (rows_in_parts (rows_in_table shape (pages_of g s) def forests.map) parts)) → GivesSome sinks old new g shape s def pred forests
+  some_by_parts owners forests st pred sinks old new given =
+      let rows = rows_in_table shape (pages_of g s) def forests.map in
+      record {
+        rows = qualifying pred (rows_in_parts rows parts);
+        lie = parts_lie pred rows parts;
+        apart = parts_apart pred rows parts are.stand.rise (lie_apart g shape s def owners forests st).apart;
+        given = given;
+      }
 
   module _ (owners : List Kind) (forests : TableForests) (st : StandsTable g shape s def owners forests) (sound : AreTableIndexesSound shape (pages_of g s) (view_of def forests)) where
     abbrev rows : List PlacedRow
@@ -87,15 +107,10 @@ module _ {S : Type 0} {g : Ghosts S} (shape : Shape) (s : S) (def : TableDef) (p
         are.stand.rows placed.rid ∙ (exact placed there ∙ covers placed.row.values (judged placed.row read) passes)) in
         subst (λ l. IsPermutation l (qualifying pred (rows_in_parts rows parts))) kept (perm_filter p (filter q rows) (rows_in_parts rows parts) (rows_part_by_part rows parts are.stand.rise))
 
-    -- copies of these rows, brought in order, are what is to be found
-    pub finds_copies : (pred : Option Pred) → CoversIfAny def plan pred → ((row : Row) → HasReadValues def.columns row → IsTrue (may_filter pred row.values))
-        → (hits sorted : List Hit) → map placed_row hits ≡ qualifying pred (rows_in_parts rows parts) → IsPermutation hits sorted → IsNonDecreasingBy (λ (hit : Hit). hit.row.number) sorted
-        → FindsRows g shape s def pred sorted forests
-    finds_copies pred covers judged hits sorted copies moved rising = record {
-      found = IsPermutation-trans (qualifying pred rows) (map placed_row hits) (map placed_row sorted) (subst (IsPermutation (qualifying pred rows)) (sym copies) (finds_by_parts pred covers judged))
-          (IsPermutation-map placed_row hits sorted moved);
-      in_order = λ i j d below within. rising i j d (omega (arith, below)) within;
-    }
+    -- a sink that was given these was given the rows of the table
+    pub gives_by_parts : (pred : Option Pred) → CoversIfAny def plan pred → ((row : Row) → HasReadValues def.columns row → IsTrue (may_filter pred row.values))
+        → {K : Type 0} (sinks : RowSink.Ghosts K) (old new : K) → WasGiven sinks old new (qualifying pred (rows_in_parts rows parts)) → GivesRows sinks old new g shape s def pred forests
+    gives_by_parts pred covers judged sinks old new given = record { rows = qualifying pred (rows_in_parts rows parts); found = finds_by_parts pred covers judged; given = given }
 
     -- ---- blocks
 

@@ -1,21 +1,19 @@
 -- The rows of a table in parts of its lists.
-use Rattle.std.proofs.Common.{◌≡◌, ◌≢◌, ◌<◌, ◌≤◌, ◌+◌, ◌-◌, ◌∙◌, inl, inr, ℕ, suc, List, [], ◌∷◌, ◌++◌, Bool, true, false, append-nil, ap, arith, get_or, refl, subst, sym}
-use Rattle.std.specs.Prelude.{◌&&◌, ◌||◌, ◌==◌, AllPairs, Contains, IsPermutation, Option, None, Some, filter, flat_map}
-use Rattle.std.specs.List.{list_any}
-use Rattle.std.proofs.lemmas.Bool.{and_parts, cases_Bool, cases_eq, eq-eqb, eqb-true, ne_eqb, or_left, or_right}
+use Rattle.std.proofs.Common.{◌≡◌, ◌≢◌, ◌<◌, ◌∙◌, inl, inr, ℕ, suc, List, [], ◌∷◌, ◌++◌, Bool, true, false, append-nil, ap, arith, refl, subst, sym}
+use Rattle.std.specs.Prelude.{◌&&◌, ◌||◌, ◌==◌, AllPairs, Contains, IsPermutation, filter, flat_map}
+use Rattle.std.proofs.lemmas.Bool.{and_parts, cases_Bool, eq-eqb, eqb-true, ne_eqb, or_left, or_right}
 use Rattle.std.proofs.lemmas.List.Elements.{filter-append}
 use Rattle.std.proofs.lemmas.List.Sorted.{IsPermutation-append_right, IsPermutation-refl, IsPermutation-trans}
 use Rattle.block_map.proofs.MapLinesLemmas.{contains_cases, contains_more}
 use Rattle.mdc_values.specs.Rising.{IsLower, IsRising}
-use Rattle.mdc_ast.specs.declared.row.Row.{Row}
 use Rattle.mdc_values.specs.declared.rid.Rid.{Rid}
 use Rattle.block_lists.specs.declared.part.Part.{Part}
 use Rattle.block_lists.specs.Parts.{blocks_of, in_part, in_parts, in_slots}
 use Rattle.block_lists.proofs.PartLemmas.{IsAbove}
 use Rattle.block_lists.proofs.WalkLemmas.{rising_tail}
-use Rattle.mdc_sound.specs.TableRows.{PlacedRow, rows_from_slot}
+use Rattle.mdc_sound.specs.TableRows.{PlacedRow}
 use Rattle.executor.proofs.PassingLemmas.{filter_none, filter_same, filter_split}
-use Rattle.executor.specs.PartRows.{rows_at, rows_in_parts}
+use Rattle.executor.specs.PartRows.{rows_in_parts}
 use Rattle.table_scan.proofs.ScanningLemmas.{filter_first, filter_past}
 
 -- ---- rows of one block
@@ -51,102 +49,6 @@ module _ (rows_of : ℕ → List PlacedRow) (own : (b : ℕ) (placed : PlacedRow
         | inr later ↦
             let other : block ≢ b = λ same. differ 0 (suc later.0) block (omega arith) (omega (arith, later.1)) (sym same ∙ sym later.2) in
             filter-append here (rows_of b) (flat_map rows_of blocks) ∙ (ap (λ l. l ++ filter here (flat_map rows_of blocks)) (of_other b other) ∙ rows_of_one_block blocks rest later)
-      ]
-
--- ---- rows of some slots of a block
-
--- the first of these numbers, if there is one, is no lower
-abbrev BeginsAtLeast : ℕ → List ℕ → Type 0
-BeginsAtLeast n [] = Unit {0}
-BeginsAtLeast n (m ∷ ms) = n ≤ m
-
-pub from_zero : (ns : List ℕ) → BeginsAtLeast 0 ns
-from_zero [] = tt
-from_zero (n ∷ ns) = omega arith
-
-behind_first : (n m : ℕ) (ms : List ℕ) → n ≤ m → IsRising IsLower (m ∷ ms) → BeginsAtLeast (n + 1) ms
-behind_first n m [] low rise = tt
-behind_first n m (k ∷ ms) low rise = omega (arith, low, rise.0)
-
--- a number below all of them isn't among them
-not_among : (n : ℕ) (ms : List ℕ) → BeginsAtLeast (n + 1) ms → IsRising IsLower ms → list_any (λ m. m == n) ms ≡ false
-not_among n [] low rise = refl
-not_among n (m ∷ ms) low rise =
-    ap (λ b. b || list_any (λ k. k == n) ms) (ne_eqb m n (λ same. omega (arith, low, same))) ∙ not_among n ms (from_more n m ms low rise) (rising_tail IsLower m ms rise)
-  where
-    from_more : (n m : ℕ) (ms : List ℕ) → n + 1 ≤ m → IsRising IsLower (m ∷ ms) → BeginsAtLeast (n + 1) ms
-    from_more n m [] low rise = tt
-    from_more n m (k ∷ ms) low rise = omega (arith, low, rise.0)
-
--- a slot of a row of a block is no lower than that from which on they were read
-from_slot : (block at : ℕ) (slots : List (Option Row)) (placed : PlacedRow) → Contains (rows_from_slot block at slots) placed → at ≤ placed.rid.slot
-from_slot block at [] placed (k, low, is) = absurd (omega (arith, low))
-from_slot block at (None ∷ slots) placed there = omega (arith, from_slot block (at + 1) slots placed there)
-from_slot block at (Some row ∷ slots) placed there = elim (contains_cases placed (record { rid = record { block = block; slot = at }; row = row }) (rows_from_slot block (at + 1) slots) there) [
-  | inl first ↦ omega (arith, ap (λ (p : PlacedRow). p.rid.slot) first)
-  | inr later ↦ omega (arith, from_slot block (at + 1) slots placed later)
-]
-
-module _ (block : ℕ) (look : ℕ → Option Row) where
-  abbrev looked : ℕ → List PlacedRow
-  looked n = rows_at (record { block = block; slot = n }) (look n)
-
-  abbrev among : List ℕ → PlacedRow → Bool
-  among chosen placed = list_any (λ n. n == placed.rid.slot) chosen
-
-  none_looked : (at : ℕ) → ((k : ℕ) → look (at + k) ≡ None) → (chosen : List ℕ) → BeginsAtLeast at chosen → IsRising IsLower chosen → flat_map looked chosen ≡ []
-  none_looked at none [] low rise = refl
-  none_looked at none (n ∷ chosen) low rise =
-      let is : look n ≡ None = ap look (omega (arith, low)) ∙ none (n - at) in
-      ap (λ row. rows_at (record { block = block; slot = n }) row ++ flat_map looked chosen) is ∙ none_looked at none chosen (weaker chosen (behind_first at n chosen low rise)) (rising_tail IsLower n chosen rise)
-    where
-      weaker : (ms : List ℕ) → BeginsAtLeast (at + 1) ms → BeginsAtLeast at ms
-      weaker [] low = tt
-      weaker (m ∷ ms) low = omega (arith, low)
-
-  module _ (at n : ℕ) (slots : List (Option Row)) (chosen : List ℕ) where
-    abbrev behind : List PlacedRow
-    behind = rows_from_slot block (at + 1) slots
-
-    -- the first that is looked for is the first slot
-    slot_here : (slot : Option Row) → n ≡ at → flat_map looked chosen ≡ filter (among chosen) behind
-        → rows_at (record { block = block; slot = at }) slot ++ flat_map looked chosen ≡ filter (among (n ∷ chosen)) (rows_from_slot block at (slot ∷ slots))
-    slot_here slot is so = put slot
-      where
-        rest : flat_map looked chosen ≡ filter (among (n ∷ chosen)) behind
-        rest =
-            so ∙ sym (filter_same (among (n ∷ chosen)) (among chosen) behind
-            (λ placed there. ap (λ b. b || among chosen placed) (ne_eqb n placed.rid.slot (λ same. omega (arith, is, same, from_slot block (at + 1) slots placed there)))))
-
-        put : (one : Option Row) → rows_at (record { block = block; slot = at }) one ++ flat_map looked chosen ≡ filter (among (n ∷ chosen)) (rows_from_slot block at (one ∷ slots))
-        put None = rest
-        put (Some row) =
-            let first : PlacedRow = record { rid = record { block = block; slot = at }; row = row } in
-            ap (λ l. first ∷ l) rest ∙ sym (filter_first (among (n ∷ chosen)) first behind (ap (λ b. b || among chosen first) (eq-eqb n at is)))
-
-    -- or lies behind it
-    slot_past : (slot : Option Row) → at + 1 ≤ n → IsRising IsLower (n ∷ chosen) → flat_map looked (n ∷ chosen) ≡ filter (among (n ∷ chosen)) behind
-        → flat_map looked (n ∷ chosen) ≡ filter (among (n ∷ chosen)) (rows_from_slot block at (slot ∷ slots))
-    slot_past None above rise so = so
-    slot_past (Some row) above rise so =
-        so ∙ sym (filter_past (among (n ∷ chosen)) (record { rid = record { block = block; slot = at }; row = row }) behind (not_among at (n ∷ chosen) above rise))
-
-  -- of the slots from one on those that are looked for, in their order
-  pub rows_of_slots : (at : ℕ) (slots : List (Option Row)) → ((k : ℕ) → look (at + k) ≡ get_or slots k None) → (chosen : List ℕ) → IsRising IsLower chosen → BeginsAtLeast at chosen
-      → flat_map looked chosen ≡ filter (among chosen) (rows_from_slot block at slots)
-  rows_of_slots at [] says chosen rise low = none_looked at says chosen low rise
-  rows_of_slots at (slot ∷ slots) says [] rise low = sym (filter_none (among []) (rows_from_slot block at (slot ∷ slots)) (λ placed there. refl))
-  rows_of_slots at (slot ∷ slots) says (n ∷ chosen) rise low =
-      let later : (k : ℕ) → look ((at + 1) + k) ≡ get_or slots k None = λ k. ap look (omega arith) ∙ says (suc k) in
-      elim (cases_eq n at) [
-        | inl is ↦
-            let first : look n ≡ slot = ap look (omega (arith, is)) ∙ says 0 in
-            ap (λ row. rows_at (record { block = block; slot = n }) row ++ flat_map looked chosen) first
-            ∙ (ap (λ m. rows_at (record { block = block; slot = m }) slot ++ flat_map looked chosen) is
-            ∙ slot_here at n slots chosen slot is (rows_of_slots (at + 1) slots later chosen (rising_tail IsLower n chosen rise) (behind_first at n chosen low rise)))
-        | inr other ↦
-            let above : at + 1 ≤ n = omega (arith, low, other) in
-            slot_past at n slots chosen slot above rise (rows_of_slots (at + 1) slots later (n ∷ chosen) rise above)
       ]
 
 -- ---- the part of a row

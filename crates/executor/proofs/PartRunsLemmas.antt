@@ -1,4 +1,4 @@
--- Runs that read the rows of one part of a plan's lists.
+-- Runs that read the rows of a block that is listed whole.
 use Rattle.std.proofs.Common.{◌≡◌, ℕ, List, inl, inr}
 use Rattle.std.specs.Prelude.{Contains, None, Option}
 use Rattle.mdc_ast.specs.declared.definition.TableDef.{TableDef}
@@ -15,18 +15,11 @@ use Rattle.table_trees.specs.TableTrees.{map_place}
 use Rattle.table_trees.specs.TreesBeside.{HoldsTreeAt, IsTreePageAt}
 use Rattle.mdc_sound.specs.StandingTable.{BreaksExpected, BreaksTable, IsPageOfBlock, StandsTable, TableForests}
 use Rattle.mdc_sound.proofs.StandingTableLemmas.{stands_same}
-use Rattle.live_rows.proofs.LookRunsLemmas.{at_still}
 use Rattle.mdc_table.specs.SeenBlocks.{IsListedSo}
-use Rattle.mdc_table.specs.TableReading.{HasUsedBlock, IsRowLook}
-use Rattle.executor.specs.PartRows.{IsPartPage}
+use Rattle.mdc_table.specs.TableReading.{HasUsedBlock, IsPartPage}
 
 module _ {S : Type 0} {g : Ghosts S} (shape : Shape) (def : TableDef) (block : ℕ) where
-  -- a look into the block map
-  pub map_runs : {old new : S} {fault : Option StoreFault} → RunsOverPages g NoPage (IsTreePageAt g old (map_place def)) (BreaksTable g shape old def) old new fault
-      → RunsOverPages g NoPage (IsPartPage g shape old def block) (BreaksTable g shape old def) old new fault
-  map_runs run = runs_wider run (λ p there none. none) (λ p is. inl is) (λ damage b. b)
-
-  -- one for the line of a block that is Used where the table stands
+  -- a look for the line of a block that is Used where the table stands
   pub line_runs : {old new : S} {fault : Option StoreFault} → ((owners : List Kind) (forests : TableForests) → StandsTable g shape old def owners forests → Contains (used_blocks forests.map) block)
       → RunsOverPages g NoPage (IsTreePageAt g old (map_place def)) (BreaksExpected g shape old def (HasUsedBlock block)) old new fault
       → RunsOverPages g NoPage (IsPartPage g shape old def block) (BreaksTable g shape old def) old new fault
@@ -42,14 +35,3 @@ module _ {S : Type 0} {g : Ghosts S} (shape : Shape) (def : TableDef) (block : �
     whole_runs rows line second =
         runs_then first second (λ p low none. none) (λ p is. inr (λ owners forests st. (used owners forests st, is)))
         (λ damage b. record { names = b.names; broken = λ owners forests st. b.broken owners forests (stands_same shape old mid def owners forests first.works.steady.is_told same st) (record { line = line forests.map st.trees.held.0; cell = λ cell has. absurd cc }) })
-
-    -- or a look for a row in it
-    pub slot_runs : {new : S} {fault : Option StoreFault} → RunsOverPages g NoPage (IsRowLook g shape mid def block) (BreaksTable g shape mid def) mid new fault
-        → RunsOverPages g NoPage (IsPartPage g shape old def block) (BreaksTable g shape old def) old new fault
-    slot_runs second =
-        runs_then first second (λ p low none. none) page
-        (λ damage b. record { names = b.names; broken = λ owners forests st. b.broken owners forests (stands_same shape old mid def owners forests first.works.steady.is_told same st) })
-      where
-        page : (p : ℕ) → IsRowLook g shape mid def block p → IsPartPage g shape old def block p
-        page p (inl map) = inl (λ t held. map t (at_still old mid (map_place def) t first.works.steady same held))
-        page p (inr is) = inr (λ owners forests st. (used owners forests st, is))

@@ -1,6 +1,6 @@
 -- The rows of a table that stands in parts of its lists.
 use Rattle.std.proofs.Common.{◌≡◌, ◌<◌, ◌∙◌, inl, inr, ℕ, List, [], ◌∷◌, Bool, true, ap, arith, length, refl, subst, sym}
-use Rattle.std.specs.Prelude.{Contains, None, Some, filter, nat_lt}
+use Rattle.std.specs.Prelude.{Contains, None, Some, filter, if◌then◌else◌, nat_lt}
 use Rattle.std.proofs.lemmas.Bool.{cases_Bool, false≢true, lt-ltb, ltb-true}
 use Rattle.std.proofs.lemmas.List.{length-map}
 use Rattle.mdc_values.specs.Rising.{IsLower, IsRising}
@@ -11,25 +11,24 @@ use Rattle.store_api.specs.declared.shape.Shape.{Shape}
 use Rattle.extent_map.specs.declared.kind.Kind.{Kind}
 use Rattle.entry_tree.specs.Forest.{leaf_entries}
 use Rattle.block_map.specs.MapLines.{map_line, map_lines, used_blocks}
+use Rattle.block_rows.specs.ListedSlots.{rows_in_slots}
 use Rattle.mdc_sound.specs.BlockRules.{IsUsedCountSound}
 use Rattle.mdc_sound.proofs.BlockRulesLemmas.{each_of}
 use Rattle.mdc_sound.proofs.MappedBlocksLemmas.{used_line}
-use Rattle.mdc_sound.specs.Placing.{row_at_spot}
-use Rattle.mdc_sound.specs.StandingTable.{StandsTable, TableForests, pages_of, spots_of}
+use Rattle.mdc_sound.specs.StandingTable.{StandsTable, TableForests, pages_of}
 use Rattle.mdc_sound.specs.TableRows.{PlacedRow, block_slots, rows_in_block, rows_in_table}
 use Rattle.mdc_sound.proofs.ElementsLemmas.{contains_entry, contains_flat, flat_contains, from_map, in_map}
 use Rattle.mdc_sound.proofs.SlotRowsLemmas.{slot_of_placed}
 use Rattle.mdc_sound.proofs.TableSpotRowsLemmas.{used_differ}
-use Rattle.mdc_table.proofs.StandingBlocksLemmas.{row_of_used}
+use Rattle.mdc_table.specs.TableReading.{rows_if_used}
 use Rattle.block_lists.specs.Parts.{blocks_of, in_part, in_parts, in_slots}
 use Rattle.block_lists.specs.Places.{has_number}
 use Rattle.block_lists.specs.declared.part.Part.{Part}
 use Rattle.plan_lists.proofs.ListedLemmas.{in_numbers, number_in}
-use Rattle.executor.specs.PartRows.{parts_with_rows, rows_at_slots, rows_in_part}
+use Rattle.executor.specs.PartRows.{parts_with_rows, rows_in_part}
 use Rattle.executor.specs.RowBlocks.{IsBlockWith, IsCountOf}
-use Rattle.executor.proofs.PartRowsLemmas.{block_of_row, from_zero, in_parts_of, part_with, rising_kept, rows_of_no_block, rows_of_one_block, rows_of_slots}
+use Rattle.executor.proofs.PartRowsLemmas.{block_of_row, in_parts_of, part_with, rising_kept, rows_of_no_block, rows_of_one_block}
 use Rattle.executor.proofs.PassingLemmas.{filter_all, filter_same, is_kept, of_kept}
-use Rattle.executor.proofs.SlotRowsLemmas.{none_at_slots}
 
 module _ {S : Type 0} {g : Ghosts S} (shape : Shape) (s : S) (def : TableDef) (owners : List Kind) (forests : TableForests) (st : StandsTable g shape s def owners forests) where
   abbrev rows : List PlacedRow
@@ -51,19 +50,16 @@ module _ {S : Type 0} {g : Ghosts S} (shape : Shape) (s : S) (def : TableDef) (o
       ∙ (filter_same (λ placed. in_slots part.slots placed.rid.slot) (λ placed. true) (block_rows part.block) (λ placed there. ap (λ slots. in_slots slots placed.rid.slot) (sym whole))
       ∙ filter_all (block_rows part.block))
 
-  -- of some slots, which rise, their rows
-  pub rows_of_listed : (part : Part) (slots : List ℕ) → Some slots ≡ part.slots → IsRising IsLower slots → rows_in_part rows part ≡ rows_at_slots (spots_of g shape s def owners forests) part.block slots
-  rows_of_listed part slots some rise = elim (cases_Bool (has_number (used_blocks forests.map) part.block)) [
+  -- of some slots their rows, where the block is Used
+  pub rows_of_listed : (part : Part) (slots : List ℕ) → Some slots ≡ part.slots → rows_in_part rows part ≡ rows_in_slots slots (rows_if_used shape (pages_of g s) def forests.map part.block)
+  rows_of_listed part slots some = elim (cases_Bool (has_number (used_blocks forests.map) part.block)) [
     | inl is ↦
-        let used = number_in (used_blocks forests.map) part.block is in
-        let rid : ℕ → Rid = λ n. record { block = part.block; slot = n } in
-        rows_of_one_block block_rows own (λ placed. in_slots part.slots placed.rid.slot) part.block (used_blocks forests.map) (used_differ forests.map st.map.once_each) used
-        ∙ (ap (λ l. filter (λ placed. in_slots l placed.rid.slot) (block_rows part.block)) (sym some)
-        ∙ sym (rows_of_slots part.block (λ n. row_at_spot (spots_of g shape s def owners forests) (rid n)) 0 (block_slots shape (pages_of g s) def part.block)
-        (λ k. ap (λ n. row_at_spot (spots_of g shape s def owners forests) (rid n)) (omega arith) ∙ row_of_used shape s def owners forests st (rid k) used) slots rise (from_zero slots)))
+        rows_of_one_block block_rows own (λ placed. in_slots part.slots placed.rid.slot) part.block (used_blocks forests.map) (used_differ forests.map st.map.once_each) (number_in (used_blocks forests.map) part.block is)
+        ∙ (ap (λ l. filter (λ placed. in_slots l placed.rid.slot) (block_rows part.block)) (sym some) ∙ ap (λ b. rows_in_slots slots (if b then block_rows part.block else [])) (sym is))
     | inr not ↦
         let outside : Contains (used_blocks forests.map) part.block → ⊥ = λ used. false≢true (sym not ∙ in_numbers (used_blocks forests.map) part.block used) in
-        rows_of_no_block block_rows own (λ placed. in_slots part.slots placed.rid.slot) part.block (used_blocks forests.map) outside ∙ sym (none_at_slots shape s def owners forests st part.block not slots)
+        rows_of_no_block block_rows own (λ placed. in_slots part.slots placed.rid.slot) part.block (used_blocks forests.map) outside
+        ∙ ap (λ b. rows_in_slots slots (if b then block_rows part.block else [])) (sym not)
   ]
 
   -- ---- all parts

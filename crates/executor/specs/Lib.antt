@@ -1,3 +1,4 @@
 pub mod PartRows
 pub mod Planned
 pub mod RowBlocks
+pub mod SeenParts

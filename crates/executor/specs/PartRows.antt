@@ -1,17 +1,12 @@
 -- The rows of a table in parts of its lists, and the pages that are looked at for them.
-use Rattle.std.specs.Prelude.{◌⊎◌, ℕ, List, [], ◌∷◌, nat_lt, filter, flat_map, length, Contains, Option, None, Some}
-use Rattle.mdc_values.specs.declared.rid.Rid.{Rid}
+use Rattle.std.specs.Prelude.{◌⊎◌, ℕ, List, nat_lt, filter, flat_map, length, Contains}
 use Rattle.mdc_ast.specs.declared.definition.TableDef.{TableDef}
-use Rattle.mdc_ast.specs.declared.row.Row.{Row}
 use Rattle.store_api.specs.declared.pages.Pages.{Ghosts}
 use Rattle.store_api.specs.declared.shape.Shape.{Shape}
-use Rattle.extent_map.specs.declared.kind.Kind.{Kind}
-use Rattle.block_map.specs.MapLines.{used_blocks}
 use Rattle.table_trees.specs.TableTrees.{map_place}
 use Rattle.table_trees.specs.TreesBeside.{IsTreePageAt}
-use Rattle.mdc_sound.specs.Placing.{Spot, row_at_spot}
-use Rattle.mdc_sound.specs.StandingTable.{IsPageOfBlock, StandsTable, TableForests}
 use Rattle.mdc_sound.specs.TableRows.{PlacedRow}
+use Rattle.mdc_table.specs.TableReading.{IsPageOfUsed}
 use Rattle.block_lists.specs.declared.part.Part.{Part}
 use Rattle.block_lists.specs.Parts.{in_part}
 
@@ -29,25 +24,7 @@ rows_in_parts rows parts = flat_map (rows_in_part rows) parts
 abbrev pub parts_with_rows : List PlacedRow → List Part → List Part
 parts_with_rows rows parts = filter (λ part. nat_lt 0 (length (rows_in_part rows part))) parts
 
--- the row in a place, if there is one, with its place
-abbrev pub rows_at : Rid → Option Row → List PlacedRow
-rows_at rid None = []
-rows_at rid (Some row) = record { rid = rid; row = row } ∷ []
-
--- the rows in some slots of a block, in their order
-abbrev pub rows_at_slots : List Spot → ℕ → List ℕ → List PlacedRow
-rows_at_slots spots block slots = flat_map (λ slot. rows_at (record { block = block; slot = slot }) (row_at_spot spots (record { block = block; slot = slot }))) slots
-
 -- ---- pages
-
--- a page of a block that is Used, where the table was told to stand
-abbrev pub IsPageOfUsed : {S : Type 0} → Ghosts S → Shape → S → TableDef → ℕ → ℕ → Type 0
-IsPageOfUsed g shape s def block p =
-    (owners : List Kind) (forests : TableForests) → StandsTable g shape s def owners forests → Contains (used_blocks forests.map) block × IsPageOfBlock shape block p
-
--- a page of the block map, or of a block where that is Used
-abbrev pub IsPartPage : {S : Type 0} → Ghosts S → Shape → S → TableDef → ℕ → ℕ → Type 0
-IsPartPage g shape s def block p = IsTreePageAt g s (map_place def) p ⊎ IsPageOfUsed g shape s def block p
 
 -- a page of the block of one of these parts, where that is Used
 pub record IsPageOfParts {S : Type 0} (g : Ghosts S) (shape : Shape) (s : S) (def : TableDef) (parts : List Part) (p : ℕ) : Type 0 where

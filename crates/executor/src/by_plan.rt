@@ -12,24 +12,21 @@ ghost use Rattle.mdc_sound.specs.BlockRules.{AreTableIndexesSound};
 ghost use Rattle.mdc_sound.specs.StandingTable.{BreaksTable, StandsTable, TableForests, pages_of, view_of};
 ghost use Rattle.plan_chooser.specs.PlanRows.{fits_plan};
 ghost use Rattle.table_scan.specs.FoundRows.{FindsRows};
-ghost use Rattle.executor.specs.Planned.{CountsPlanned, CoversIfAny, IsFoundPage, QualifyInTable};
+ghost use Rattle.executor.specs.Planned.{CountsPlanned, CoversIfAny, IsFoundPage, LieInTable};
+ghost use Rattle.executor.specs.SeenParts.{HasSeenPlan};
 
 use crate::found::Found;
-use crate::reading::read_parts;
-use block_lists::Merge;
+use crate::planned::scan_planned;
 use mdc_ast::{Pred, TableDef};
 use mdc_words::Steps;
 use plan_chooser::Plan;
-use plan_lists::tree_of_plan;
 use std::alloc::Global;
 use std::sync::ledger::Ledger;
 use store_api::{Pages, Shape, StoreFault};
 
 /// Copies of the rows of a table that qualify, each with its place, by rising row number, and the number of Used blocks that hold a row
-/// of the plan. The plan has to cover the predicate, which may be judged on each row that was read. Index entries are read as the plan
-/// names them, and counted; then the lists of the plan are gone over block by block, and of row pages those of such blocks alone come to
-/// hand: all pages of a block that is listed whole, and of others those of the places that are listed. A place in a block that isn't
-/// Used is passed over, and what is given are rows of the table even where a record index isn't sound. Damaged where a dimension lists a block that isn't Used, and where such a block is as `scan_rows` finds damaged.
+/// of the plan. Pages come to hand and are judged as `scan_by_plan` says. The plan has to cover the predicate, and the index entries
+/// that are read for it are counted.
 pub fn matching<P: Pages, E: Ledger>(
     alloc: Global,
     def: &TableDef,
@@ -47,16 +44,16 @@ pub fn matching<P: Pages, E: Ledger>(
     ensures finds { IfOk result (λ found. (owners : List Kind) (forests : TableForests) → StandsTable P.Pages shape pages.old def.now owners forests
         → AreTableIndexesSound shape (pages_of P.Pages pages.old) (view_of def.now forests) → FindsRows P.Pages shape pages.old def.now pred.now found.hits.items forests) }
     ensures lie { IfOk result (λ found. (owners : List Kind) (forests : TableForests) → StandsTable P.Pages shape pages.old def.now owners forests
-        → QualifyInTable P.Pages shape pages.old def.now pred.now found.hits.items forests) }
+        → LieInTable P.Pages shape pages.old def.now pred.now found.hits.items forests) }
     ensures counts { IfOk result (λ found. (owners : List Kind) (forests : TableForests) → StandsTable P.Pages shape pages.old def.now owners forests
         → AreTableIndexesSound shape (pages_of P.Pages pages.old) (view_of def.now forests) → CountsPlanned P.Pages shape pages.old def.now plan.now forests found.blocks) }
+    ensures seen { IfOk result (λ found. IsTrue (P.state pages.old).is_told → HasSeenPlan P.Pages shape pages.old def.now plan.now) }
     ensures keyed { IfOk result (λ found. HaveReadValues def.now.columns found.hits.items) }
     ensures same { (P.state pages.new).work ≡ (P.state pages.old).work }
     ensures runs { RunsOverPages P.Pages NoPage (IsFoundPage P.Pages shape pages.old def.now plan.now) (BreaksTable P.Pages shape pages.old def.now) pages.old pages.new (fault_of result) }
 {
-    let tree = tree_of_plan(alloc, def, shape, pages, plan, entries)?;
-    let mut merge = Merge::over(alloc, &tree)?;
-    let mut found = read_parts(alloc, def, shape, pages, &mut merge, pred)?;
-    found.hits.sort_unstable_by_key(|hit| hit.row.number);
-    Ok(found)
+    let mut hits = Vec::new(alloc);
+    let blocks = scan_planned(alloc, def, shape, pages, plan, pred, entries, &mut hits)?;
+    hits.sort_unstable_by_key(|hit| hit.row.number);
+    Ok(Found { hits, blocks })
 }

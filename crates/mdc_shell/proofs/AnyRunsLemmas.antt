@@ -10,12 +10,11 @@ use Rattle.mdc_outside.specs.declared.disk.Disk.{Ghosts}
 use Rattle.page_file.specs.Leaving.{LeavesImage}
 use Rattle.page_store.specs.Opened.{CouldBeLeft}
 use Rattle.session.specs.script.Going.{held_last}
-use Rattle.session.specs.declared.script.stop.Served.{Served}
-use Rattle.session.specs.declared.script.stop.SessionStop.TheVariants as session
+use Rattle.session.specs.declared.script.served.Served.{Served}
 use Rattle.session.specs.file.AnyServing.{RunsOnAnyFile, RunsOnServed, StandsFor}
 use Rattle.session.specs.file.Leaving.{LeftByAnyRun}
-use Rattle.session.specs.declared.file.stop.FileStop.{FileStop}
-use Rattle.session.specs.declared.file.stop.FileStop.TheVariants.{Damaged, Device, Memory, NotMdc, TooLong, Unmade, Unread, Unsaid, Version}
+use Rattle.session.specs.declared.stop.Stop.{Stop}
+use Rattle.session.specs.declared.stop.Stop.TheVariants.{Damaged, Device, Memory, NotMdc, TooLong, Unmade, Unread, Unsaid, Version}
 use Rattle.session.proofs.AnyFileRunsLemmas.{any_before}
 use Rattle.file_verdict.proofs.RestingLemmas.{TellsNow}
 use Rattle.mdc_shell.specs.Run.{IsStopBefore, LeftWithLine, RunsAnyPath}
@@ -25,7 +24,7 @@ use Rattle.mdc_shell.proofs.OriginLemmas.{could_be_left-moment, rests-opened, re
 -- ---- a run
 
 -- with tapes that are the same
-pub served_along : {file : Option File} {script left tape was new_tape now : Option (List ℕ)} {end_ : Result Served FileStop} → tape ≡ was → new_tape ≡ now → RunsOnServed file script left tape new_tape end_
+pub served_along : {file : Option File} {script left tape was new_tape now : Option (List ℕ)} {end_ : Result Served Stop} → tape ≡ was → new_tape ≡ now → RunsOnServed file script left tape new_tape end_
     → RunsOnServed file script left was now end_
 served_along {tape = tape} {now = now} told heard serves = record {
   pages = serves.pages;
@@ -41,8 +40,7 @@ served_along {tape = tape} {now = now} told heard serves = record {
     said = serves.run.said;
     read = serves.run.read;
     tape_is = subst (λ (t : Option (List ℕ)). Takes t serves.run.said now) told (subst (Takes tape serves.run.said) heard serves.run.tape_is);
-    end_ = serves.run.end_;
-    result_is = serves.run.result_is;
+    of_script = serves.run.of_script;
     ends = serves.run.ends;
     built = serves.run.built;
   };
@@ -50,7 +48,7 @@ served_along {tape = tape} {now = now} told heard serves = record {
 }
 
 -- on a file that an attach opened
-served_opened : {before : File} {script left tape new_tape : Option (List ℕ)} {end_ : Result Served FileStop} → RunsOnServed (Some (opened before)) script left tape new_tape end_
+served_opened : {before : File} {script left tape new_tape : Option (List ℕ)} {end_ : Result Served Stop} → RunsOnServed (Some (opened before)) script left tape new_tape end_
     → RunsOnServed (Some before) script left tape new_tape end_
 served_opened serves = record {
   pages = serves.pages;
@@ -59,20 +57,20 @@ served_opened serves = record {
   damage = λ damage ends file is. serves.damage damage ends (opened file) (ap (option_map opened) is);
 }
 
-served_attached : (file : Option File) (script left tape new_tape : Option (List ℕ)) (end_ : Result Served FileStop) → RunsOnServed (option_map opened file) script left tape new_tape end_
+served_attached : (file : Option File) (script left tape new_tape : Option (List ℕ)) (end_ : Result Served Stop) → RunsOnServed (option_map opened file) script left tape new_tape end_
     → RunsOnServed file script left tape new_tape end_
 served_attached None script left tape new_tape end_ serves = serves
 served_attached (Some file) script left tape new_tape end_ serves = served_opened serves
 
-pub served_behind : (file mid : Option File) (script left tape mid_tape new_tape : Option (List ℕ)) (end_ : Result Served FileStop) → mid ≡ option_map opened file → mid_tape ≡ tape
+pub served_behind : (file mid : Option File) (script left tape mid_tape new_tape : Option (List ℕ)) (end_ : Result Served Stop) → mid ≡ option_map opened file → mid_tape ≡ tape
     → RunsOnServed mid script left mid_tape new_tape end_ → RunsOnServed file script left tape new_tape end_
 served_behind file mid script left tape mid_tape new_tape end_ is same serves =
     served_attached file script left tape new_tape end_ (served_along same refl (subst (λ (f : Option File). RunsOnServed f script left mid_tape new_tape end_) is serves))
 
 -- where nothing was run
-pub served_before : (file : Option File) (script tape new_tape : Option (List ℕ)) (stop : FileStop) → IsStopBefore stop → new_tape ≡ tape → RunsOnServed file script script tape new_tape (Err stop)
-served_before file script tape new_tape Device before same = any_before file script tape new_tape session.Device (inl refl) same
-served_before file script tape new_tape Memory before same = any_before file script tape new_tape session.Memory (inr refl) same
+pub served_before : (file : Option File) (script tape new_tape : Option (List ℕ)) (stop : Stop) → IsStopBefore stop → new_tape ≡ tape → RunsOnServed file script script tape new_tape (Err stop)
+served_before file script tape new_tape Device before same = any_before file script tape new_tape Device (inl refl) same
+served_before file script tape new_tape Memory before same = any_before file script tape new_tape Memory (inr refl) same
 served_before file script tape new_tape Unmade before same = absurd before
 served_before file script tape new_tape NotMdc before same = absurd before
 served_before file script tape new_tape (Version version) before same = absurd before
@@ -85,7 +83,7 @@ served_before file script tape new_tape (Damaged damage) before same = absurd be
 
 module _ {D : Type 0} (g : Ghosts D) (before : File) (said : List ℕ) (script left : Option (List ℕ)) where
   -- a run, and then the line of its end
-  pub runs_any-said : (after : File) (heard : List ℕ) (old mid new : D) (tape new_tape : Option (List ℕ)) (end_ : Result Served FileStop) (status : ℕ) → TellsNow g old → TellsNow g mid → ReachesBack g.clock g.moment mid
+  pub runs_any-said : (after : File) (heard : List ℕ) (old mid new : D) (tape new_tape : Option (List ℕ)) (end_ : Result Served Stop) (status : ℕ) → TellsNow g old → TellsNow g mid → ReachesBack g.clock g.moment mid
       → g.file old ≡ Some before → (g.beside old).tape ≡ Some said → g.file mid ≡ Some after → IsImage after.since after.bytes → (g.beside mid).tape ≡ Some heard → tape ≡ Some heard → SaysEnd tape new_tape status end_
       → OverTime g.clock g.moment (IsWithinCall (g.file mid) tape (line_of_end end_)) mid new → g.file new ≡ g.file mid → RunsOnAnyFile g before said script left old mid end_ → RunsAnyPath g before said script left new_tape old new status
   unfolding served_along
@@ -126,7 +124,7 @@ module _ {D : Type 0} (g : Ghosts D) (before : File) (said : List ℕ) (script l
   }
 
 -- one that stopped before anything was taken
-pub runs_any-before : {D : Type 0} (g : Ghosts D) (before : File) (said : List ℕ) (script new_tape : Option (List ℕ)) (old new : D) (stop : FileStop) → IsStopBefore stop → SaysEnd (Some said) new_tape (status_of_stop stop) (Err stop)
+pub runs_any-before : {D : Type 0} (g : Ghosts D) (before : File) (said : List ℕ) (script new_tape : Option (List ℕ)) (old new : D) (stop : Stop) → IsStopBefore stop → SaysEnd (Some said) new_tape (status_of_stop stop) (Err stop)
     → OverTime g.clock g.moment (LeavesImage (CouldBeLeft before) said) old new → RunsAnyPath g before said script script new_tape old new (status_of_stop stop)
 runs_any-before g before said script new_tape old new stop is_before ends meanwhile = record {
   end_ = Err stop;

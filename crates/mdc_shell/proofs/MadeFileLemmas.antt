@@ -21,10 +21,10 @@ use Rattle.file_verdict.specs.SoundFile.{StatesExtents}
 use Rattle.session.specs.script.Going.{GoesOnPages, Stage}
 use Rattle.session.specs.script.Leaving.{AreServedPages}
 use Rattle.session.specs.script.Lists.{GoesOnLists}
-use Rattle.session.specs.declared.script.stop.Served.{Served}
+use Rattle.session.specs.declared.script.served.Served.{Served}
 use Rattle.session.specs.file.MadePages.{made_pages}
 use Rattle.session.specs.file.Serving.{RunsItems}
-use Rattle.session.specs.declared.file.stop.FileStop.{FileStop}
+use Rattle.session.specs.declared.stop.Stop.{Stop}
 use Rattle.mdc_shell.specs.Run.{IsStopBefore, RunsScratch}
 use Rattle.mdc_shell.specs.Status.{status_of}
 use Rattle.session.proofs.MadeFilesLemmas.{made_states}
@@ -49,7 +49,7 @@ OverLists = (shape : Shape) (held : HeldPages) (items : List Item) (outcomes : L
     → (session : Session) → StandsForSession shape held session → (sessions : List Session) × GoesOnLists shape held session items outcomes stages sessions
 
 -- a run on pages that stand for no table is one over a database without a table
-over_nothing : OverLists → (shape : Shape) (pages : PageList) (said : List ℕ) (script left tape : Option (List ℕ)) (end_ : Result Served FileStop) → PagesStandFor shape pages empty_database
+over_nothing : OverLists → (shape : Shape) (pages : PageList) (said : List ℕ) (script left tape : Option (List ℕ)) (end_ : Result Served Stop) → PagesStandFor shape pages empty_database
     → RunsItems shape pages said script left tape end_ → (run : RunsItems shape pages said script left tape end_) × (run.db ≡ empty_database)
 over_nothing over shape pages said script left tape end_ stands run =
     let all = over shape run.held run.items run.outcomes run.stages run.goes (session_on empty_database) (opened_session shape pages run.held empty_database run.opened stands) in (
@@ -67,16 +67,15 @@ over_nothing over shape pages said script left tape end_ stands run =
         lists = all.1;
         more = run.more;
         tape_is = run.tape_is;
-        end_ = run.end_;
         undamaged = run.undamaged;
-        result_is = run.result_is;
+        of_script = run.of_script;
         ends = run.ends;
       },
       refl,
     )
 
 -- a run on a scratch file that was just made
-pub made_file-runs : MadeLaws → OverLists → (file : File) (shape : Shape) (said : List ℕ) (script left tape : Option (List ℕ)) (end_ : Result Served FileStop) → HoldsFresh 4096 4 file
+pub made_file-runs : MadeLaws → OverLists → (file : File) (shape : Shape) (said : List ℕ) (script left tape : Option (List ℕ)) (end_ : Result Served Stop) → HoldsFresh 4096 4 file
     → IsEmptyDatabase 4096 file.bytes → StatesExtents file.bytes shape → RunsItems shape (pages_in file.bytes) said script left tape end_ → RunsScratch said script left tape (status_of end_)
 made_file-runs laws over file shape said script left tape end_ fresh empty states run =
     let stated = made_states 4096 4 file.bytes refl fresh.bytes in
@@ -88,7 +87,7 @@ made_file-runs laws over file shape said script left tape end_ fresh empty state
     record { end_ = end_; shape = shape; extents = cap; extent_pages = pages; run = whole.0; empty = whole.1; status_is = refl }
 
 -- a run of none of a script's items on a scratch file
-pub nothing_run-scratch : MadeLaws → (said : List ℕ) (script : Option (List ℕ)) (stop : FileStop) → IsStopBefore stop → RunsScratch said script script (Some said) (status_of (Err stop))
+pub nothing_run-scratch : MadeLaws → (said : List ℕ) (script : Option (List ℕ)) (stop : Stop) → IsStopBefore stop → RunsScratch said script script (Some said) (status_of (Err stop))
 nothing_run-scratch laws said script stop before =
     let found = laws.extents 4096 4 refl in
     let shape : Shape = found.0 in

@@ -1,5 +1,5 @@
 -- The runs of scripts: how they end, what an attach before them changes, and what is left where nothing was run.
-use Rattle.std.proofs.Common.{◌≡◌, ◌⊎◌, ◌≤◌, ℕ, List, [], IsTrue, false, Option, Some, None, IfSome, Result, Ok, Err, length, length-append, refl, sym, ap, subst, ◌∙◌, inl, inr, arith, ◌<◌, ◌++◌}
+use Rattle.std.proofs.Common.{◌≡◌, ◌⊎◌, ◌≤◌, ℕ, List, [], IsTrue, false, Option, Some, None, IfErr, IfSome, Result, Ok, Err, length, length-append, refl, sym, ap, subst, ◌∙◌, inl, inr, arith, ◌<◌, ◌++◌}
 use Rattle.mdc_ast.specs.declared.reply.Outcome.{Outcome}
 use Rattle.mdc_ast.specs.Reading.{Item}
 use Rattle.mdc_words.specs.Time.{OverTime, ReachesBack}
@@ -20,17 +20,16 @@ use Rattle.std.specs.Option.{option_map}
 use Rattle.file_verdict.specs.Resting.{ComesToRest, StaysFormed}
 use Rattle.file_verdict.proofs.RestingLemmas.{TellsNow}
 use Rattle.session.specs.script.Serving.{EndsScript, TakesScript}
-use Rattle.session.specs.declared.script.stop.Served.{Served}
-use Rattle.session.specs.declared.script.stop.Served.TheVariants.{AllDone, SomeRefused}
-use Rattle.session.specs.declared.script.stop.SessionStop.{SessionStop}
-use Rattle.session.specs.declared.script.stop.SessionStop.TheVariants as session
+use Rattle.session.specs.declared.script.served.Served.{Served}
+use Rattle.session.specs.declared.script.served.Served.TheVariants.{AllDone, SomeRefused}
+use Rattle.session.specs.Stops.{IsOfScript}
+use Rattle.session.specs.declared.stop.Stop.{Stop}
 use Rattle.session.specs.script.Told.{TellsMore}
 use Rattle.session.specs.script.Ending.{script_limit}
-use Rattle.session.specs.file.Ending.{IsCauseIn, IsUnopened, end_of_session, IsRefused}
+use Rattle.session.specs.file.Ending.{IsCauseIn, IsUnopened, IsRefused}
 use Rattle.session.specs.file.Serving.{RunsItems, RunsOnFile, TakesBySession}
 use Rattle.session.specs.file.Well.{IsWell}
-use Rattle.session.specs.declared.file.stop.FileStop.{FileStop}
-use Rattle.session.specs.declared.file.stop.FileStop.TheVariants.{Damaged, Device, Memory, NotMdc, TooLong, Unmade, Unread, Unsaid, Version}
+use Rattle.session.specs.declared.stop.Stop.TheVariants.{Damaged, Device, Memory, NotMdc, TooLong, Unmade, Unread, Unsaid, Version}
 use Rattle.session.specs.file.Leaving.{StopsUnrested}
 use Rattle.page_file.specs.Bound.{LeavesOf}
 use Rattle.mdc_shell.specs.Run.{IsComplete, IsStopBefore, IsWithinLimit, RefusesFile, ReopensFile, RunsPath, RunsScratch, ServesPath, TakesByStatus}
@@ -41,23 +40,26 @@ use Rattle.mdc_shell.proofs.AnyRunsLemmas.{served_before, served_behind}
 
 -- ---- how a run ends
 
--- a session that names no damage ends with no line
-end_of_session-quiet : (end_ : Result Served SessionStop) → ((damage : Damage) → end_ ≡ Err (session.Damaged damage) → ⊥) → line_of_end (end_of_session end_) ≡ []
-end_of_session-quiet (Ok served) undamaged = refl
-end_of_session-quiet (Err session.Unread) undamaged = refl
-end_of_session-quiet (Err session.TooLong) undamaged = refl
-end_of_session-quiet (Err session.Unsaid) undamaged = refl
-end_of_session-quiet (Err session.Device) undamaged = refl
-end_of_session-quiet (Err (session.Damaged damage)) undamaged = absurd (undamaged damage refl)
-end_of_session-quiet (Err session.Memory) undamaged = refl
+-- a script that was begun and names no damage ends with no line
+begun-quiet : (end_ : Result Served Stop) → IfErr end_ IsOfScript → ((damage : Damage) → end_ ≡ Err (Damaged damage) → ⊥) → line_of_end end_ ≡ []
+begun-quiet (Ok served) begun undamaged = refl
+begun-quiet (Err Unmade) begun undamaged = absurd begun
+begun-quiet (Err NotMdc) begun undamaged = absurd begun
+begun-quiet (Err (Version version)) begun undamaged = absurd begun
+begun-quiet (Err Unread) begun undamaged = refl
+begun-quiet (Err TooLong) begun undamaged = refl
+begun-quiet (Err Unsaid) begun undamaged = refl
+begun-quiet (Err Device) begun undamaged = refl
+begun-quiet (Err (Damaged damage)) begun undamaged = absurd (undamaged damage refl)
+begun-quiet (Err Memory) begun undamaged = refl
 
 -- so does a run of items
-pub runs_items-quiet : {shape : Shape} {pages : PageList} {said : List ℕ} {script left tape : Option (List ℕ)} {end_ : Result Served FileStop} → RunsItems shape pages said script left tape end_
+pub runs_items-quiet : {shape : Shape} {pages : PageList} {said : List ℕ} {script left tape : Option (List ℕ)} {end_ : Result Served Stop} → RunsItems shape pages said script left tape end_
     → line_of_end end_ ≡ []
-runs_items-quiet run = ap line_of_end run.result_is ∙ end_of_session-quiet run.end_ run.undamaged
+runs_items-quiet {end_ = end_} run = begun-quiet end_ run.of_script run.undamaged
 
 -- a run on a file whose end says nothing
-pub runs_path-ended : {D : Type 0} (g : Ghosts D) (before : File) (said : List ℕ) (script left : Option (List ℕ)) (old mid new : D) (end_ : Result Served FileStop) (status : ℕ)
+pub runs_path-ended : {D : Type 0} (g : Ghosts D) (before : File) (said : List ℕ) (script left : Option (List ℕ)) (old mid new : D) (end_ : Result Served Stop) (status : ℕ)
     → RunsOnFile g before said script left old mid end_ → new ≡ mid → status ≡ status_of end_ → RunsPath g before said script left old new status
 runs_path-ended {D} g before said script left old mid new end_ status run same is =
     record { end_ = end_; run = subst (λ (d : D). RunsOnFile g before said script left old d end_) (sym same) run; status_is = is }
@@ -105,7 +107,7 @@ runs_path-opened g before said script left old mid new status attached run = rec
 -- ---- where nothing was run
 
 -- the end of a stop that says nothing
-pub says_end-quiet : (tape new : Option (List ℕ)) (stop : FileStop) → IsStopBefore stop → new ≡ tape → SaysEnd tape new (status_of_stop stop) (Err stop)
+pub says_end-quiet : (tape new : Option (List ℕ)) (stop : Stop) → IsStopBefore stop → new ≡ tape → SaysEnd tape new (status_of_stop stop) (Err stop)
 says_end-quiet tape new Device before same = inl (refl, subst (λ (t : Option (List ℕ)). Takes tape [] t) (sym same) (takes_nothing tape))
 says_end-quiet tape new Memory before same = inl (refl, subst (λ (t : Option (List ℕ)). Takes tape [] t) (sym same) (takes_nothing tape))
 says_end-quiet tape new Unmade before same = absurd before
@@ -117,7 +119,7 @@ says_end-quiet tape new Unsaid before same = absurd before
 says_end-quiet tape new (Damaged damage) before same = absurd before
 
 -- it has no cause in a file
-cause-before : (file : List ℕ) (stop : FileStop) → IsStopBefore stop → IsCauseIn file (Err stop)
+cause-before : (file : List ℕ) (stop : Stop) → IsStopBefore stop → IsCauseIn file (Err stop)
 cause-before file Device before = tt
 cause-before file Memory before = tt
 cause-before file Unmade before = absurd before
@@ -129,7 +131,7 @@ cause-before file Unsaid before = tt
 cause-before file (Damaged damage) before = absurd before
 
 -- and it may be that of a file that isn't opened
-unopened-before : (stop : FileStop) → IsStopBefore stop → IsUnopened (Err stop)
+unopened-before : (stop : Stop) → IsStopBefore stop → IsUnopened (Err stop)
 unopened-before Device before = tt
 unopened-before Memory before = tt
 unopened-before Unmade before = tt
@@ -140,7 +142,7 @@ unopened-before TooLong before = absurd before
 unopened-before Unsaid before = absurd before
 unopened-before (Damaged damage) before = tt
 
-pub serves_path-before : (file : Option File) (script tape new : Option (List ℕ)) (stop : FileStop) → IsStopBefore stop → new ≡ tape → ServesPath file script script tape new (status_of_stop stop)
+pub serves_path-before : (file : Option File) (script tape new : Option (List ℕ)) (stop : Stop) → IsStopBefore stop → new ≡ tape → ServesPath file script script tape new (status_of_stop stop)
 serves_path-before file script tape new stop before same = record {
   end_ = Err stop;
   cause = λ f is. cause-before f.bytes stop before;
@@ -165,7 +167,7 @@ serves_path-opened file mid script left tape mid_tape new status is same serves 
   ends = serves.ends;
 }
 
-pub refuses_file-before : {D : Type 0} (g : Ghosts D) (before : File) (said : List ℕ) (new_tape : Option (List ℕ)) (old new : D) (stop : FileStop) → IsStopBefore stop → new_tape ≡ Some said
+pub refuses_file-before : {D : Type 0} (g : Ghosts D) (before : File) (said : List ℕ) (new_tape : Option (List ℕ)) (old new : D) (stop : Stop) → IsStopBefore stop → new_tape ≡ Some said
     → OverTime g.clock g.moment (LeavesImage (CouldBeLeft before) said) old new → RefusesFile g before said new_tape old new (status_of_stop stop)
 refuses_file-before g before said new_tape old new stop is_before same meanwhile = record {
   end_ = Err stop;
@@ -175,7 +177,7 @@ refuses_file-before g before said new_tape old new stop is_before same meanwhile
   time = over_time_wider meanwhile (could_be_left-moment before said (line_of_end (Err stop)));
 }
 
-pub runs_path-before : {D : Type 0} (g : Ghosts D) (before : File) (said : List ℕ) (script : Option (List ℕ)) (old new : D) (stop : FileStop) (well : IsWell before.bytes)
+pub runs_path-before : {D : Type 0} (g : Ghosts D) (before : File) (said : List ℕ) (script : Option (List ℕ)) (old new : D) (stop : Stop) (well : IsWell before.bytes)
     → RunsItems well.shape (pages_in before.bytes) said script script (Some said) (Err stop) → (g.beside new).tape ≡ Some said
     → OverTime g.clock g.moment (LeavesImage (CouldBeLeft before) said) old new → RunsPath g before said script script old new (status_of_stop stop)
 runs_path-before g before said script old new stop well items tape meanwhile = record {
@@ -192,27 +194,29 @@ runs_path-before g before said script old new stop well items tape meanwhile = r
 -- ---- where nothing failed
 
 -- a session within the limit is run to its end, unless memory is wanted
-completes_session : (end_ : Result Served SessionStop) (script left : Option (List ℕ)) (said : List ℕ) (items in_hand : List Item) (outcomes : List Outcome)
-    → ((damage : Damage) → end_ ≡ Err (session.Damaged damage) → ⊥) → IfSome script (λ script. EndsScript script left said items in_hand outcomes end_) → IsWithinLimit script
-    → (status_of (end_of_session end_) ≡ 3 → ⊥) → (status_of (end_of_session end_) ≡ 4 → ⊥) → (status_of (end_of_session end_) ≡ 5 → ⊥) → IsComplete (status_of (end_of_session end_))
-completes_session (Ok AllDone) script left said items in_hand outcomes undamaged ends within no_disk no_read no_say = inl refl
-completes_session (Ok SomeRefused) script left said items in_hand outcomes undamaged ends within no_disk no_read no_say = inr (inl refl)
-completes_session (Err session.Unread) script left said items in_hand outcomes undamaged ends within no_disk no_read no_say = absurd (no_read refl)
-completes_session (Err session.TooLong) None left said items in_hand outcomes undamaged ends within no_disk no_read no_say = absurd within
-completes_session (Err session.TooLong) (Some script) left said items in_hand outcomes undamaged ends within no_disk no_read no_say =
+completes_session : (end_ : Result Served Stop) (script left : Option (List ℕ)) (said : List ℕ) (items in_hand : List Item) (outcomes : List Outcome)
+    → IfErr end_ IsOfScript → ((damage : Damage) → end_ ≡ Err (Damaged damage) → ⊥) → IfSome script (λ script. EndsScript script left said items in_hand outcomes end_) → IsWithinLimit script
+    → (status_of end_ ≡ 3 → ⊥) → (status_of end_ ≡ 4 → ⊥) → (status_of end_ ≡ 5 → ⊥) → IsComplete (status_of end_)
+completes_session (Ok AllDone) script left said items in_hand outcomes begun undamaged ends within no_disk no_read no_say = inl refl
+completes_session (Ok SomeRefused) script left said items in_hand outcomes begun undamaged ends within no_disk no_read no_say = inr (inl refl)
+completes_session (Err Unmade) script left said items in_hand outcomes begun undamaged ends within no_disk no_read no_say = absurd begun
+completes_session (Err NotMdc) script left said items in_hand outcomes begun undamaged ends within no_disk no_read no_say = absurd begun
+completes_session (Err (Version version)) script left said items in_hand outcomes begun undamaged ends within no_disk no_read no_say = absurd begun
+completes_session (Err Unread) script left said items in_hand outcomes begun undamaged ends within no_disk no_read no_say = absurd (no_read refl)
+completes_session (Err TooLong) None left said items in_hand outcomes begun undamaged ends within no_disk no_read no_say = absurd within
+completes_session (Err TooLong) (Some script) left said items in_hand outcomes begun undamaged ends within no_disk no_read no_say =
     absurd (omega (arith, ends.ends.1, within, ap length ends.script_is, length-append ends.taken ends.rest))
-completes_session (Err session.Unsaid) script left said items in_hand outcomes undamaged ends within no_disk no_read no_say = absurd (no_say refl)
-completes_session (Err session.Device) script left said items in_hand outcomes undamaged ends within no_disk no_read no_say = absurd (no_disk refl)
-completes_session (Err (session.Damaged damage)) script left said items in_hand outcomes undamaged ends within no_disk no_read no_say = absurd (undamaged damage refl)
-completes_session (Err session.Memory) script left said items in_hand outcomes undamaged ends within no_disk no_read no_say = inr (inr refl)
+completes_session (Err Unsaid) script left said items in_hand outcomes begun undamaged ends within no_disk no_read no_say = absurd (no_say refl)
+completes_session (Err Device) script left said items in_hand outcomes begun undamaged ends within no_disk no_read no_say = absurd (no_disk refl)
+completes_session (Err (Damaged damage)) script left said items in_hand outcomes begun undamaged ends within no_disk no_read no_say = absurd (undamaged damage refl)
+completes_session (Err Memory) script left said items in_hand outcomes begun undamaged ends within no_disk no_read no_say = inr (inr refl)
 
 -- so is a run of items, whose status is that of its end
-pub runs_items-complete : {shape : Shape} {pages : PageList} (said : List ℕ) (script left tape : Option (List ℕ)) (end_ : Result Served FileStop) (status : ℕ)
+pub runs_items-complete : {shape : Shape} {pages : PageList} (said : List ℕ) (script left tape : Option (List ℕ)) (end_ : Result Served Stop) (status : ℕ)
     → RunsItems shape pages said script left tape end_ → status ≡ status_of end_ → IsWithinLimit script → (status ≡ 3 → ⊥) → (status ≡ 4 → ⊥) → (status ≡ 5 → ⊥) → IsComplete status
 runs_items-complete said script left tape end_ status run is within no_disk no_read no_say =
-    let same : status ≡ status_of (end_of_session run.end_) = is ∙ ap status_of run.result_is in
-    subst IsComplete (sym same) (completes_session run.end_ script left run.more run.items run.in_hand run.outcomes run.undamaged run.ends within
-    (λ e. no_disk (same ∙ e)) (λ e. no_read (same ∙ e)) (λ e. no_say (same ∙ e)))
+    subst IsComplete (sym is) (completes_session end_ script left run.more run.items run.in_hand run.outcomes run.of_script run.undamaged run.ends within
+    (λ e. no_disk (is ∙ e)) (λ e. no_read (is ∙ e)) (λ e. no_say (is ∙ e)))
 
 -- told files of the same bytes have them
 pub same_bytes : (old new : Option File) (before after : File) → old ≡ Some before → new ≡ Some after → file_bytes new ≡ file_bytes old → after.bytes ≡ before.bytes
@@ -244,7 +248,7 @@ refuses_file-opened g before said new_tape old mid new status attached refuses =
 -- ---- a formed file
 
 -- a run, and then the line of its end
-pub reopens_file-said : {D : Type 0} (g : Ghosts D) (before after : File) (said heard : List ℕ) (script left : Option (List ℕ)) (old mid new : D) (tape new_tape : Option (List ℕ)) (end_ : Result Served FileStop) (status : ℕ)
+pub reopens_file-said : {D : Type 0} (g : Ghosts D) (before after : File) (said heard : List ℕ) (script left : Option (List ℕ)) (old mid new : D) (tape new_tape : Option (List ℕ)) (end_ : Result Served Stop) (status : ℕ)
     → TellsNow g old → TellsNow g mid → ReachesBack g.clock g.moment mid → g.file old ≡ Some before → (g.beside old).tape ≡ Some said → g.file mid ≡ Some after → IsImage after.since after.bytes
     → (g.beside mid).tape ≡ Some heard → tape ≡ Some heard → IsCauseIn before.bytes end_ → SaysEnd tape new_tape status end_
     → OverTime g.clock g.moment (IsWithinCall (g.file mid) tape (line_of_end end_)) mid new
@@ -275,7 +279,7 @@ reopens_file-opened g before said script left new_tape old mid new status attach
 })
 
 -- a stop before anything is taken comes before any origin
-pub reopens_file-before : {D : Type 0} (g : Ghosts D) (before : File) (said : List ℕ) (script new_tape : Option (List ℕ)) (old new : D) (stop : FileStop) → IsStopBefore stop → new_tape ≡ Some said
+pub reopens_file-before : {D : Type 0} (g : Ghosts D) (before : File) (said : List ℕ) (script new_tape : Option (List ℕ)) (old new : D) (stop : Stop) → IsStopBefore stop → new_tape ≡ Some said
     → OverTime g.clock g.moment (LeavesImage (CouldBeLeft before) said) old new → ReopensFile g before said script script new_tape old new (status_of_stop stop)
 reopens_file-before g before said script new_tape old new stop is_before same meanwhile = inr (record {
   end_ = Err stop;
@@ -306,15 +310,18 @@ takes_none None status not_done not_refused not_long = tt
 takes_none (Some bytes) status not_done not_refused not_long = part_taken [] bytes refl refl (omega arith) not_done not_refused not_long
 
 -- what a session took, by the status of the run
-takes_at : (end_ : Result Served SessionStop) (script : List ℕ) (left : Option (List ℕ)) (status : ℕ) → TakesScript script left end_
-    → (status ≡ status_of (end_of_session end_)) ⊎ (status ≡ 5) ⊎ (status ≡ 8) → (line_of_end (end_of_session end_) ≡ [] → status ≡ status_of (end_of_session end_)) → TakesByStatus script left status
-takes_at (Ok AllDone) script left status takes either quiet =
+takes_at : (end_ : Result Served Stop) (script : List ℕ) (left : Option (List ℕ)) (status : ℕ) → IfErr end_ IsOfScript → TakesScript script left end_
+    → (status ≡ status_of end_) ⊎ (status ≡ 5) ⊎ (status ≡ 8) → (line_of_end end_ ≡ [] → status ≡ status_of end_) → TakesByStatus script left status
+takes_at (Ok AllDone) script left status begun takes either quiet =
     let is : status ≡ 0 = quiet refl in
     record { taken = takes.taken; rest = takes.rest; script_is = takes.script_is; left_is = takes.left_is; all = λ done. takes.by_end.0; past = λ e. absurd (omega (arith, is, e)); within = λ e. takes.by_end.1 }
-takes_at (Ok SomeRefused) script left status takes either quiet =
+takes_at (Ok SomeRefused) script left status begun takes either quiet =
     let is : status ≡ 1 = quiet refl in
     record { taken = takes.taken; rest = takes.rest; script_is = takes.script_is; left_is = takes.left_is; all = λ done. takes.by_end.0; past = λ e. absurd (omega (arith, is, e)); within = λ e. takes.by_end.1 }
-takes_at (Err session.TooLong) script left status takes either quiet =
+takes_at (Err Unmade) script left status begun takes either quiet = absurd begun
+takes_at (Err NotMdc) script left status begun takes either quiet = absurd begun
+takes_at (Err (Version version)) script left status begun takes either quiet = absurd begun
+takes_at (Err TooLong) script left status begun takes either quiet =
     let is : status ≡ 7 = quiet refl in
     record {
       taken = takes.taken;
@@ -325,19 +332,19 @@ takes_at (Err session.TooLong) script left status takes either quiet =
       past = λ e. takes.by_end;
       within = λ not_long. absurd (not_long is);
     }
-takes_at (Err session.Unread) script left status takes either quiet =
+takes_at (Err Unread) script left status begun takes either quiet =
     let is : status ≡ 4 = quiet refl in
     part_taken takes.taken takes.rest takes.script_is takes.left_is takes.by_end (λ e. omega (arith, is, e)) (λ e. omega (arith, is, e)) (λ e. omega (arith, is, e))
-takes_at (Err session.Unsaid) script left status takes either quiet =
+takes_at (Err Unsaid) script left status begun takes either quiet =
     let is : status ≡ 5 = quiet refl in
     part_taken takes.taken takes.rest takes.script_is takes.left_is takes.by_end (λ e. omega (arith, is, e)) (λ e. omega (arith, is, e)) (λ e. omega (arith, is, e))
-takes_at (Err session.Device) script left status takes either quiet =
+takes_at (Err Device) script left status begun takes either quiet =
     let is : status ≡ 3 = quiet refl in
     part_taken takes.taken takes.rest takes.script_is takes.left_is takes.by_end (λ e. omega (arith, is, e)) (λ e. omega (arith, is, e)) (λ e. omega (arith, is, e))
-takes_at (Err session.Memory) script left status takes either quiet =
+takes_at (Err Memory) script left status begun takes either quiet =
     let is : status ≡ 8 = quiet refl in
     part_taken takes.taken takes.rest takes.script_is takes.left_is takes.by_end (λ e. omega (arith, is, e)) (λ e. omega (arith, is, e)) (λ e. omega (arith, is, e))
-takes_at (Err (session.Damaged damage)) script left status takes either quiet = elim either [
+takes_at (Err (Damaged damage)) script left status begun takes either quiet = elim either [
   | inl is ↦ part_taken takes.taken takes.rest takes.script_is takes.left_is takes.by_end (λ e. damaged is e (omega arith)) (λ e. damaged is e (omega arith)) (λ e. damaged is e (omega arith))
   | inr other ↦ elim other [
     | inl is ↦ part_taken takes.taken takes.rest takes.script_is takes.left_is takes.by_end (λ e. omega (arith, is, e)) (λ e. omega (arith, is, e)) (λ e. omega (arith, is, e))
@@ -349,7 +356,7 @@ takes_at (Err (session.Damaged damage)) script left status takes either quiet = 
     damaged is e less = omega (arith, is, e, less)
 
 -- a file that was refused has status 6, or that of its line
-refused_status : (end_ : Result Served FileStop) → IsRefused end_ → status_of end_ ≡ 6
+refused_status : (end_ : Result Served Stop) → IsRefused end_ → status_of end_ ≡ 6
 refused_status (Ok AllDone) is = absurd is
 refused_status (Ok SomeRefused) is = absurd is
 refused_status (Err Unmade) is = refl
@@ -363,22 +370,20 @@ refused_status (Err (Damaged damage)) is = absurd is
 refused_status (Err Memory) is = absurd is
 
 -- the status is that of the end, or that of a line that wasn't said
-pub status_either : (tape new : Option (List ℕ)) (status : ℕ) (end_ : Result Served FileStop) → SaysEnd tape new status end_ → (status ≡ status_of end_) ⊎ (status ≡ 5) ⊎ (status ≡ 8)
+pub status_either : (tape new : Option (List ℕ)) (status : ℕ) (end_ : Result Served Stop) → SaysEnd tape new status end_ → (status ≡ status_of end_) ⊎ (status ≡ 5) ⊎ (status ≡ 8)
 status_either tape new status end_ (inl is) = inl is.0
 status_either tape new status end_ (inr (inl is)) = inr (inl is.0)
 status_either tape new status end_ (inr (inr is)) = inr (inr is.0)
 
-refused_either : (status : ℕ) (end_ : Result Served FileStop) → IsRefused end_ → (status ≡ status_of end_) ⊎ (status ≡ 5) ⊎ (status ≡ 8) → (5 ≤ status) × (status ≤ 8) × (status ≡ 7 → ⊥)
+refused_either : (status : ℕ) (end_ : Result Served Stop) → IsRefused end_ → (status ≡ status_of end_) ⊎ (status ≡ 5) ⊎ (status ≡ 8) → (5 ≤ status) × (status ≤ 8) × (status ≡ 7 → ⊥)
 refused_either status end_ refused (inl is) = let six = refused_status end_ refused in (omega (arith, is, six), omega (arith, is, six), λ e. omega (arith, is, six, e))
 refused_either status end_ refused (inr (inl is)) = (omega (arith, is), omega (arith, is), λ e. omega (arith, is, e))
 refused_either status end_ refused (inr (inr is)) = (omega (arith, is), omega (arith, is), λ e. omega (arith, is, e))
 
-pub takes_by_status : (script left : Option (List ℕ)) (end_ : Result Served FileStop) (status : ℕ) → (IsRefused end_ → left ≡ script) → IsRefused end_ ⊎ TakesBySession script left end_
+pub takes_by_status : (script left : Option (List ℕ)) (end_ : Result Served Stop) (status : ℕ) → (IsRefused end_ → left ≡ script) → IsRefused end_ ⊎ TakesBySession script left end_
     → (status ≡ status_of end_) ⊎ (status ≡ 5) ⊎ (status ≡ 8) → (line_of_end end_ ≡ [] → status ≡ status_of end_) → IfSome script (λ bytes. TakesByStatus bytes left status)
 takes_by_status None left end_ status same takes either quiet = tt
 takes_by_status (Some bytes) left end_ status same (inl refused) either quiet =
     let at = refused_either status end_ refused either in
     part_taken [] bytes refl (same refused) (omega arith) (λ e. omega (arith, at.0, e)) (λ e. omega (arith, at.0, e)) at.2
-takes_by_status (Some bytes) left end_ status same (inr takes) either quiet =
-    takes_at takes.0 bytes left status takes.2 (subst (λ (e : Result Served FileStop). (status ≡ status_of e) ⊎ (status ≡ 5) ⊎ (status ≡ 8)) takes.1 either)
-    (λ none. quiet (ap line_of_end takes.1 ∙ none) ∙ ap status_of takes.1)
+takes_by_status (Some bytes) left end_ status same (inr takes) either quiet = takes_at end_ bytes left status takes.0 takes.1 either quiet

@@ -16,18 +16,18 @@ use Rattle.file_verdict.specs.Verdict.{IsVerdictOn}
 use Rattle.file_verdict.specs.Written.{IsSameOrOpened}
 use Rattle.file_verdict.specs.declared.unjudged.Unjudged.{Unjudged}
 use Rattle.file_verdict.specs.declared.unjudged.Unjudged.TheVariants.{Device, Memory, NotMdc, Unmade, Version}
-use Rattle.session.specs.declared.file.stop.FileStop.{FileStop}
-use Rattle.session.specs.declared.file.stop.FileStop.TheVariants as stop
+use Rattle.session.specs.declared.stop.Stop.{Stop}
+use Rattle.session.specs.declared.stop.Stop.TheVariants as why
 use Rattle.mdc_shell.specs.Leaving.{HasPart}
 use Rattle.mdc_shell.specs.Status.{damage_line, line_of_stop, status_of_stop}
 
 -- why there is no verdict, as the stop of a run for the same cause
-abbrev pub stop_of : Unjudged → FileStop
-stop_of Unmade = stop.Unmade
-stop_of NotMdc = stop.NotMdc
-stop_of (Version version) = stop.Version version
-stop_of Device = stop.Device
-stop_of Memory = stop.Memory
+abbrev pub stop_of : Unjudged → Stop
+stop_of Unmade = why.Unmade
+stop_of NotMdc = why.NotMdc
+stop_of (Version version) = why.Version version
+stop_of Device = why.Device
+stop_of Memory = why.Memory
 
 -- 0 for a sound file, 9 for one with a page that breaks a rule, and as of a run where there is no verdict
 abbrev pub status_of_verdict : Result Verdict Unjudged → ℕ

@@ -18,14 +18,14 @@ use Rattle.file_verdict.specs.SoundFile.{StatesExtents}
 use Rattle.session.specs.script.Ending.{script_limit}
 use Rattle.session.specs.script.Going.{Stage, held_last}
 use Rattle.session.specs.script.Told.{TellsMore}
-use Rattle.session.specs.declared.script.stop.Served.{Served}
+use Rattle.session.specs.declared.script.served.Served.{Served}
 use Rattle.session.specs.file.MadePages.{made_pages}
 use Rattle.session.specs.file.AnyServing.{RunsOnServed, StandsFor}
 use Rattle.session.specs.file.Ending.{IsCauseIn, IsRefused, IsUnopened}
 use Rattle.session.specs.file.Leaving.{LeftByAnyRun}
 use Rattle.session.specs.file.Serving.{RunsItems, RunsOnFile}
-use Rattle.session.specs.declared.file.stop.FileStop.{FileStop}
-use Rattle.session.specs.declared.file.stop.FileStop.TheVariants.{Device, Memory}
+use Rattle.session.specs.declared.stop.Stop.{Stop}
+use Rattle.session.specs.declared.stop.Stop.TheVariants.{Device, Memory}
 use Rattle.mdc_shell.specs.Create.{exists_line}
 use Rattle.mdc_shell.specs.Leaving.{HasPart}
 use Rattle.mdc_shell.specs.Status.{SaysEnd, line_of_end, status_of}
@@ -39,7 +39,7 @@ IsWithinLimit (Some script) = length script ≤ script_limit
 -- refused, there is one run of the script's items on its pages, whatever they are: each does what its statement may, the replies are
 -- those of its outcomes, and damage that is named is that of the file, or of the pages that were held then.
 pub record ServesPath (file : Option File) (script left tape new_tape : Option (List ℕ)) (status : ℕ) : Type 0 where
-  pub end_ : Result Served FileStop
+  pub end_ : Result Served Stop
   pub cause : ForSome file (λ file. IsCauseIn file.bytes end_)
   pub before_line : Option (List ℕ)
   pub kept : TellsMore tape before_line
@@ -52,19 +52,19 @@ LeftWithLine Left heard line image tape = Left image tape ⊎ (Left image heard 
 
 -- Such a run that came to its origin: from there on a crash leaves what the run leaves, also while the line of its end is said. And at the
 -- end, unless a call of the disk failed, each image that may be left stands for the pages of the last commit that were held last.
-pub record RestsByPath {D : Type 0} (g : Ghosts D) (before : File) (said heard : List ℕ) (held : HeldPages) (stages : List Stage) (outcomes : List Outcome) (in_hand : List Item) (old new : D) (end_ : Result Served FileStop) : Type 0 where
+pub record RestsByPath {D : Type 0} (g : Ghosts D) (before : File) (said heard : List ℕ) (held : HeldPages) (stages : List Stage) (outcomes : List Outcome) (in_hand : List Item) (old new : D) (end_ : Result Served Stop) : Type 0 where
   pub rest : ComesToRest g before said (LeftWithLine (LeftByAnyRun before.bytes held stages outcomes in_hand said) heard (line_of_end end_)) old new
   pub kept : (end_ ≡ Err Device → ⊥) → StandsFor before.bytes (held_last held stages).base (g.file new)
 
 -- the run stopped before any origin: nothing was taken, and a crash meanwhile leaves an image that could be left before, with a first part of
 -- the line of the end
-abbrev pub StopsUnrestedPath : {D : Type 0} → Ghosts D → File → List ℕ → Option (List ℕ) → Option (List ℕ) → D → D → Result Served FileStop → Type 0
+abbrev pub StopsUnrestedPath : {D : Type 0} → Ghosts D → File → List ℕ → Option (List ℕ) → Option (List ℕ) → D → D → Result Served Stop → Type 0
 StopsUnrestedPath g before said script left old new end_ = OverTime g.clock g.moment (IsMoment before.since said (line_of_end end_)) old new × (left ≡ script)
 
 -- `run FILE` on a file that is served, whatever its pages are: one run of the script's items on them, and what a crash leaves at each
 -- moment of it
 pub record RunsAnyPath {D : Type 0} (g : Ghosts D) (before : File) (said : List ℕ) (script left new_tape : Option (List ℕ)) (old new : D) (status : ℕ) : Type 0 where
-  pub end_ : Result Served FileStop
+  pub end_ : Result Served Stop
   pub heard : List ℕ
   pub serves : RunsOnServed (Some before) script left (Some said) (Some heard) end_
   pub ends : SaysEnd (Some heard) new_tape status end_
@@ -72,14 +72,14 @@ pub record RunsAnyPath {D : Type 0} (g : Ghosts D) (before : File) (said : List 
 
 -- `run FILE` on a file that is well: a run of the script's items on what it stands for
 pub record RunsPath {D : Type 0} (g : Ghosts D) (before : File) (said : List ℕ) (script left : Option (List ℕ)) (old new : D) (status : ℕ) : Type 0 where
-  pub end_ : Result Served FileStop
+  pub end_ : Result Served Stop
   pub run : RunsOnFile g before said script left old new end_
   pub status_is : status ≡ status_of end_
 
 -- `run FILE` on a file that can't be opened: nothing but the line of its cause is said, and a crash meanwhile leaves an image that
 -- could be left before.
 pub record RefusesFile {D : Type 0} (g : Ghosts D) (before : File) (said : List ℕ) (new_tape : Option (List ℕ)) (old new : D) (status : ℕ) : Type 0 where
-  pub end_ : Result Served FileStop
+  pub end_ : Result Served Stop
   pub unopened : IsUnopened end_
   pub cause : IsCauseIn before.bytes end_
   pub ends : SaysEnd (Some said) new_tape status end_
@@ -88,7 +88,7 @@ pub record RefusesFile {D : Type 0} (g : Ghosts D) (before : File) (said : List 
 -- `run FILE` that stopped before any origin: the end has its cause in the file, nothing was taken of the script, nothing but the line of
 -- the end is said, and a crash meanwhile leaves an image that could be left before.
 pub record StopsBeforeOrigin {D : Type 0} (g : Ghosts D) (before : File) (said : List ℕ) (script left new_tape : Option (List ℕ)) (old new : D) (status : ℕ) : Type 0 where
-  pub end_ : Result Served FileStop
+  pub end_ : Result Served Stop
   pub untaken : left ≡ script
   pub cause : IsCauseIn before.bytes end_
   pub ends : SaysEnd (Some said) new_tape status end_
@@ -113,7 +113,7 @@ pub record TakesByStatus (script : List ℕ) (left : Option (List ℕ)) (status 
 
 -- `run -` on a scratch file without a byte: a run of the script's items on a database of 4,096 extents of 4 pages without a table
 pub record RunsScratch (said : List ℕ) (script left new_tape : Option (List ℕ)) (status : ℕ) : Type 0 where
-  pub end_ : Result Served FileStop
+  pub end_ : Result Served Stop
   pub shape : Shape
   pub extents : shape.extents ≡ 4096
   pub extent_pages : shape.extent_pages ≡ 4
@@ -128,7 +128,7 @@ RefusesScratch said new_tape status =
     ⊎ (((status ≡ 3) ⊎ (status ≡ 8)) × (new_tape ≡ Some said))
 
 -- a stop that may come before anything of a script is taken
-abbrev pub IsStopBefore : FileStop → Type 0
+abbrev pub IsStopBefore : Stop → Type 0
 IsStopBefore Device = Unit {0}
 IsStopBefore Memory = Unit {0}
 IsStopBefore stop = ⊥

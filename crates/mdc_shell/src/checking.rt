@@ -23,7 +23,7 @@ use file_check::Verdict;
 use file_verdict::{Unjudged, judge_file};
 use mdc_outside::{Failed, Host};
 use mdc_values::Memory;
-use session::FileStop;
+use session::Stop;
 use std::alloc::Global;
 
 /// Judges the database in the file at the path, as it is at entry, and says the verdict: `SOUND`, or `BROKEN` with the first rule that is
@@ -138,14 +138,14 @@ fn line_of_verdict(
 }
 
 /// Why there is no verdict, as the stop of a run for the same cause.
-pub(crate) fn stop_of(why: Unjudged) -> FileStop
+pub(crate) fn stop_of(why: Unjudged) -> Stop
     ensures { result ≡ stop_of why }
 {
     match why {
-        Unjudged::Unmade => FileStop::Unmade,
-        Unjudged::NotMdc => FileStop::NotMdc,
-        Unjudged::Version(version) => FileStop::Version(version),
-        Unjudged::Device => FileStop::Device,
-        Unjudged::Memory => FileStop::Memory,
+        Unjudged::Unmade => Stop::Unmade,
+        Unjudged::NotMdc => Stop::NotMdc,
+        Unjudged::Version(version) => Stop::Version(version),
+        Unjudged::Device => Stop::Device,
+        Unjudged::Memory => Stop::Memory,
     }
 }

@@ -13,12 +13,12 @@ use crate::status::Status;
 use itoa::Buffer;
 use mdc_outside::{Failed, Host};
 use mdc_values::Memory;
-use session::{FileStop, Served};
+use session::{Served, Stop};
 use std::alloc::Global;
 use store_api::Damage;
 
 /// Ends a run. A stop that names the file is said in one call, and no other end makes a call.
-pub fn end_run<H: Host>(alloc: Global, end: Result<Served, FileStop>, host: H) -> Ended<H>
+pub fn end_run<H: Host>(alloc: Global, end: Result<Served, Stop>, host: H) -> Ended<H>
     ensures ends { SaysEnd (H.tape host) (H.tape result.host) result.status.0 end }
     ensures quiet { line_of_end end ≡ [] → (result.host ≡ host) × (result.status.0 ≡ status_of end) }
     ensures says { (line_of_end end ≡ [] → ⊥) → CountsFault (result.status.0 ≡ 5) (H.say_faults host) (H.say_faults result.host) }
@@ -56,7 +56,7 @@ pub(crate) fn say_line<H: Host>(host: H, line: &[u8], status: Status) -> Ended<H
 }
 
 // The line of an end, if it has one.
-fn line_of(alloc: Global, end: &Result<Served, FileStop>) -> Result<Option<Vec<u8>>, Memory>
+fn line_of(alloc: Global, end: &Result<Served, Stop>) -> Result<Option<Vec<u8>>, Memory>
     ensures line { IfOk result (λ line. MatchOption line (line_of_end end.now ≡ []) (λ line. line.items ≡ line_of_end end.now)) }
     ensures some { IfOk result (λ line. MatchOption line (Unit {0}) (λ _. line_of_end end.now ≡ [] → ⊥)) }
     ensures memory { OnErr result (line_of_end end.now ≡ [] → ⊥) }
@@ -68,21 +68,17 @@ fn line_of(alloc: Global, end: &Result<Served, FileStop>) -> Result<Option<Vec<u
 }
 
 /// The line of a stop, if it has one.
-pub(crate) fn line_of_stop(alloc: Global, stop: &FileStop) -> Result<Option<Vec<u8>>, Memory>
+pub(crate) fn line_of_stop(alloc: Global, stop: &Stop) -> Result<Option<Vec<u8>>, Memory>
     ensures line { IfOk result (λ line. MatchOption line (line_of_stop stop.now ≡ []) (λ line. line.items ≡ line_of_stop stop.now)) }
     ensures some { IfOk result (λ line. MatchOption line (Unit {0}) (λ _. line_of_stop stop.now ≡ [] → ⊥)) }
     ensures memory { OnErr result (line_of_stop stop.now ≡ [] → ⊥) }
 {
     match stop {
-        FileStop::Unmade => Ok(Some(Vec::from_slice(alloc, b"NOT MADE\n")?)),
-        FileStop::NotMdc => Ok(Some(Vec::from_slice(alloc, b"NOT MDC\n")?)),
-        FileStop::Version(version) => Ok(Some(version_line(alloc, *version)?)),
-        FileStop::Damaged(damage) => Ok(Some(damage_line(alloc, b"DAMAGED", damage)?)),
-        FileStop::Unread
-        | FileStop::TooLong
-        | FileStop::Unsaid
-        | FileStop::Device
-        | FileStop::Memory => Ok(None),
+        Stop::Unmade => Ok(Some(Vec::from_slice(alloc, b"NOT MADE\n")?)),
+        Stop::NotMdc => Ok(Some(Vec::from_slice(alloc, b"NOT MDC\n")?)),
+        Stop::Version(version) => Ok(Some(version_line(alloc, *version)?)),
+        Stop::Damaged(damage) => Ok(Some(damage_line(alloc, b"DAMAGED", damage)?)),
+        Stop::Unread | Stop::TooLong | Stop::Unsaid | Stop::Device | Stop::Memory => Ok(None),
     }
 }
 

@@ -7,10 +7,10 @@ ghost use Rattle.page_store.specs.Empty.{IsEmptyDatabase};
 ghost use Rattle.page_store.specs.Fresh.{HoldsFresh};
 ghost use Rattle.page_store.specs.Standing.{pages_in};
 ghost use Rattle.file_verdict.specs.SoundFile.{StatesExtents};
-ghost use Rattle.session.specs.declared.script.stop.Served.{Served};
+ghost use Rattle.session.specs.declared.script.served.Served.{Served};
 ghost use Rattle.session.specs.file.Serving.{RunsItems};
 ghost use Rattle.session.specs.file.Well.{AreWell, IsWell};
-ghost use Rattle.session.specs.declared.file.stop.FileStop.{FileStop};
+ghost use Rattle.session.specs.declared.stop.Stop.{Stop};
 ghost use Rattle.mdc_shell.specs.Run.{IsStopBefore, RunsScratch, StandsForNothing};
 ghost use Rattle.mdc_shell.specs.Status.{status_of};
 
@@ -19,9 +19,9 @@ use session::{goes_on_lists, made_database_is_sound, made_is_well};
 
 /// A stop before anything is taken of the script is a run of none of its items: on a file that is well, and on a scratch file.
 pub(crate) fn nothing_is_run()
-    ensures well { (file said : List ℕ) (script : Option (List ℕ)) (stop : FileStop) → IsStopBefore stop → (well : IsWell file)
+    ensures well { (file said : List ℕ) (script : Option (List ℕ)) (stop : Stop) → IsStopBefore stop → (well : IsWell file)
         → RunsItems well.shape (pages_in file) said script script (Some said) (Err stop) }
-    ensures scratch { (said : List ℕ) (script : Option (List ℕ)) (stop : FileStop) → IsStopBefore stop
+    ensures scratch { (said : List ℕ) (script : Option (List ℕ)) (stop : Stop) → IsStopBefore stop
         → RunsScratch said script script (Some said) (status_of (Err stop)) }
 {
     sound_pages_stand();
@@ -38,7 +38,7 @@ pub(crate) fn made_files_are_well()
 
 /// A run on a scratch file that was just made is one on a database without a table.
 pub(crate) fn scratch_runs()
-    ensures { (file : File) (shape : Shape) (said : List ℕ) (script left tape : Option (List ℕ)) (end_ : Result Served FileStop) → HoldsFresh 4096 4 file
+    ensures { (file : File) (shape : Shape) (said : List ℕ) (script left tape : Option (List ℕ)) (end_ : Result Served Stop) → HoldsFresh 4096 4 file
         → IsEmptyDatabase 4096 file.bytes → StatesExtents file.bytes shape → RunsItems shape (pages_in file.bytes) said script left tape end_
         → RunsScratch said script left tape (status_of end_) }
 {

@@ -7,7 +7,7 @@ use crate::checking::stop_of;
 use crate::create::Created;
 use file_check::Verdict;
 use file_verdict::Unjudged;
-use session::{FileStop, Served};
+use session::{Served, Stop};
 
 /// The status that the program ends with.
 #[derive(Clone, Copy, Debug, PartialEq, Eq)]
@@ -45,20 +45,19 @@ impl Status {
     pub const DAMAGED: Status = Status(9);
 
     /// The status of a script that was read to its end, with a refusal or without, or stopped.
-    pub fn of(end: &Result<Served, FileStop>) -> Status
+    pub fn of(end: &Result<Served, Stop>) -> Status
         ensures { result.0 ≡ status_of end.now }
     {
         match end {
             Ok(Served::AllDone) => Status::DONE,
             Ok(Served::SomeRefused) => Status::REFUSED,
-            Err(FileStop::Device) => Status::DISK_FAILED,
-            Err(FileStop::Unread) => Status::UNREAD,
-            Err(FileStop::Unsaid) => Status::UNSAID,
-            Err(FileStop::Unmade) | Err(FileStop::NotMdc) | Err(FileStop::Version(_)) =>
-                Status::FILE_REFUSED,
-            Err(FileStop::TooLong) => Status::TOO_LONG,
-            Err(FileStop::Memory) => Status::MEMORY,
-            Err(FileStop::Damaged(_)) => Status::DAMAGED,
+            Err(Stop::Device) => Status::DISK_FAILED,
+            Err(Stop::Unread) => Status::UNREAD,
+            Err(Stop::Unsaid) => Status::UNSAID,
+            Err(Stop::Unmade) | Err(Stop::NotMdc) | Err(Stop::Version(_)) => Status::FILE_REFUSED,
+            Err(Stop::TooLong) => Status::TOO_LONG,
+            Err(Stop::Memory) => Status::MEMORY,
+            Err(Stop::Damaged(_)) => Status::DAMAGED,
         }
     }
 

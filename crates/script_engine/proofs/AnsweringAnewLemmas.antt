@@ -9,6 +9,7 @@ use Rattle.statement_meaning.specs.Cause.{NotBuilt, refusal_of}
 use Rattle.mdc_ast.specs.Definitions.{Definitions}
 use Rattle.store_api.specs.Frame.{NoPage}
 use Rattle.store_api.specs.RunsOverPages.{RunsOverPages}
+use Rattle.store_api.specs.declared.fault.StoreFault.{StoreFault}
 use Rattle.store_api.specs.declared.pages.Pages.{Ghosts}
 use Rattle.extent_map.specs.Owners.{AreRightNotes}
 use Rattle.extent_map.specs.declared.kind.Kind.{Kind}
@@ -22,7 +23,6 @@ use Rattle.statement_meaning.specs.Built.{are_built}
 use Rattle.script_engine.specs.Ready.{DoNamesDiffer, IsReady}
 use Rattle.script_engine.specs.Roles.{role_of}
 use Rattle.script_engine.specs.Trying.{AnswersAnew, AnswersBySoundPages, AreReadAnew, IsRefusedFull, TriesStep, has_changed}
-use Rattle.script_engine.specs.declared.stop.EngineStop.{EngineStop}
 use Rattle.script_engine.specs.declared.tables.Tables.{Tables}
 use Rattle.script_engine.proofs.RetryingLemmas.{ready_read}
 use Rattle.script_engine.proofs.TryingLemmas.{executed_marked, ready_tried}
@@ -58,7 +58,7 @@ module _ {S : Type 0} (g : Ghosts S) (stmt : Stmt) (old mid new : S) (same : pag
   }
 
   -- the pages were read meanwhile
-  pub answers_along : (result : Result Outcome EngineStop) (before now : Tables) → (g.state mid).is_told ≡ (g.state old).is_told → AnswersBySoundPages g stmt result mid new before now
+  pub answers_along : (result : Result Outcome StoreFault) (before now : Tables) → (g.state mid).is_told ≡ (g.state old).is_told → AnswersBySoundPages g stmt result mid new before now
       → AnswersBySoundPages g stmt result old new before now
   answers_along (Ok outcome) before now told answers = λ is_told sound. answer_along before now outcome
       (answers (subst IsTrue (sym told) is_told) (subst (λ (pages : PageList). IsSoundDatabase before.shape pages) (sym same) sound))

@@ -14,12 +14,11 @@ use Rattle.table_trees.specs.ToldPages.{PageList}
 use Rattle.mdc_sound.specs.SoundDatabase.{IsSoundDatabase}
 use Rattle.stored_catalog.specs.StoredDefinitions.{BreaksTablePages, IsAnyTablePage}
 use Rattle.script_engine.specs.Breaking.{JudgesDamage, LoadsExactly, NamesExactly, OnlyReads}
-use Rattle.script_engine.specs.declared.stop.EngineStop.{EngineStop}
 use Rattle.script_engine.proofs.ReloadingLemmas.{no_damage}
 
 module _ {S : Type 0} (g : Ghosts S) where
   -- a stop that is passed on
-  pub exact_passed : {X Y : Type 0} (shape : Shape) (result : Result X EngineStop) (stop : EngineStop) (s : S) → IsErrAnd result (λ e. e ≡ stop) → NamesExactly {X = Y} g shape (Err stop) s → NamesExactly g shape result s
+  pub exact_passed : {X Y : Type 0} (shape : Shape) (result : Result X StoreFault) (stop : StoreFault) (s : S) → IsErrAnd result (λ e. e ≡ stop) → NamesExactly {X = Y} g shape (Err stop) s → NamesExactly g shape result s
   exact_passed shape (Ok x) stop s is exact damage r = absurd is
   exact_passed shape (Err e) stop s is exact damage r = exact damage (cc)
 
@@ -32,7 +31,7 @@ module _ {S : Type 0} (g : Ghosts S) where
   }
 
   -- the catalog wasn't read, and the pages were judged
-  pub load_judged : (shape : Shape) (old mid new : S) (met : Damage) (fault : StoreFault) (stop : EngineStop) → fault ≡ store.Damaged met → RunsOverPages g NoPage IsAnyTablePage (BreaksTablePages g old) old mid (Some fault)
+  pub load_judged : (shape : Shape) (old mid new : S) (met : Damage) (fault : StoreFault) (stop : StoreFault) → fault ≡ store.Damaged met → RunsOverPages g NoPage IsAnyTablePage (BreaksTablePages g old) old mid (Some fault)
       → (g.state mid).work ≡ (g.state old).work → JudgesDamage g shape stop mid new → LoadsExactly g shape (Err stop) old new
   load_judged shape old mid new met fault stop is_met runs same judges =
       let reads : OnlyReads g old mid = record { steady = runs.works.steady; work = same; marked = runs.works.marked } in
@@ -48,5 +47,4 @@ module _ {S : Type 0} (g : Ghosts S) where
         damaged = λ damage is. unsound;
         exact = λ damage is. judges.exact damage (cc) (λ told sound.
             unsound (subst IsTrue all.steady.is_told told) shape (subst (λ (pages : PageList). IsSoundDatabase shape pages) all.work sound));
-        output = λ is. judges.output (cc);
       }

@@ -15,6 +15,8 @@ use Rattle.store_api.specs.Calls.{RollsBack}
 use Rattle.store_api.specs.Moments.{OnlyBase}
 use Rattle.store_api.specs.Works.{Rests, Steady}
 use Rattle.store_api.specs.declared.fault.Damage.{Damage}
+use Rattle.store_api.specs.declared.fault.StoreFault.{StoreFault}
+use Rattle.store_api.specs.declared.fault.StoreFault.TheVariants.{Damaged, Device}
 use Rattle.store_api.specs.declared.pages.Pages.{Ghosts}
 use Rattle.store_api.specs.declared.shape.Shape.{Shape}
 use Rattle.store_api.proofs.WorksLemmas.{steady_rollback, steady_then}
@@ -32,8 +34,6 @@ use Rattle.script_engine.specs.Serving.{MayCall, held_by}
 use Rattle.script_engine.specs.Trying.{AnswersBySoundPages, Tries, TriesStep}
 use Rattle.script_engine.specs.Turns.{ComesUnready, Executes, LeavesOutside}
 use Rattle.script_engine.specs.declared.engine.Engine.{Engine}
-use Rattle.script_engine.specs.declared.stop.EngineStop.{EngineStop}
-use Rattle.script_engine.specs.declared.stop.EngineStop.TheVariants.{Damaged, Device, Output}
 use Rattle.script_engine.specs.declared.tables.Tables.{Tables}
 use Rattle.script_engine.proofs.AnsweringAnewLemmas.{answered_ready}
 use Rattle.script_engine.proofs.CatalogLemmas.{served_of}
@@ -54,22 +54,22 @@ module _ {S : Type 0} (g : Ghosts S) (stmt : Stmt) (first here : Engine S) (come
   set_here new settings pass = same_settings (settings ∙ comes.settings) (pass ∙ comes.pass)
 
   -- a stop, behind which the pages of the last commit are held where it is damage
-  module _ (stop : EngineStop) (new : Engine S) (steady : Steady g here.store new.store) (is_open : new.is_open ≡ here.is_open) where
+  module _ (stop : StoreFault) (new : Engine S) (steady : Steady g here.store new.store) (is_open : new.is_open ≡ here.is_open) where
     steady_new : Steady g first.store new.store
     steady_new = steady_then comes.steady steady
 
-    pub anew_stops : {X : Type 0} (result : Result Outcome EngineStop) → IsErrAnd result (λ e. e ≡ stop) → new.tables.shape ≡ here.tables.shape → new.tables.settings ≡ here.tables.settings
-        → CountsFault (IsErrOf {T = X} (Err stop) Device) (g.disk_faults here.store) (g.disk_faults new.store) → (IsErrOf {T = X} (Err stop) Output → ⊥)
+    pub anew_stops : {X : Type 0} (result : Result Outcome StoreFault) → IsErrAnd result (λ e. e ≡ stop) → new.tables.shape ≡ here.tables.shape → new.tables.settings ≡ here.tables.settings
+        → CountsFault (IsErrOf {T = X} (Err stop) Device) (g.disk_faults here.store) (g.disk_faults new.store)
         → NamesExactly {X = X} g here.tables.shape (Err stop) new.store → ((damage : Damage) → stop ≡ Damaged damage → (g.state new.store).marked ≡ None) → (g.state here.store).ended ≡ false
         → Executes g stmt result first new
-    anew_stops {X} result is shape settings device output exact unmarked going =
+    anew_stops {X} result is shape settings device exact unmarked going =
         executes_stop g {X = X} {Y = X} stmt result stop first new is (λ damage e ready. comes.unready ready)
         (subst (λ (of : Shape). NamesExactly {X = X} g of (Err stop) new.store) comes.shape exact)
         (λ damage e. record { base = steady_new.base; going = steady.ended ∙ going; unmarked = unmarked damage e; is_open = is_open ∙ comes.is_open })
         (λ ready. absurd (comes.unready ready)) (shape ∙ comes.shape) (settings ∙ comes.settings)
-        (outside_steady g {X = X} (Err stop) first new steady_new (counts_fault_then comes.still device) output)
+        (outside_steady g {X = X} (Err stop) first new steady_new (counts_fault_then comes.still device))
 
-    pub anew_stops_any : {X : Type 0} (result : Result Outcome EngineStop) → IsErrAnd result (λ e. e ≡ stop)
+    pub anew_stops_any : {X : Type 0} (result : Result Outcome StoreFault) → IsErrAnd result (λ e. e ≡ stop)
         → ((damage : Damage) → stop ≡ Damaged damage → ((g.state new.store).work ≡ (g.state here.store).base) × ((g.state new.store).marked ≡ None))
         → NamesExactly {X = X} g here.tables.shape (Err stop) new.store → IsGoingEngine g first → ExecutesOnAny g stmt result first new
     anew_stops_any {X} result is back exact going =
@@ -140,7 +140,7 @@ module _ {S : Type 0} (g : Ghosts S) (stmt : Stmt) (first here : Engine S) (come
           }) flag_is
           (record { closed = λ shut. steady_refused.base ∙ (sym work_back ∙ sym work); is_open = λ opened. steady_refused.base }) refl
           (shape ∙ reloads.shape) (set ∙ reloads.settings)
-          (outside_steady g (Ok outcome) first refused_engine steady_refused (counts_fault_then still_back device) (λ e. absurd (cc)))
+          (outside_steady g (Ok outcome) first refused_engine steady_refused (counts_fault_then still_back device))
 
       pub anew_refused_any : IsGoingEngine g first → (is_built_form stmt ≡ false → outcome ≡ said.Refused (refusal_of NotBuilt)) → ExecutesOnAny g stmt (Ok outcome) first refused_engine
       anew_refused_any going unbuilt =
@@ -155,7 +155,7 @@ module _ {S : Type 0} (g : Ghosts S) (stmt : Stmt) (first here : Engine S) (come
     -- they were judged, and the statement was tried on them
     module _ (mid : S) (now : Tables) (flag : Bool) where
       -- they aren't sound, or the execution stopped
-      module _ (result : Result Outcome EngineStop) (stop : EngineStop) (is : IsErrAnd result (λ e. e ≡ stop)) (tries : Tries g stmt (Err stop) back mid tables now)
+      module _ (result : Result Outcome StoreFault) (stop : StoreFault) (is : IsErrAnd result (λ e. e ≡ stop)) (tries : Tries g stmt (Err stop) back mid tables now)
           (exact : NamesExactly {X = Outcome} g tables.shape (Err stop) mid) where
         abbrev untried_engine : Engine S
         untried_engine = record here { store = mid; tables = now; served = flag }
@@ -165,7 +165,7 @@ module _ {S : Type 0} (g : Ghosts S) (stmt : Stmt) (first here : Engine S) (come
 
         pub anew_untried : (g.state here.store).ended ≡ false → Executes g stmt result first untried_engine
         anew_untried going =
-            anew_stops stop untried_engine (steady_then reloads.steady tries.steady) refl {X = Outcome} result is (tries.shape ∙ reloads.shape) (tries.settings ∙ reloads.settings) (counts_fault_then still_here tries.device) tries.output exact_here
+            anew_stops stop untried_engine (steady_then reloads.steady tries.steady) refl {X = Outcome} result is (tries.shape ∙ reloads.shape) (tries.settings ∙ reloads.settings) (counts_fault_then still_here tries.device) exact_here
             (λ damage e. (tries.back damage (ap Err e)).unmarked) going
 
         pub anew_untried_any : IsGoingEngine g first → ExecutesOnAny g stmt result first untried_engine
@@ -187,7 +187,7 @@ module _ {S : Type 0} (g : Ghosts S) (stmt : Stmt) (first here : Engine S) (come
         still_tried = tries.device.still (λ e. absurd (cc)) ∙ still_here
 
         -- page 0 couldn't be looked at
-        module _ (result : Result Outcome EngineStop) (stop : EngineStop) (is : IsErrAnd result (λ e. e ≡ stop)) (looked : S) (counts : CountsPages g (Err stop) mid looked) where
+        module _ (result : Result Outcome StoreFault) (stop : StoreFault) (is : IsErrAnd result (λ e. e ≡ stop)) (looked : S) (counts : CountsPages g (Err stop) mid looked) where
           abbrev unread_engine : Engine S
           unread_engine = record here { store = looked; tables = now; served = flag }
 
@@ -196,7 +196,7 @@ module _ {S : Type 0} (g : Ghosts S) (stmt : Stmt) (first here : Engine S) (come
 
           pub anew_unread : (g.state here.store).ended ≡ false → Executes g stmt result first unread_engine
           anew_unread going =
-              anew_stops stop unread_engine (steady_then steady_tried counts.reads.steady) refl {X = Bool} result is (tries.shape ∙ reloads.shape) (tries.settings ∙ reloads.settings) (counts_fault_then still_tried counts.device) counts.output whole_unread
+              anew_stops stop unread_engine (steady_then steady_tried counts.reads.steady) refl {X = Bool} result is (tries.shape ∙ reloads.shape) (tries.settings ∙ reloads.settings) (counts_fault_then still_tried counts.device) whole_unread
               (λ damage e. absurd (counts.whole damage (ap Err e))) going
 
           pub anew_unread_any : IsGoingEngine g first → ExecutesOnAny g stmt result first unread_engine
@@ -224,7 +224,7 @@ module _ {S : Type 0} (g : Ghosts S) (stmt : Stmt) (first here : Engine S) (come
 
           pub anew_miscounted : (g.state here.store).ended ≡ false → Executes g stmt (Err (Damaged met)) first again_engine
           anew_miscounted going =
-              anew_stops (Damaged met) again_engine steady_again refl {X = Bool} (Err (Damaged met)) refl (tries.shape ∙ reloads.shape) (tries.settings ∙ reloads.settings) still_again (λ e. absurd (cc)) whole_again (λ damage e. ap (λ s. s.marked) rolls) going
+              anew_stops (Damaged met) again_engine steady_again refl {X = Bool} (Err (Damaged met)) refl (tries.shape ∙ reloads.shape) (tries.settings ∙ reloads.settings) still_again whole_again (λ damage e. ap (λ s. s.marked) rolls) going
 
           pub anew_miscounted_any : IsGoingEngine g first → ExecutesOnAny g stmt (Err (Damaged met)) first again_engine
           anew_miscounted_any going =
@@ -251,13 +251,13 @@ module _ {S : Type 0} (g : Ghosts S) (stmt : Stmt) (first here : Engine S) (come
               (λ refusal e. absurd (not_refused outcome refusal done e)) tries.unbuilt)
 
           -- the commit stopped, and not at damage
-          pub anew_uncommitted : (result : Result Outcome EngineStop) (stop : EngineStop) → IsErrAnd result (λ e. e ≡ stop) → CommitsWork {X = Unit {0}} g (Err stop) mid store
+          pub anew_uncommitted : (result : Result Outcome StoreFault) (stop : StoreFault) → IsErrAnd result (λ e. e ≡ stop) → CommitsWork {X = Unit {0}} g (Err stop) mid store
               → (Rests g mid → Rests g store) → ((damage : Damage) → stop ≡ Damaged damage → ⊥) → Executes g stmt result first anew_engine
           anew_uncommitted result stop is commits rests whole =
               executes_stop g {X = Unit {0}} {Y = Unit {0}} stmt result stop first anew_engine is (λ damage e ready. comes.unready ready) (λ damage e. absurd (whole damage (cc))) (λ damage e. absurd (whole damage e)) (λ ready. absurd (comes.unready ready))
               (tries.shape ∙ (reloads.shape ∙ comes.shape)) (tries.settings ∙ (reloads.settings ∙ comes.settings)) (outside_then g (Err stop) first anew_engine mid steady_mid still_mid commits rests)
 
-          pub anew_uncommitted_any : (result : Result Outcome EngineStop) (stop : EngineStop) → IsErrAnd result (λ e. e ≡ stop) → CommitsWork {X = Unit {0}} g (Err stop) mid store
+          pub anew_uncommitted_any : (result : Result Outcome StoreFault) (stop : StoreFault) → IsErrAnd result (λ e. e ≡ stop) → CommitsWork {X = Unit {0}} g (Err stop) mid store
               → ((damage : Damage) → stop ≡ Damaged damage → ⊥) → IsGoingEngine g first → ExecutesOnAny g stmt result first anew_engine
           anew_uncommitted_any result stop is commits whole going =
               any_commit_stops g stmt first anew_engine mid steady_mid result stop is commits going.may.going

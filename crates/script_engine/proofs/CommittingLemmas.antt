@@ -13,6 +13,8 @@ use Rattle.store_api.specs.Moments.{OnlyBase}
 use Rattle.store_api.specs.StoreState.{page_at, stated_in}
 use Rattle.store_api.specs.declared.fault.Damage.{Damage}
 use Rattle.store_api.specs.declared.fault.PageFault.TheVariants as page
+use Rattle.store_api.specs.declared.fault.StoreFault.{StoreFault}
+use Rattle.store_api.specs.declared.fault.StoreFault.TheVariants.{Damaged, Device}
 use Rattle.store_api.specs.declared.pages.Pages.{Ghosts}
 use Rattle.store_api.specs.declared.shape.Shape.{Shape}
 use Rattle.store_api.proofs.FetchingLemmas.{once_fetch, only_none, only_once, only_then}
@@ -22,8 +24,6 @@ use Rattle.table_trees.specs.ToldPages.{PageList}
 use Rattle.mdc_sound.specs.SpaceRules.{IsRootSound}
 use Rattle.script_engine.specs.Breaking.{JudgesDamage, NamesExactly, OnlyReads}
 use Rattle.script_engine.specs.Committing.{CommitsWork, CountsPages, HasSoundRoot}
-use Rattle.script_engine.specs.declared.stop.EngineStop.{EngineStop}
-use Rattle.script_engine.specs.declared.stop.EngineStop.TheVariants.{Damaged, Device, Output}
 use Rattle.script_engine.proofs.BreakingLemmas.{reads_then}
 use Rattle.script_engine.proofs.RootLemmas.{some_page, states_count}
 
@@ -43,7 +43,6 @@ module _ {S : Type 0} (g : Ghosts S) where
     miscounted = λ is root. some_page root.shape (g.state s).work root.sound none;
     device = counts_fault_none (λ is. absurd (cc));
     whole = λ damage is. absurd (cc);
-    output = λ is. absurd (cc);
   }
 
   -- page 0 was read
@@ -71,7 +70,6 @@ module _ {S : Type 0} (g : Ghosts S) where
           differ (is_stated ∙ (ap stated_in (is_read root.told) ∙ (says ∙ sym is_count)));
       device = counts_fault_as (λ is. absurd (cc)) (λ is. absurd (cc)) disk;
       whole = λ damage is. absurd (cc);
-      output = λ is. absurd (cc);
     }
 
     -- it states how many pages there are
@@ -83,7 +81,6 @@ module _ {S : Type 0} (g : Ghosts S) where
       miscounted = λ of. absurd (cc);
       device = counts_fault_as (λ is. absurd (cc)) (λ is. absurd (cc)) disk;
       whole = λ damage is. absurd (cc);
-      output = λ is. absurd (cc);
     }
 
 -- ---- a commit
@@ -98,9 +95,9 @@ module _ {S : Type 0} (g : Ghosts S) where
   }
 
   -- pages were read alone, and a stop came
-  commits_none : (stop : EngineStop) (old new : S) → OnlyReads g old new → CountsFault (IsErrOf {T = Unit {0}} (Err stop) Device) (g.disk_faults old) (g.disk_faults new)
-      → ((damage : Damage) → stop ≡ Damaged damage → HasSoundRoot g old → ⊥) → (stop ≡ Output → ⊥) → CommitsWork {X = Unit {0}} g (Err stop) old new
-  commits_none stop old new reads device damaged output = record {
+  commits_none : (stop : StoreFault) (old new : S) → OnlyReads g old new → CountsFault (IsErrOf {T = Unit {0}} (Err stop) Device) (g.disk_faults old) (g.disk_faults new)
+      → ((damage : Damage) → stop ≡ Damaged damage → HasSoundRoot g old → ⊥) → CommitsWork {X = Unit {0}} g (Err stop) old new
+  commits_none stop old new reads device damaged = record {
     work = reads.work;
     brings = tt;
     base = tt;
@@ -115,21 +112,20 @@ module _ {S : Type 0} (g : Ghosts S) where
     say_faults = reads.steady.say_faults;
     damaged = λ damage is. damaged damage (cc);
     halts = λ damage is. reads;
-    output = λ is. output (cc);
     time = base_or_now-steady reads.steady;
   }
 
   -- the count couldn't be read
-  pub commits_unread : (result : Result (Unit {0}) EngineStop) (stop : EngineStop) (old new : S) → IsErrAnd result (λ e. e ≡ stop) → CountsPages g (Err stop) old new → CommitsWork g result old new
+  pub commits_unread : (result : Result (Unit {0}) StoreFault) (stop : StoreFault) (old new : S) → IsErrAnd result (λ e. e ≡ stop) → CountsPages g (Err stop) old new → CommitsWork g result old new
   commits_unread (Ok x) stop old new is counts = absurd is
-  commits_unread (Err e) stop old new is counts = subst (λ (x : EngineStop). CommitsWork {X = Unit {0}} g (Err x) old new) (sym is)
-      (commits_none stop old new counts.reads (counts_fault_as (λ r. cc) (λ r. cc) counts.device) (λ damage r. absurd (counts.whole damage (cc))) (λ r. counts.output (cc)))
+  commits_unread (Err e) stop old new is counts = subst (λ (x : StoreFault). CommitsWork {X = Unit {0}} g (Err x) old new) (sym is)
+      (commits_none stop old new counts.reads (counts_fault_as (λ r. cc) (λ r. cc) counts.device) (λ damage r. absurd (counts.whole damage (cc))))
 
   -- it wasn't that of the pages, and they were judged then
-  module _ (shape : Shape) (stop : EngineStop) (old mid new : S) (counts : CountsPages g (Ok false) old mid) (judges : JudgesDamage g shape stop mid new) where
+  module _ (shape : Shape) (stop : StoreFault) (old mid new : S) (counts : CountsPages g (Ok false) old mid) (judges : JudgesDamage g shape stop mid new) where
     pub commits_judged : CommitsWork {X = Unit {0}} g (Err stop) old new
     commits_judged = commits_none stop old new (reads_then g counts.reads judges.reads)
-        (counts_fault_as (λ is. cc) (λ is. cc) (counts_fault_then (counts.device.still (λ is. absurd (cc))) judges.device)) (λ damage is. counts.miscounted refl) (λ is. judges.output is)
+        (counts_fault_as (λ is. cc) (λ is. cc) (counts_fault_then (counts.device.still (λ is. absurd (cc))) judges.device)) (λ damage is. counts.miscounted refl)
 
     pub exact_judged : NamesExactly {X = Unit {0}} g shape (Err stop) new
     exact_judged damage is = judges.exact damage (cc) (λ told sound. counts.miscounted refl (record {
@@ -139,7 +135,7 @@ module _ {S : Type 0} (g : Ghosts S) where
     }))
 
   -- it was, and the pages were committed
-  pub commits_behind : (result : Result (Unit {0}) EngineStop) (old mid new : S) → CountsPages g (Ok true) old mid → CommitsWork g result mid new → CommitsWork g result old new
+  pub commits_behind : (result : Result (Unit {0}) StoreFault) (old mid new : S) → CountsPages g (Ok true) old mid → CommitsWork g result mid new → CommitsWork g result old new
   commits_behind result old mid new counts commits =
       let reads = counts.reads in
       let steady = reads.steady in
@@ -158,7 +154,6 @@ module _ {S : Type 0} (g : Ghosts S) where
         say_faults = commits.say_faults ∙ steady.say_faults;
         damaged = λ damage is root. commits.damaged damage is (root_along old mid reads root);
         halts = λ damage is. reads_then g reads (commits.halts damage is);
-        output = commits.output;
         time = over_time_then (over_time_wider steady.time (λ left told only. (inl only.0, only.1)))
             (over_time_wider commits.time (λ left told either. (
               elim either.0 [ inl base ↦ inl (base ∙ ap Some steady.base) | inr work ↦ inr work ],
@@ -166,15 +161,15 @@ module _ {S : Type 0} (g : Ghosts S) where
             )));
       }
     where
-      brings_both : (result : Result (Unit {0}) EngineStop) → BringsOnly g (OnlyPage 0) old mid → OnOk result (BringsOnly g (OnlyPage 0) mid new) → OnOk result (BringsOnly g (OnlyPage 0) old new)
+      brings_both : (result : Result (Unit {0}) StoreFault) → BringsOnly g (OnlyPage 0) old mid → OnOk result (BringsOnly g (OnlyPage 0) mid new) → OnOk result (BringsOnly g (OnlyPage 0) old new)
       brings_both (Ok x) first second = only_then first second
       brings_both (Err e) first second = tt
 
-      base_both : (result : Result (Unit {0}) EngineStop) → OnOk result ((g.state new).base ≡ (g.state mid).work) → OnOk result ((g.state new).base ≡ (g.state old).work)
+      base_both : (result : Result (Unit {0}) StoreFault) → OnOk result ((g.state new).base ≡ (g.state mid).work) → OnOk result ((g.state new).base ≡ (g.state old).work)
       base_both (Ok x) is = is ∙ counts.reads.work
       base_both (Err e) is = tt
 
-      kept_both : (result : Result (Unit {0}) EngineStop) → OnErr result ((IsErrOf result Device → ⊥) → (g.state new).base ≡ (g.state mid).base)
+      kept_both : (result : Result (Unit {0}) StoreFault) → OnErr result ((IsErrOf result Device → ⊥) → (g.state new).base ≡ (g.state mid).base)
           → OnErr result ((IsErrOf result Device → ⊥) → (g.state new).base ≡ (g.state old).base)
       kept_both (Ok x) kept = tt
       kept_both (Err e) kept = λ other. kept other ∙ counts.reads.steady.base

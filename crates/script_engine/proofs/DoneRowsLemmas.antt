@@ -37,9 +37,11 @@ use Rattle.block_rows.specs.HeldRows.{placed_row}
 use Rattle.block_rows.specs.declared.hit.Hit.{Hit}
 use Rattle.table_trees.specs.SpaceChanges.{SpaceChange}
 use Rattle.mdc_sound.specs.Placing.{Spot, block_slot_count}
-use Rattle.mdc_sound.specs.StandingTable.{RoomNote, StandsTable, TableForests, pages_of}
+use Rattle.mdc_sound.specs.BlockRules.{AreTableIndexesSound}
+use Rattle.mdc_sound.specs.StandingTable.{RoomNote, StandsTable, TableForests, pages_of, view_of}
 use Rattle.mdc_sound.specs.StandsForDatabase.{PagesStandFor, rootless}
 use Rattle.mdc_sound.specs.TableRows.{PlacedRow}
+use Rattle.cell_change.proofs.RowChangesLemmas.{indexes_here}
 use Rattle.row_groups.specs.Shape.{shape_of}
 use Rattle.answer_text.specs.Answering.{GivesLines}
 use Rattle.row_checks.specs.Executing.{answer_of, done}
@@ -47,7 +49,6 @@ use Rattle.row_checks.proofs.QueryLemmas.{query_refused, query_replies}
 use Rattle.statement_rows.specs.RowsAndSpace.{TakesRowsBy}
 use Rattle.statement_rows.specs.RowsOfStatement.{AnyPage, BreaksReady, ChangesRowsOf, HasTheseRows, IsReadyBetween, without_rows}
 use Rattle.table_query.specs.QueryAnswers.{AreQueryRows}
-use Rattle.table_scan.specs.FoundRows.{FindsRows}
 use Rattle.script_engine.specs.Doing.{DoesStatement, PlacesOnPages, PlacesRows, changed_place, goes_by_blocks}
 use Rattle.script_engine.specs.NotedRooms.{KeepsOtherRooms, rooms_at}
 use Rattle.script_engine.specs.Others.{KeepsOthers}
@@ -57,7 +58,7 @@ use Rattle.script_engine.proofs.KeptKeysLemmas.{KeepsKeys, keeps_fewer}
 use Rattle.script_engine.proofs.OthersLemmas.{keeps_others_itself, others_changed, touched_is}
 use Rattle.script_engine.proofs.PlainChangesLemmas.{qualifying_taken}
 use Rattle.script_engine.proofs.ReadyTablesLemmas.{change_ends_unwritten, page_is_written, places_shown, ready_between, served_def}
-use Rattle.script_engine.proofs.ScannedTablesLemmas.{HasHits, HasQueryRows, found_still, hits_of, qualifying, query_rows_of, ready_still, stands_ready, these_rows}
+use Rattle.script_engine.proofs.ScannedTablesLemmas.{FindsIfSound, HasHits, HasQueryRows, found_if_sound, hits_of, qualifying, query_rows_of, ready_still, stands_ready, these_rows}
 use Rattle.script_engine.proofs.StoredDefsLemmas.{stored_defs, stored_table}
 
 -- ---- a query
@@ -93,7 +94,8 @@ ends_so db select table def outcome at def_is none = absurd none
 -- a query answers what the plain database answers
 pub query_does : {S : Type 0} (g : Ghosts S) (old new : S) (tables : Tables) (select : BoundSelect) (def : TableDef) (outcome : Outcome) → AreServed tables.catalog
     → def_at tables.catalog select.table ≡ Some def → (g.state new).is_told ≡ (g.state old).is_told → (g.state new).work ≡ (g.state old).work
-    → ((owners : List Kind) (forests : TableForests) (rows : List Row) → StandsTable g tables.shape old def owners forests → AreQueryRows g tables.shape old def select.pred forests rows → IsAnswerFor def select rows outcome)
+    → ((owners : List Kind) (forests : TableForests) (rows : List Row) → StandsTable g tables.shape old def owners forests
+    → AreTableIndexesSound tables.shape (pages_of g old) (view_of def forests) → AreQueryRows g tables.shape old def select.pred forests rows → IsAnswerFor def select rows outcome)
     → IsReady g old tables → DoesStatement g old new tables tables (bound.Query select) outcome
 query_does g old new tables select def outcome served at told same answers ready =
     let st = stands_ready g old tables select.table def served ready at in record {
@@ -102,7 +104,7 @@ query_does g old new tables select def outcome served at told same answers ready
           let here = stored_table db tables.catalog select.table def (stored_defs tables.shape (pages_of g old) tables.catalog db ready.stored stands) at in
           let has : HasQueryRows g tables.shape old def st.forests db select.table select.pred =
           query_rows_of g tables.shape old def st.owners st.forests st.stands select.pred tables.catalog select.table db here.0 ready.stored at stands here.1 in
-          let end_ = ends_so db select has.table def outcome has.at has.def_is (answers st.owners st.forests (filter (λ row. qualifies select.pred row.values) has.table.rows) st.stands has.rows) in record {
+          let end_ = ends_so db select has.table def outcome has.at has.def_is (answers st.owners st.forests (filter (λ row. qualifies select.pred row.values) has.table.rows) st.stands st.indexes has.rows) in record {
             pages_are = subst (λ (e : Database × Answer). PagesStandFor tables.shape (pages_of g new) e.0) (sym end_) (subst (λ pages. PagesStandFor tables.shape pages db) (sym same) stands);
             answers = ap (λ (e : Database × Answer). e.1) end_;
           };
@@ -130,7 +132,7 @@ module _ {S : Type 0} (g : Ghosts S) (old mid new : S) (before now : Tables) (pl
 
   -- damage that is met in changing its rows
   pub runs_change : {Early : ℕ → Type 0} {Any : Damage → Type 0} {fault : Option StoreFault} (pred : Option Pred) (found : List Hit) (rows : List PlacedRow) → rows ≡ map placed_row found
-      → ((owners : List Kind) (forests : TableForests) → StandsTable g before.shape old def owners forests → FindsRows g before.shape old def pred found forests)
+      → FindsIfSound g before.shape old def pred found
       → RunsOverPages g NoPage Early Any old mid None → RunsOverPages g AnyPage AnyPage (BreaksReady g before.shape before.notes room mid def (HasTheseRows g before.shape mid def rows)) mid new fault
       → RunsOverPages g AnyPage AnyPage (BreaksDatabase g old before) old new fault
   runs_change pred found rows are finds scan change =
@@ -138,7 +140,8 @@ module _ {S : Type 0} (g : Ghosts S) (old mid new : S) (before now : Tables) (pl
       (λ damage breaks ready.
       let mid_ready = ready_mid ready in
       let st = mid_ready.between.ready.stands in
-      let hits_here = found_still g old mid told same before.shape def pred found mid_ready.owners mid_ready.forests finds st in
+      let hits_here = found_if_sound g old mid told same before.shape def pred found mid_ready.owners mid_ready.forests finds st
+      (indexes_here g before.shape mid def mid_ready.owners mid_ready.forests mid_ready.between.sound st) in
       breaks.broken mid_ready.owners mid_ready.forests mid_ready.between
       (subst (λ r. HasTheseRows g before.shape mid def r mid_ready.owners mid_ready.forests) (sym are)
       (these_rows g before.shape mid def mid_ready.owners mid_ready.forests st pred found hits_here mid_ready.between.sound)))
@@ -199,7 +202,7 @@ hits_taken db place def pred found has table is =
 pub delete_does : {S : Type 0} {room room_now : Entry → RoomNote} (g : Ghosts S) (old mid new : S) (before now : Tables) (place : ℕ) (def : TableDef) (pred : Option Pred) (found items : List Hit) (count : ℕ) → AreServed before.catalog
     → def_at before.catalog place ≡ Some def → rooms_at before.rooms place ≡ room → rooms_at now.rooms place ≡ room_now
     → (g.state mid).is_told ≡ (g.state old).is_told → (g.state mid).work ≡ (g.state old).work
-    → ((owners : List Kind) (forests : TableForests) → StandsTable g before.shape old def owners forests → FindsRows g before.shape old def pred found forests) → items ≡ found → count ≡ length found → goes_by_blocks before.settings.rollout pred def ≡ false
+    → FindsIfSound g before.shape old def pred found → items ≡ found → count ≡ length found → goes_by_blocks before.settings.rollout pred def ≡ false
     → ((owners : List Kind) (forests : TableForests) → IsReadyBetween g before.shape before.notes room mid def owners forests → HasTheseRows g before.shape mid def (map placed_row items) owners forests
     → ChangesRowsOf g before.shape before.notes now.notes room_now mid new def def owners forests (λ was space is. TakesRowsBy def was (map placed_row items) space is) (without_rows (map (λ hit. hit.row) items)))
     → now.catalog ≡ before.catalog → now.shape ≡ before.shape → KeepsOtherRooms before.rooms now.rooms place → IsReady g old before → DoesStatement g old new before now (bound.Delete place pred) (said.Done (reply.Deleted count))
@@ -208,7 +211,7 @@ delete_does {room_now = room_now} g old mid new before now place def pred found 
     let forests = mid_ready.forests in
     let owners = mid_ready.owners in
     let st = mid_ready.between.ready.stands in
-    let hits_here = found_still g old mid told same before.shape def pred found owners forests finds st in
+    let hits_here = found_if_sound g old mid told same before.shape def pred found owners forests finds st (indexes_here g before.shape mid def owners forests mid_ready.between.sound st) in
     let lie = these_rows g before.shape mid def owners forests st pred found hits_here mid_ready.between.sound in
     let changed : ChangesRowsOf g before.shape before.notes now.notes room_now mid new def def owners forests (λ was space is. TakesRowsBy def was (map placed_row found) space is) (without_rows (map (λ (hit : Hit). hit.row) found)) =
     subst (λ (l : List Hit). ChangesRowsOf g before.shape before.notes now.notes room_now mid new def def owners forests (λ was space is. TakesRowsBy def was (map placed_row l) space is) (without_rows (map (λ (hit : Hit). hit.row) l))) are

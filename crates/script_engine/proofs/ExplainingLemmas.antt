@@ -1,6 +1,6 @@
 -- What a plan finds on ready pages, and what is told of it.
-use Rattle.std.proofs.Common.{◌≡◌, ◌<◌, ℕ, List, Option, Some, Result, Ok, Err, ◌∙◌, sym, ap, subst, arith, length, map}
-use Rattle.std.specs.Prelude.{IfOk, filter}
+use Rattle.std.proofs.Common.{◌≡◌, ◌<◌, ℕ, List, Option, Some, ◌∙◌, sym, ap, subst, arith, length, map}
+use Rattle.std.specs.Prelude.{filter}
 use Rattle.std.proofs.lemmas.List.{length-map}
 use Rattle.std.proofs.lemmas.List.Sorted.{length_permutation}
 use Rattle.mdc_ast.specs.declared.bound.Bound.{Bound}
@@ -15,12 +15,8 @@ use Rattle.mdc_ast.specs.Database.{Database}
 use Rattle.mdc_ast.specs.Definitions.{def_at}
 use Rattle.mdc_ast.specs.TableLimits.{IsTableDef}
 use Rattle.mdc_ast.specs.Truth.{qualifies}
-use Rattle.store_api.specs.Frame.{NoPage}
-use Rattle.store_api.specs.RunsOverPages.{RunsOverPages}
-use Rattle.store_api.specs.declared.fault.StoreFault.{StoreFault}
 use Rattle.store_api.specs.declared.pages.Pages.{Ghosts}
 use Rattle.store_api.specs.declared.shape.Shape.{Shape}
-use Rattle.store_api.proofs.RunsOverPagesLemmas.{runs_wider}
 use Rattle.extent_map.specs.declared.kind.Kind.{Kind}
 use Rattle.block_rows.specs.HeldRows.{placed_row, qualifying}
 use Rattle.table_trees.specs.TableTrees.{map_place}
@@ -29,20 +25,19 @@ use Rattle.entry_tree.specs.Forest.{Forest}
 use Rattle.mdc_sound.specs.BlockRules.{AreTableIndexesSound}
 use Rattle.mdc_sound.specs.StandsForDatabase.{PagesStandFor}
 use Rattle.mdc_sound.proofs.StandsForLemmas.{one_tree_at}
-use Rattle.mdc_sound.specs.StandingTable.{BreaksTable, StandsTable, TableForests, pages_of, view_of}
+use Rattle.mdc_sound.specs.StandingTable.{StandsTable, TableForests, pages_of, view_of}
 use Rattle.mdc_sound.specs.TableRows.{PlacedRow, rows_in_table}
-use Rattle.plan_chooser.specs.declared.plan.Plan.{Plan}
+use Rattle.plan_chooser.specs.declared.word.PlanWord.{PlanWord}
 use Rattle.plan_chooser.specs.Rule.{plan_of}
+use Rattle.plan_chooser.specs.Words.{word_of}
 use Rattle.table_scan.specs.FoundRows.{FindsRows}
-use Rattle.executor.specs.Planned.{CountsPlanned, IsFoundPage}
+use Rattle.executor.specs.Planned.{CountsPlanned}
 use Rattle.executor.specs.declared.found.Found.{Found}
-use Rattle.statement_rows.specs.RowsOfStatement.{AnyPage}
-use Rattle.script_engine.specs.Explaining.{ExplainsOn, ExplainsRows, TellsPlan, plan_told}
-use Rattle.script_engine.specs.Ready.{AreServed, BreaksDatabase, IsReady}
+use Rattle.script_engine.specs.Explaining.{ExplainsOn, ExplainsRows, TellsPlan, plan_told, word_told}
+use Rattle.script_engine.specs.Ready.{AreServed, IsReady}
 use Rattle.script_engine.specs.declared.tables.Tables.{Tables}
-use Rattle.script_engine.proofs.ReadyKeysLemmas.{stands_with_keys}
 use Rattle.script_engine.proofs.RootlessPlansLemmas.{plan_rootless}
-use Rattle.script_engine.proofs.ScannedTablesLemmas.{HasQueryRows, query_rows_of, stands_ready}
+use Rattle.script_engine.proofs.ScannedTablesLemmas.{FindsIfSound, HasQueryRows, query_rows_of, stands_ready}
 use Rattle.script_engine.proofs.StoredDefsLemmas.{stored_defs, stored_table}
 
 -- a table has fewer dimensions and record indexes than a plan can name
@@ -52,37 +47,36 @@ few_dims def limits = omega (arith, limits.dims.few)
 pub few_indexes : (def : TableDef) → IsTableDef def.number def → length def.indexes < 256
 few_indexes def limits = omega (arith, limits.indexes.few)
 
-module _ {S : Type 0} (g : Ghosts S) (old : S) (tables : Tables) (place : ℕ) (def : TableDef) (served : AreServed tables.catalog) (at : def_at tables.catalog place ≡ Some def) where
-  -- finding rows by a plan meets damage where the pages weren't ready
-  pub runs_found : (new : S) (plan : Plan) {fault : Option StoreFault} → RunsOverPages g NoPage (IsFoundPage g tables.shape old def plan) (BreaksTable g tables.shape old def) old new fault
-      → RunsOverPages g NoPage AnyPage (BreaksDatabase g old tables) old new fault
-  runs_found new plan run =
-      runs_wider run (λ p there none. none) (λ p of. tt) (λ damage breaks ready. let st = stands_with_keys g old tables place def served ready at in breaks.broken st.owners st.forests st.stands)
-
 module _ {S : Type 0} (g : Ghosts S) (shape : Shape) (s : S) (def : TableDef) (pred : Option Pred) (owners : List Kind) (forests : TableForests) (st : StandsTable g shape s def owners forests) where
-  -- what is said of what a plan found tells the plan
-  pub tells_plan : (mode : PlanMode) (plan : Plan) (found : Found) (outcome : Outcome) → plan ≡ plan_of def mode pred → FindsRows g shape s def pred found.hits.items forests
-      → CountsPlanned g shape s def plan forests found.blocks → outcome ≡ plan_told plan found.blocks (length found.hits.items) → TellsPlan shape (pages_of g s) def mode pred outcome
-  tells_plan mode plan found outcome chosen rows counts is =
+  -- what is said of what was found by the plan tells the plan
+  pub tells_plan : (mode : PlanMode) (word : PlanWord) (found : Found) (outcome : Outcome) → word ≡ word_of (plan_of def mode pred) → FindsRows g shape s def pred found.hits.items forests
+      → CountsPlanned g shape s def (plan_of def mode pred) forests found.blocks → outcome ≡ word_told word found.blocks (length found.hits.items) → TellsPlan shape (pages_of g s) def mode pred outcome
+  tells_plan mode word found outcome chosen rows counts is =
       let long = length_permutation (qualifying pred (rows_in_table shape (pages_of g s) def forests.map)) (map placed_row found.hits.items) rows.found in record {
         map_tree = forests.map;
         has_map = tree_of_told g s st.told (map_place def) forests.map st.trees.held.0;
         blocks = found.blocks;
-        counted = subst (λ (p : Plan). CountsPlanned g shape s def p forests found.blocks) chosen counts;
-        tells = is ∙ (ap (plan_told plan found.blocks) (sym (length-map found.hits.items placed_row) ∙ long)
-            ∙ ap (λ p. plan_told p found.blocks (length (qualifying pred (rows_in_table shape (pages_of g s) def forests.map)))) chosen);
+        counted = counts;
+        tells = is ∙ (ap (word_told word found.blocks) (sym (length-map found.hits.items placed_row) ∙ long)
+            ∙ ap (λ w. word_told w found.blocks (length (qualifying pred (rows_in_table shape (pages_of g s) def forests.map)))) chosen);
       }
 
 -- ---- ready pages
 
 module _ {S : Type 0} (g : Ghosts S) (s : S) (tables : Tables) (served : AreServed tables.catalog) where
-  -- what is said of a table that stands is what is said of the query's
-  pub explains_found : (select : BoundSelect) (def : TableDef) (result : Result Outcome StoreFault) → def_at tables.catalog select.table ≡ Some def
-      → IfOk result (λ outcome. (owners : List Kind) (forests : TableForests) → StandsTable g tables.shape s def owners forests → AreTableIndexesSound tables.shape (pages_of g s) (view_of def forests)
-      → TellsPlan tables.shape (pages_of g s) def tables.settings.plan select.pred outcome)
-      → IfOk result (λ outcome. IsReady g s tables → ExplainsOn tables.shape (pages_of g s) tables.catalog tables.settings.plan (bound.Explain select) outcome)
-  explains_found select def (Ok outcome) at tells = λ ready. let st = stands_with_keys g s tables select.table def served ready at in (def, at, tells st.owners st.forests st.stands st.indexes)
-  explains_found select def (Err fault) at tells = tt
+  -- what is said of what was found is what is said of the query's table
+  pub explains_found : (select : BoundSelect) (def : TableDef) (word : PlanWord) (found : Found) (outcome : Outcome) → def_at tables.catalog select.table ≡ Some def
+      → word ≡ word_of (plan_of def tables.settings.plan select.pred) → FindsIfSound g tables.shape s def select.pred found.hits.items
+      → ((owners : List Kind) (forests : TableForests) → StandsTable g tables.shape s def owners forests → AreTableIndexesSound tables.shape (pages_of g s) (view_of def forests)
+      → CountsPlanned g tables.shape s def (plan_of def tables.settings.plan select.pred) forests found.blocks)
+      → outcome ≡ word_told word found.blocks (length found.hits.items) → IsReady g s tables → ExplainsOn tables.shape (pages_of g s) tables.catalog tables.settings.plan (bound.Explain select) outcome
+  explains_found select def word found outcome at chosen finds counts is ready =
+      let st = stands_ready g s tables select.table def served ready at in (
+        def,
+        at,
+        tells_plan g tables.shape s def select.pred st.owners st.forests st.stands tables.settings.plan word found outcome chosen (finds st.owners st.forests st.stands st.indexes)
+            (counts st.owners st.forests st.stands st.indexes) is,
+      )
 
   -- the rows of the plain table are those on the pages, whichever database they stand for
   rows_told : (select : BoundSelect) (outcome : Outcome) (def : TableDef) → IsReady g s tables → def_at tables.catalog select.table ≡ Some def

@@ -4,6 +4,7 @@ use Rattle.mdc_words.specs.Time.{OverTime, ReachesBack, RestsAt}
 use Rattle.mdc_words.proofs.TimeLemmas.{over_time_then, over_time_wider, rests_at_over_time}
 use Rattle.mdc_ast.specs.declared.statement.Stmt.{Stmt}
 use Rattle.store_api.specs.Works.{Rests, Steady}
+use Rattle.store_api.specs.declared.fault.StoreFault.{StoreFault}
 use Rattle.store_api.specs.declared.pages.Pages.{Ghosts}
 use Rattle.store_api.proofs.WorksLemmas.{only_base_at_rest, steady_none}
 use Rattle.script_engine.specs.Committing.{CommitsWork}
@@ -11,7 +12,6 @@ use Rattle.script_engine.specs.Leaving.{LeftWithin, MayBeLeft}
 use Rattle.script_engine.specs.Serving.{held_by}
 use Rattle.script_engine.specs.Turns.{LeavesCommitted}
 use Rattle.script_engine.specs.declared.engine.Engine.{Engine}
-use Rattle.script_engine.specs.declared.stop.EngineStop.{EngineStop}
 
 module _ {S : Type 0} (g : Ghosts S) where
   -- of a run without a commit
@@ -26,7 +26,7 @@ module _ {S : Type 0} (g : Ghosts S) where
   leaves_still stmt old new same = leaves_steady stmt old new (subst (Steady g old.store) (sym same) steady_none)
 
   -- of a commit behind such a run
-  pub leaves_then : {X : Type 0} (result : Result X EngineStop) (stmt : Stmt) (old new : Engine S) (mid : S) → Steady g old.store mid → CommitsWork g result mid new.store
+  pub leaves_then : {X : Type 0} (result : Result X StoreFault) (stmt : Stmt) (old new : Engine S) (mid : S) → Steady g old.store mid → CommitsWork g result mid new.store
       → MayBeLeft old.tables.shape (held_by g old) stmt (g.state mid).work → LeavesCommitted g stmt old new
   leaves_then result stmt old new mid steady commits made = record {
     time = over_time_then (over_time_wider steady.time (λ left told only. (((g.state old.store).base, only.0, MayBeLeft.before refl), only.1)))

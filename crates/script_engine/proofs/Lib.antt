@@ -12,7 +12,7 @@ pub mod ExecutingLemmas
 pub mod ExplainLemmas
 pub mod ExplainingLemmas
 pub mod FetchesForListingLemmas
-pub mod FetchesForQueryLemmas
+pub mod FetchesForStatementLemmas
 pub mod FullBeyondLemmas
 pub mod FullStepsLemmas
 pub mod GivenBackLemmas

@@ -15,6 +15,8 @@ use Rattle.statement_meaning.specs.Cause.{NotBuilt, refusal_of}
 use Rattle.statement_meaning.specs.Session.{is_refusal}
 use Rattle.store_api.specs.Works.{Steady}
 use Rattle.store_api.specs.declared.fault.Damage.{Damage}
+use Rattle.store_api.specs.declared.fault.StoreFault.{StoreFault}
+use Rattle.store_api.specs.declared.fault.StoreFault.TheVariants.{Damaged}
 use Rattle.store_api.specs.declared.pages.Pages.{Ghosts}
 use Rattle.store_api.proofs.WorksLemmas.{steady_none}
 use Rattle.table_trees.specs.ToldPages.{PageList}
@@ -31,8 +33,6 @@ use Rattle.script_engine.specs.Serving.{held_by}
 use Rattle.script_engine.specs.Trying.{Tries, TriesStep}
 use Rattle.script_engine.specs.Turns.{Executes}
 use Rattle.script_engine.specs.declared.engine.Engine.{Engine}
-use Rattle.script_engine.specs.declared.stop.EngineStop.{EngineStop}
-use Rattle.script_engine.specs.declared.stop.EngineStop.TheVariants.{Damaged}
 use Rattle.script_engine.specs.declared.tables.Tables.{Tables}
 use Rattle.script_engine.proofs.TurnsLemmas.{KeepsSettings, held_left, tried_reading, same_held, same_settings}
 
@@ -135,11 +135,11 @@ module _ {S : Type 0} (g : Ghosts S) where
     }
 
     -- a stop that is passed on
-    any_as : (result : Result Outcome EngineStop) (stop : EngineStop) (old new : Engine S) → IsErrAnd result (λ e. e ≡ stop) → ExecutesOnAny g stmt (Err stop) old new → ExecutesOnAny g stmt result old new
+    any_as : (result : Result Outcome StoreFault) (stop : StoreFault) (old new : Engine S) → IsErrAnd result (λ e. e ≡ stop) → ExecutesOnAny g stmt (Err stop) old new → ExecutesOnAny g stmt result old new
     any_as (Ok outcome) stop old new is any = absurd is
-    any_as (Err e) stop old new is any = subst (λ (x : EngineStop). ExecutesOnAny g stmt (Err x) old new) (sym is) any
+    any_as (Err e) stop old new is any = subst (λ (x : StoreFault). ExecutesOnAny g stmt (Err x) old new) (sym is) any
 
-    pub any_halts : (result : Result Outcome EngineStop) (stop : EngineStop) (old new : Engine S) → IsErrAnd result (λ e. e ≡ stop) → Steady g old.store new.store → (g.state old.store).ended ≡ false
+    pub any_halts : (result : Result Outcome StoreFault) (stop : StoreFault) (old new : Engine S) → IsErrAnd result (λ e. e ≡ stop) → Steady g old.store new.store → (g.state old.store).ended ≡ false
         → (is_control (role_of stmt) ≡ false → are_built old.tables.catalog ≡ true) → ((damage : Damage) → stop ≡ Damaged damage → StopsAtDamage g stmt old new damage) → ExecutesOnAny g stmt result old new
     any_halts result stop old new is steady going built damage = any_as result stop old new is (record {
       steps = tt;
@@ -171,7 +171,7 @@ module _ {S : Type 0} (g : Ghosts S) where
         damage = λ damage e. absurd (cc);
       }
 
-      pub any_commit_stops : (result : Result Outcome EngineStop) (stop : EngineStop) → IsErrAnd result (λ e. e ≡ stop) → CommitsWork {X = Unit {0}} g (Err stop) mid new.store → (g.state old.store).ended ≡ false
+      pub any_commit_stops : (result : Result Outcome StoreFault) (stop : StoreFault) → IsErrAnd result (λ e. e ≡ stop) → CommitsWork {X = Unit {0}} g (Err stop) mid new.store → (g.state old.store).ended ≡ false
           → MayBeLeftOnAny (held_by g old) stmt (g.state mid).work → (is_control (role_of stmt) ≡ false → are_built old.tables.catalog ≡ true)
           → ((damage : Damage) → stop ≡ Damaged damage → StopsAtDamage g stmt old new damage) → ExecutesOnAny g stmt result old new
       any_commit_stops result stop is commits going made built damage = any_as result stop old new is (record {
@@ -260,7 +260,7 @@ module _ {S : Type 0} (g : Ghosts S) where
       (λ reply e. same_held (record (held_by g old) { open_ = false; base = (g.state old.store).work }) (held_by g new) commits.base commits.work refl refl (same_settings refl refl))
       (λ refusal e. absurd (cc)) (λ e. absurd (cc)))
 
-  pub commit_stops_any : (result : Result Outcome EngineStop) (stop : EngineStop) (old : Engine S) (store : S) → old.is_open ≡ true → IsErrAnd result (λ e. e ≡ stop)
+  pub commit_stops_any : (result : Result Outcome StoreFault) (stop : StoreFault) (old : Engine S) (store : S) → old.is_open ≡ true → IsErrAnd result (λ e. e ≡ stop)
       → CommitsWork {X = Unit {0}} g (Err stop) old.store store → NamesExactly {X = Unit {0}} g old.tables.shape (Err stop) store → IsGoingEngine g old
       → ExecutesOnAny g statement.Commit result old (record old { store = store })
   commit_stops_any result stop old store is_open is commits exact going =
@@ -282,7 +282,7 @@ module _ {S : Type 0} (g : Ghosts S) where
       })
       (λ refusal e. absurd (cc)) (λ e. absurd (cc)))
 
-  pub roll_back_stops_any : (result : Result Outcome EngineStop) (stop : EngineStop) (old : Engine S) (store : S) (tables : Tables) → IsErrAnd result (λ e. e ≡ stop)
+  pub roll_back_stops_any : (result : Result Outcome StoreFault) (stop : StoreFault) (old : Engine S) (store : S) (tables : Tables) → IsErrAnd result (λ e. e ≡ stop)
       → Reloads g (Err stop) old.store store old.tables tables → NamesExactly {X = Bool} g old.tables.shape (Err stop) store → IsGoingEngine g old
       → ExecutesOnAny g statement.Rollback result old (record old { store = store; tables = tables })
   roll_back_stops_any result stop old store tables is reloads exact going =
@@ -298,7 +298,7 @@ module _ {S : Type 0} (g : Ghosts S) where
     forms_built is = sym going.by_forms ∙ served
 
     -- the execution stopped
-    pub untried_any : (result : Result Outcome EngineStop) (stop : EngineStop) (store : S) (tables : Tables) → IsErrAnd result (λ e. e ≡ stop)
+    pub untried_any : (result : Result Outcome StoreFault) (stop : StoreFault) (store : S) (tables : Tables) → IsErrAnd result (λ e. e ≡ stop)
         → Tries g stmt (Err stop) old.store store old.tables tables → NamesExactly {X = Outcome} g old.tables.shape (Err stop) store
         → ExecutesOnAny g stmt result old (record old { store = store; tables = tables })
     untried_any result stop store tables is tries exact =
@@ -334,14 +334,14 @@ module _ {S : Type 0} (g : Ghosts S) where
             (λ refusal e. absurd (not_refused outcome refusal done e)) tries.unbuilt)
 
         -- the commit stopped, and not at damage
-        pub change_stops_any : (result : Result Outcome EngineStop) (stop : EngineStop) → IsErrAnd result (λ e. e ≡ stop) → CommitsWork {X = Unit {0}} g (Err stop) mid store
+        pub change_stops_any : (result : Result Outcome StoreFault) (stop : StoreFault) → IsErrAnd result (λ e. e ≡ stop) → CommitsWork {X = Unit {0}} g (Err stop) mid store
             → ((damage : Damage) → stop ≡ Damaged damage → ⊥) → ExecutesOnAny g stmt result old (record old { store = store; tables = tables })
         change_stops_any result stop is commits whole =
             any_commit_stops stmt old new mid tries.steady result stop is commits going.may.going
             (made_on_any (held_by g old) old.store mid old.tables tables stmt outcome other changing done shut tries) forms_built (λ damage e. absurd (whole damage e))
 
   -- a statement that reads alone was tried
-  pub read_any : (result : Result Outcome EngineStop) (old : Engine S) (store : S) (tables : Tables) (stmt : Stmt) → only_reads (role_of stmt) ≡ true → old.served ≡ true
+  pub read_any : (result : Result Outcome StoreFault) (old : Engine S) (store : S) (tables : Tables) (stmt : Stmt) → only_reads (role_of stmt) ≡ true → old.served ≡ true
       → TriesStep g stmt result old.store store old.tables tables → NamesExactly g old.tables.shape result store → Executes g stmt result old (record old { store = store; tables = tables })
       → IsGoingEngine g old → ExecutesOnAny g stmt result old (record old { store = store; tables = tables })
   read_any (Ok outcome) old store tables stmt reads served tried exact does going = kept_any old stmt going served (tried_reading (role_of stmt) reads) store tables outcome tried.tries does

@@ -8,6 +8,7 @@ use Rattle.store_api.specs.RunsOverPages.{RunsOverPages}
 use Rattle.store_api.specs.Works.{Rests}
 use Rattle.store_api.specs.declared.fault.Damage.{Damage}
 use Rattle.store_api.specs.declared.fault.StoreFault.{StoreFault}
+use Rattle.store_api.specs.declared.fault.StoreFault.TheVariants.{Damaged}
 use Rattle.store_api.specs.declared.pages.Pages.{Ghosts}
 use Rattle.store_api.specs.declared.shape.Shape.{Shape}
 use Rattle.store_api.proofs.WorksLemmas.{rests_steady}
@@ -22,18 +23,13 @@ use Rattle.script_engine.specs.NotedRooms.{AreForgotten}
 use Rattle.script_engine.specs.OnAnyPages.{IsGoingEngine}
 use Rattle.script_engine.specs.Opening.{IsSoundStore, KeepsPages}
 use Rattle.statement_meaning.specs.Built.{are_built}
-use Rattle.statement_meaning.specs.Session.{first_settings}
 use Rattle.statement_meaning.specs.declared.pass.Pass.TheVariants.{Idle}
 use Rattle.script_engine.specs.Serving.{IsReadyEngine, MayCall}
-use Rattle.script_engine.specs.Stops.{stop_of}
 use Rattle.script_engine.specs.Ready.{DoNamesDiffer}
 use Rattle.script_engine.specs.declared.engine.Engine.{Engine}
-use Rattle.script_engine.specs.declared.stop.EngineStop.{EngineStop}
-use Rattle.script_engine.specs.declared.stop.EngineStop.TheVariants.{Damaged}
 use Rattle.script_engine.proofs.CatalogLemmas.{one_catalog, served_of}
 use Rattle.script_engine.proofs.ReadyTablesLemmas.{ready_of_sound}
 use Rattle.script_engine.proofs.ReloadingLemmas.{no_damage}
-use Rattle.script_engine.proofs.TryingLemmas.{stop_names}
 
 module _ {S : Type 0} (g : Ghosts S) where
   -- a run that only reads
@@ -49,7 +45,7 @@ module _ {S : Type 0} (g : Ghosts S) where
   }
 
   -- exact damage of pages that were only read
-  pub exact_read : {X : Type 0} (shape : Shape) (result : Result X EngineStop) (old new : S) → OnlyReads g old new → NamesExactly g shape result new
+  pub exact_read : {X : Type 0} (shape : Shape) (result : Result X StoreFault) (old new : S) → OnlyReads g old new → NamesExactly g shape result new
       → (damage : Damage) → result ≡ Err (Damaged damage) → IsTrue (g.state old).is_told → IsFirstBreak shape (g.state old).work damage.rule damage.page
   exact_read shape result old new reads exact damage is told =
       subst (λ (pages : PageList). IsFirstBreak shape pages damage.rule damage.page) reads.work (exact damage is (subst IsTrue (sym reads.steady.is_told) told))
@@ -107,11 +103,11 @@ module _ {S : Type 0} (g : Ghosts S) where
         }
 
   -- the catalog couldn't be read: what is named as damage is what the reading names
-  pub unopened_breaks : (fault : StoreFault) (stop : EngineStop) (old new : S) → stop ≡ stop_of fault → RunsOverPages g NoPage IsAnyTablePage (BreaksTablePages g old) old new (Some fault)
+  pub unopened_breaks : (fault stop : StoreFault) (old new : S) → stop ≡ fault → RunsOverPages g NoPage IsAnyTablePage (BreaksTablePages g old) old new (Some fault)
       → (damage : Damage) → stop ≡ Damaged damage → BreaksTablePages g old damage
-  unopened_breaks fault stop old new is runs damage r = runs.cause.damaged damage (ap Some (stop_names fault damage (sym is ∙ r)))
+  unopened_breaks fault stop old new is runs damage r = runs.cause.damaged damage (ap Some (sym is ∙ r))
 
   -- which sound pages don't have
-  pub unopened_names : (shape : Shape) (fault : StoreFault) (stop : EngineStop) (old new : S) → stop ≡ stop_of fault → RunsOverPages g NoPage IsAnyTablePage (BreaksTablePages g old) old new (Some fault)
+  pub unopened_names : (shape : Shape) (fault stop : StoreFault) (old new : S) → stop ≡ fault → RunsOverPages g NoPage IsAnyTablePage (BreaksTablePages g old) old new (Some fault)
       → (damage : Damage) → stop ≡ Damaged damage → IsTrue (g.state old).is_told → IsSoundDatabase shape (g.state old).work → ⊥
   unopened_names shape fault stop old new is runs damage r told sound = no_damage g old shape damage told sound (unopened_breaks fault stop old new is runs damage r)

@@ -7,6 +7,8 @@ use Rattle.store_api.specs.Calls.{RollsBack}
 use Rattle.store_api.specs.Moments.{OnlyBase}
 use Rattle.store_api.specs.Works.{Steady}
 use Rattle.store_api.specs.declared.fault.Damage.{Damage}
+use Rattle.store_api.specs.declared.fault.StoreFault.{StoreFault}
+use Rattle.store_api.specs.declared.fault.StoreFault.TheVariants.{Damaged}
 use Rattle.store_api.specs.declared.pages.Pages.{Ghosts}
 use Rattle.store_api.proofs.WorksLemmas.{steady_rollback, steady_then}
 use Rattle.extent_map.specs.Owners.{AreRightNotes}
@@ -20,8 +22,6 @@ use Rattle.script_engine.specs.Breaking.{LoadsExactly}
 use Rattle.script_engine.specs.NotedRooms.{AreForgotten}
 use Rattle.statement_meaning.specs.Built.{are_built}
 use Rattle.script_engine.specs.Reloading.{Reloads}
-use Rattle.script_engine.specs.declared.stop.EngineStop.{EngineStop}
-use Rattle.script_engine.specs.declared.stop.EngineStop.TheVariants.{Damaged}
 use Rattle.script_engine.specs.declared.tables.Tables.{Tables}
 use Rattle.script_engine.proofs.CatalogLemmas.{no_broken_pages}
 
@@ -39,16 +39,16 @@ module _ {S : Type 0} (g : Ghosts S) where
     base_again = ap (λ s. s.work) rolls
 
     -- sound pages name no damage
-    pub reload_unbroken : {X : Type 0} (shape : Shape) (result : Result X EngineStop) (stop : EngineStop) → IsErrAnd result (λ e. e ≡ stop) → LoadsExactly g shape (Err stop) back new
+    pub reload_unbroken : {X : Type 0} (shape : Shape) (result : Result X StoreFault) (stop : StoreFault) → IsErrAnd result (λ e. e ≡ stop) → LoadsExactly g shape (Err stop) back new
         → (damage : Damage) → result ≡ Err (Damaged damage) → IsTrue (g.state old).is_told → IsSoundDatabase before.shape (g.state old).base → ⊥
     reload_unbroken shape (Ok x) stop is loads damage r told sound = absurd is
     reload_unbroken shape (Err e) stop is loads damage r told sound =
         loads.damaged damage (cc) (subst IsTrue (sym went_back.is_told) told) before.shape (subst (λ (pages : PageList). IsSoundDatabase before.shape pages) (sym base_again) sound)
 
     -- the catalog couldn't be read
-    pub reload_stops : (shape : Shape) (result : Result Bool EngineStop) (stop : EngineStop) → IsErrAnd result (λ e. e ≡ stop) → LoadsExactly g shape (Err stop) back new → Reloads g result old new before now
+    pub reload_stops : (shape : Shape) (result : Result Bool StoreFault) (stop : StoreFault) → IsErrAnd result (λ e. e ≡ stop) → LoadsExactly g shape (Err stop) back new → Reloads g result old new before now
     reload_stops shape (Ok served) stop is loads = absurd is
-    reload_stops shape (Err e) stop is loads = subst (λ (x : EngineStop). Reloads g (Err x) old new before now) (sym is) (record {
+    reload_stops shape (Err e) stop is loads = subst (λ (x : StoreFault). Reloads g (Err x) old new before now) (sym is) (record {
       steady = steady_then went_back loads.reads.steady;
       work = loads.reads.work ∙ base_again;
       unmarked = loads.reads.marked ∙ ap (λ s. s.marked) rolls;
@@ -61,7 +61,6 @@ module _ {S : Type 0} (g : Ghosts S) where
       names = tt;
       built = tt;
       device = counts_fault_as (λ r. cc) (λ r. cc) (counts_fault_then count loads.device);
-      output = λ r. loads.output (cc);
     })
 
     -- it was read
@@ -79,5 +78,4 @@ module _ {S : Type 0} (g : Ghosts S) where
       names = loads.names;
       built = built;
       device = counts_fault_as (λ r. absurd (cc)) (λ r. absurd (cc)) (counts_fault_then count loads.device);
-      output = λ r. absurd (cc);
     }

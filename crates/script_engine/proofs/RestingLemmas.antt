@@ -36,7 +36,6 @@ settles_still g engine may = record {
   committed = λ damage is. absurd (cc);
   shape = refl;
   device = counts_fault_none (λ is. absurd (cc));
-  output = λ is. absurd (cc);
   say_faults = refl;
   is_told = refl;
   told = refl;

@@ -13,6 +13,7 @@ use Rattle.store_api.specs.RunsOverPages.{RunsOverPages}
 use Rattle.store_api.specs.Works.{Steady}
 use Rattle.store_api.specs.declared.fault.Damage.{Damage}
 use Rattle.store_api.specs.declared.fault.StoreFault.{StoreFault}
+use Rattle.store_api.specs.declared.fault.StoreFault.TheVariants.{Damaged, Device}
 use Rattle.store_api.specs.declared.pages.Pages.{Ghosts}
 use Rattle.store_api.specs.declared.shape.Shape.{Shape}
 use Rattle.store_api.proofs.WorksLemmas.{steady_then}
@@ -23,15 +24,12 @@ use Rattle.mdc_sound.specs.SoundDatabase.{IsSoundDatabase, KeepAllRules}
 use Rattle.mdc_sound.specs.StandingTable.{pages_of}
 use Rattle.stored_catalog.specs.StoredDefinitions.{AreStored, AreWithinLimits, BreaksTablePages, IsAnyTablePage}
 use Rattle.script_engine.specs.Doing.{DoesReady, LeavesAll}
-use Rattle.script_engine.specs.Fetching.{FetchesForListing, FetchesForQuery}
+use Rattle.script_engine.specs.Fetching.{FetchesForListing, FetchesForStatement}
 use Rattle.script_engine.specs.NotedRooms.{AreForgotten}
 use Rattle.statement_meaning.specs.Built.{are_built}
 use Rattle.script_engine.specs.Ready.{AreServed, DoNamesDiffer, IsReady}
 use Rattle.script_engine.specs.Roles.{only_reads, role_of}
-use Rattle.script_engine.specs.Stops.{stop_of}
 use Rattle.script_engine.specs.Trying.{IsRefusedFull, Tries, TriesStep, has_changed}
-use Rattle.script_engine.specs.declared.stop.EngineStop.{EngineStop}
-use Rattle.script_engine.specs.declared.stop.EngineStop.TheVariants.{Damaged, Device}
 use Rattle.script_engine.specs.declared.tables.Tables.{Tables}
 use Rattle.script_engine.proofs.CatalogLemmas.{served_of}
 use Rattle.script_engine.proofs.OpeningLemmas.{unopened_names}
@@ -43,7 +41,7 @@ served_read catalog now is limits differ built = subst AreServed (sym is) (serve
 
 module _ {S : Type 0} (g : Ghosts S) (old read : S) (before tables : Tables) where
   -- sound pages have a catalog that can be read
-  pub unbroken_read : {X : Type 0} (result : Result X EngineStop) (fault : StoreFault) → IsErrAnd result (λ e. e ≡ stop_of fault) → RunsOverPages g NoPage IsAnyTablePage (BreaksTablePages g old) old read (Some fault)
+  pub unbroken_read : {X : Type 0} (result : Result X StoreFault) (fault : StoreFault) → IsErrAnd result (λ e. e ≡ fault) → RunsOverPages g NoPage IsAnyTablePage (BreaksTablePages g old) old read (Some fault)
       → (damage : Damage) → result ≡ Err (Damaged damage) → IsTrue (g.state old).is_told → IsSoundDatabase before.shape (g.state old).work → ⊥
   unbroken_read (Ok x) fault is runs damage r = absurd is
   unbroken_read (Err e) fault is runs damage r = unopened_names g before.shape fault e old read is runs damage (cc)
@@ -68,10 +66,10 @@ not_read false is = absurd (cc)
 
 module _ {S : Type 0} (g : Ghosts S) (stmt : Stmt) (old mid new : S) (before read made : Tables) (runs : RunsOverPages g NoPage IsAnyTablePage (BreaksTablePages g old) old mid None)
     (same : (g.state mid).work ≡ (g.state old).work) (shape : read.shape ≡ before.shape) (settings : read.settings ≡ before.settings) where
-  steady_read : {result : Result Outcome EngineStop} → Tries g stmt result mid new read made → Steady g old new
+  steady_read : {result : Result Outcome StoreFault} → Tries g stmt result mid new read made → Steady g old new
   steady_read tries = steady_then runs.works.steady tries.steady
 
-  counts_read : {result : Result Outcome EngineStop} → Tries g stmt result mid new read made → CountsFault (IsErrOf result Device) (g.disk_faults old) (g.disk_faults new)
+  counts_read : {result : Result Outcome StoreFault} → Tries g stmt result mid new read made → CountsFault (IsErrOf result Device) (g.disk_faults old) (g.disk_faults new)
   counts_read tries = counts_fault_then (runs.cause.device.still (λ r. absurd (cc))) tries.device
 
   -- a statement was done by the catalog of the pages, which were read before, and may have changed them
@@ -90,7 +88,6 @@ module _ {S : Type 0} (g : Ghosts S) (stmt : Stmt) (old mid new : S) (before rea
         reads = λ reads. let wrong : false ≡ true = ap not (sym reads) ∙ changed in absurd (cc);
         unbuilt = tries.unbuilt;
         device = counts_read tries;
-        output = λ r. absurd (cc);
       }
 
   -- it changed nothing, and the catalog is put back that there was
@@ -114,10 +111,9 @@ module _ {S : Type 0} (g : Ghosts S) (stmt : Stmt) (old mid new : S) (before rea
           reads = λ reads. leaves;
           unbuilt = tries.unbuilt;
           device = counts_read tries;
-          output = λ r. absurd (cc);
         }
 
-    pub tried_stopped : (stop : EngineStop) → TriesStep g stmt (Err stop) mid new read made → Tries g stmt (Err stop) old new before now
+    pub tried_stopped : (stop : StoreFault) → TriesStep g stmt (Err stop) mid new read made → Tries g stmt (Err stop) old new before now
     tried_stopped stop tried =
         let tries = tried.tries in
         record {
@@ -133,11 +129,10 @@ module _ {S : Type 0} (g : Ghosts S) (stmt : Stmt) (old mid new : S) (before rea
           reads = tt;
           unbuilt = tries.unbuilt;
           device = counts_read tries;
-          output = tries.output;
         }
 
 -- what was tried behind a run that left all was tried from before it
-pub tries_along : {S : Type 0} (g : Ghosts S) (stmt : Stmt) (result : Result Outcome EngineStop) (old mid new : S) (before tables now : Tables) → Steady g old mid → g.disk_faults mid ≡ g.disk_faults old
+pub tries_along : {S : Type 0} (g : Ghosts S) (stmt : Stmt) (result : Result Outcome StoreFault) (old mid new : S) (before tables now : Tables) → Steady g old mid → g.disk_faults mid ≡ g.disk_faults old
     → LeavesAll g old mid before tables → tables.shape ≡ before.shape → tables.settings ≡ before.settings → Tries g stmt result mid new tables now → Tries g stmt result old new before now
 tries_along g stmt result old mid new before tables now steady still left shape settings tries = record {
   steady = steady_then steady tries.steady;
@@ -150,18 +145,17 @@ tries_along g stmt result old mid new before tables now steady still left shape 
   reads = reads_twice result tries.reads;
   unbuilt = tries.unbuilt;
   device = counts_fault_then still tries.device;
-  output = tries.output;
 }
   where
     left_twice : LeavesAll g mid new tables now → LeavesAll g old new before now
     left_twice then = record { pages = then.pages ∙ left.pages; catalog = then.catalog ∙ left.catalog }
 
-    reads_twice : (result : Result Outcome EngineStop) → OnOk result (only_reads (role_of stmt) ≡ true → LeavesAll g mid new tables now) → OnOk result (only_reads (role_of stmt) ≡ true → LeavesAll g old new before now)
+    reads_twice : (result : Result Outcome StoreFault) → OnOk result (only_reads (role_of stmt) ≡ true → LeavesAll g mid new tables now) → OnOk result (only_reads (role_of stmt) ≡ true → LeavesAll g old new before now)
     reads_twice (Ok outcome) reads = λ is. left_twice (reads is)
     reads_twice (Err stop) reads = tt
 
 -- a statement that met damage, as none does on ready pages, was judged or tried once more
-pub tries_again : {S : Type 0} (g : Ghosts S) (stmt : Stmt) (first second : Result Outcome EngineStop) (met : Damage) (old mid new : S) (before tables now : Tables) → first ≡ Err (Damaged met)
+pub tries_again : {S : Type 0} (g : Ghosts S) (stmt : Stmt) (first second : Result Outcome StoreFault) (met : Damage) (old mid new : S) (before tables now : Tables) → first ≡ Err (Damaged met)
     → TriesStep g stmt first old mid before tables → Tries g stmt second mid new tables now → TriesStep g stmt second old new before now
 tries_again g stmt first second met old mid new before tables now is tried anew =
     let unready : IsReady g old before → ⊥ = tried.damaged met is in
@@ -174,9 +168,9 @@ tries_again g stmt first second met old mid new before tables now is tried anew 
       damaged = λ damage r ready. unready ready;
     }
   where
-    by_result : (IsReady g old before → ⊥) → (result : Result Outcome EngineStop)
+    by_result : (IsReady g old before → ⊥) → (result : Result Outcome StoreFault)
         → IfOk result (λ outcome. IsReady g old before → DoesReady g old new before now stmt outcome ⊎ IsRefusedFull g old new before now stmt outcome)
-        × OnOk result (IsReady g old before → FetchesForQuery g before.shape old new before.catalog (bound_of before.catalog stmt))
+        × OnOk result (IsReady g old before → FetchesForStatement g before.shape old new before.catalog before.settings (bound_of before.catalog stmt))
         × OnOk result (IsReady g old before → FetchesForListing g old new before.catalog (role_of stmt))
     by_result unready (Ok outcome) = (λ ready. absurd (unready ready), (λ ready. absurd (unready ready)), λ ready. absurd (unready ready))
     by_result unready (Err stop) = (tt, tt, tt)

@@ -7,7 +7,6 @@ use Rattle.std.proofs.lemmas.Bool.{cases_Bool}
 use Rattle.std.proofs.lemmas.List.Kept.{AllPairs-filter}
 use Rattle.std.proofs.lemmas.List.Sorted.{Contains-permutation, IsPermutation-sym, IsPermutation-trans}
 use Rattle.std.proofs.lemmas.Option.{same_Some}
-use Rattle.mdc_ast.specs.declared.bound.BoundSelect.{BoundSelect}
 use Rattle.mdc_ast.specs.declared.definition.TableDef.{TableDef}
 use Rattle.mdc_ast.specs.declared.predicate.Pred.{Pred}
 use Rattle.mdc_ast.specs.Database.{Database, PlainTable, fits_all, table_at}
@@ -30,11 +29,11 @@ use Rattle.table_page.proofs.TablePageLemmas.{one_definition}
 use Rattle.table_trees.specs.TableTrees.{map_place}
 use Rattle.table_trees.specs.ToldPages.{HasTree}
 use Rattle.table_trees.proofs.ToldPagesLemmas.{tree_of_told}
-use Rattle.mdc_sound.specs.BlockRules.{AreBlockRowsSound}
+use Rattle.mdc_sound.specs.BlockRules.{AreBlockRowsSound, AreTableIndexesSound}
 use Rattle.mdc_ast.specs.FittingRows.{RowFits}
 use Rattle.mdc_sound.specs.Placing.{rows_from_spot, table_spots}
 use Rattle.mdc_sound.specs.SoundDatabase.{IsSoundBetweenChanges, KeepAllRules}
-use Rattle.mdc_sound.specs.StandingTable.{AreRightRooms, BreaksTable, StandsTable, TableForests, pages_of, spots_of}
+use Rattle.mdc_sound.specs.StandingTable.{AreRightRooms, BreaksTable, StandsTable, TableForests, pages_of, spots_of, view_of}
 use Rattle.mdc_sound.specs.StandsForDatabase.{HoldsTable, PagesStandFor, rootless}
 use Rattle.mdc_sound.specs.TablePages.{DefinesTable, table_page_at}
 use Rattle.mdc_sound.specs.TableRows.{PlacedRow, rows_in_block, rows_in_table}
@@ -45,14 +44,15 @@ use Rattle.mdc_sound.proofs.PlainTableLemmas.{IsPlainTable}
 use Rattle.mdc_sound.proofs.StandingTableLemmas.{forests_of, stands_of_sound, stands_same}
 use Rattle.mdc_sound.proofs.StandsForLemmas.{one_tree_at}
 use Rattle.table_blocks.specs.BlockSteps.{HasThisRow}
-use Rattle.cell_change.proofs.RowChangesLemmas.{numbers_here}
+use Rattle.cell_change.proofs.RowChangesLemmas.{indexes_here, numbers_here}
 use Rattle.stored_catalog.specs.StoredDefinitions.{AreStored}
 use Rattle.stored_catalog.proofs.LeftDefinitionsLemmas.{stored_at}
 use Rattle.statement_rows.specs.RowsOfStatement.{AnyPage, HasTheseRows}
 use Rattle.row_checks.specs.Served.{IsDefined}
+use Rattle.executor.specs.Planned.{QualifyInTable}
+use Rattle.executor.proofs.PlanPagesLemmas.{indexes_still}
 use Rattle.table_query.specs.QueryAnswers.{AreQueryRows}
-use Rattle.table_query.specs.QueryPages.{IsQueryPage}
-use Rattle.table_scan.specs.FoundRows.{FindsRows, IsScannedPage}
+use Rattle.table_scan.specs.FoundRows.{FindsRows}
 use Rattle.script_engine.specs.Doing.{AreQualifying}
 use Rattle.script_engine.specs.NotedRooms.{rooms_at}
 use Rattle.script_engine.specs.Ready.{AreServed, BreaksDatabase, IsReady}
@@ -80,6 +80,13 @@ kept_from p (x ∷ xs) z there = elim (cases_Bool (p x)) [
       let rest = kept_from p xs z (subst (λ l. Contains l z) past there) in ((suc rest.0.0, omega (arith, rest.0.1), rest.0.2), rest.1)
 ]
 
+-- ---- rows that are found
+
+-- where a table stands with sound record indexes, these are its rows that qualify
+abbrev pub FindsIfSound : {S : Type 0} → Ghosts S → Shape → S → TableDef → Option Pred → List Hit → Type 0
+FindsIfSound g shape s def pred hits =
+    (owners : List Kind) (forests : TableForests) → StandsTable g shape s def owners forests → AreTableIndexesSound shape (pages_of g s) (view_of def forests) → FindsRows g shape s def pred hits forests
+
 -- ---- pages that nothing changed
 
 module _ {S : Type 0} (g : Ghosts S) (old new : S) (told : (g.state new).is_told ≡ (g.state old).is_told) (same : (g.state new).work ≡ (g.state old).work) where
@@ -101,15 +108,24 @@ module _ {S : Type 0} (g : Ghosts S) (old new : S) (told : (g.state new).is_told
     );
   }
 
+  found_same : (shape : Shape) (def : TableDef) (pred : Option Pred) (hits : List Hit) (forests : TableForests) → FindsRows g shape old def pred hits forests → FindsRows g shape new def pred hits forests
+  found_same shape def pred hits forests found = record {
+    found = subst (λ pages. IsPermutation (filter (λ placed. qualifies pred placed.row.values) (rows_in_table shape pages def forests.map)) (map placed_row hits)) (sym same) found.found;
+    in_order = found.in_order;
+  }
+
   -- and the same rows are found
   pub found_still : (shape : Shape) (def : TableDef) (pred : Option Pred) (hits : List Hit) (owners : List Kind) (forests : TableForests)
       → ((owners : List Kind) (forests : TableForests) → StandsTable g shape old def owners forests → FindsRows g shape old def pred hits forests) → StandsTable g shape new def owners forests
       → FindsRows g shape new def pred hits forests
-  found_still shape def pred hits owners forests finds st =
-      let found = finds owners forests (stands_same shape new old def owners forests (sym told) (sym same) st) in record {
-        found = subst (λ pages. IsPermutation (filter (λ placed. qualifies pred placed.row.values) (rows_in_table shape pages def forests.map)) (map placed_row hits)) (sym same) found.found;
-        in_order = found.in_order;
-      }
+  found_still shape def pred hits owners forests finds st = found_same shape def pred hits forests (finds owners forests (stands_same shape new old def owners forests (sym told) (sym same) st))
+
+  -- also those that are found where record indexes are sound
+  pub found_if_sound : (shape : Shape) (def : TableDef) (pred : Option Pred) (hits : List Hit) (owners : List Kind) (forests : TableForests) → FindsIfSound g shape old def pred hits
+      → StandsTable g shape new def owners forests → AreTableIndexesSound shape (pages_of g new) (view_of def forests) → FindsRows g shape new def pred hits forests
+  found_if_sound shape def pred hits owners forests finds st sound =
+      found_same shape def pred hits forests
+      (finds owners forests (stands_same shape new old def owners forests (sym told) (sym same) st) (indexes_still g shape new old def forests (sym same) sound))
 
 -- ---- rows of a table that stands
 
@@ -176,15 +192,28 @@ module _ {S : Type 0} (g : Ghosts S) (shape : Shape) (s : S) (def : TableDef) (o
         };
       }
 
+  -- rows of it that qualify are rows of it
+  qualifying_there : (pred : Option Pred) (placed : PlacedRow) → Contains (filter (λ one. qualifies pred one.row.values) rows_here) placed → Contains rows_here placed × (qualifies pred placed.row.values ≡ true)
+  qualifying_there pred placed there = kept_from (λ (one : PlacedRow). qualifies pred one.row.values) rows_here placed there
+
+  -- copies of them fit
+  pub lying_fit : (pred : Option Pred) (hits : List Hit) → QualifyInTable g shape s def pred hits forests → AllByRecursion (λ hit. IsTrue (fits_all def.columns hit.row.values)) hits
+  lying_fit pred hits lie =
+      each_in (λ (hit : Hit). IsTrue (fits_all def.columns hit.row.values)) hits
+      (λ hit there. (row_fits (placed_row hit) (qualifying_there pred (placed_row hit) (lie (placed_row hit) (in_map placed_row hits hit there))).0).values)
+
   module _ (pred : Option Pred) (hits : List Hit) (found : FindsRows g shape s def pred hits forests) where
-    hit_there : (placed : PlacedRow) → Contains (map placed_row hits) placed → Contains rows_here placed × (qualifies pred placed.row.values ≡ true)
-    hit_there placed there =
+    lie : QualifyInTable g shape s def pred hits forests
+    lie placed there =
         let q : PlacedRow → Bool = λ p. qualifies pred p.row.values in
-        kept_from q rows_here placed (Contains-permutation (map placed_row hits) (filter q rows_here) placed (IsPermutation-sym (filter q rows_here) (map placed_row hits) found.found) there)
+        Contains-permutation (map placed_row hits) (filter q rows_here) placed (IsPermutation-sym (filter q rows_here) (map placed_row hits) found.found) there
+
+    hit_there : (placed : PlacedRow) → Contains (map placed_row hits) placed → Contains rows_here placed × (qualifies pred placed.row.values ≡ true)
+    hit_there placed there = qualifying_there pred placed (lie placed there)
 
     -- the hits fit
     pub hits_fit : AllByRecursion (λ hit. IsTrue (fits_all def.columns hit.row.values)) hits
-    hits_fit = each_in (λ (hit : Hit). IsTrue (fits_all def.columns hit.row.values)) hits (λ hit there. (row_fits (placed_row hit) (hit_there (placed_row hit) (in_map placed_row hits hit there)).0).values)
+    hits_fit = lying_fit pred hits lie
 
     -- they qualify
     pub hits_qualify : AllByRecursion (λ hit. qualifies pred hit.row.values ≡ true) hits
@@ -231,33 +260,30 @@ pub is_defined : (found : Option TableDef) (def : TableDef) (P : TableDef → Ty
 is_defined None def P at is = absurd is
 is_defined (Some other) def P at is = subst P (same_Some other def at) is
 
--- a table of ready pages stands
+-- a table of ready pages stands, with sound record indexes
 pub record StandsReady {S : Type 0} (g : Ghosts S) (shape : Shape) (s : S) (def : TableDef) : Type 0 where
   pub owners : List Kind
   pub forests : TableForests
   pub stands : StandsTable g shape s def owners forests
   pub between : IsSoundBetweenChanges shape def (pages_of g s)
+  pub indexes : AreTableIndexesSound shape (pages_of g s) (view_of def forests)
 
 pub stands_ready : {S : Type 0} (g : Ghosts S) (s : S) (tables : Tables) (place : ℕ) (def : TableDef) → AreServed tables.catalog → IsReady g s tables → def_at tables.catalog place ≡ Some def
     → StandsReady g tables.shape s def
 stands_ready g s tables place def served ready at =
     let is = served_def tables.catalog place def served at in
     let defines : DefinesTable (pages_of g s) def.number def = subst (λ t. DefinesTable (pages_of g s) t def) (sym is.number) (stored_at (pages_of g s) tables.catalog place def ready.stored at) in
-    let between = between_of_rules tables.shape (pages_of g s) ready.view def ready.sound (omega (arith, is.number, is.below)) defines in record {
+    let between = between_of_rules tables.shape (pages_of g s) ready.view def ready.sound (omega (arith, is.number, is.below)) defines in
+    let stands = stands_of_sound g tables.shape s def between.sound ready.told in record {
       owners = between.sound.view.owners;
       forests = forests_of between.sound.table;
-      stands = stands_of_sound g tables.shape s def between.sound ready.told;
+      stands = stands;
       between = between;
+      indexes = indexes_here g tables.shape s def between.sound.view.owners (forests_of between.sound.table) between stands;
     }
 
--- a query of it meets damage where they weren't
-pub runs_query : {S : Type 0} (g : Ghosts S) (old new : S) (tables : Tables) (select : BoundSelect) (def : TableDef) {fault : Option StoreFault} → AreServed tables.catalog
-    → def_at tables.catalog select.table ≡ Some def → RunsOverPages g NoPage (IsQueryPage g tables.shape old def select) (BreaksTable g tables.shape old def) old new fault → RunsOverPages g NoPage AnyPage (BreaksDatabase g old tables) old new fault
-runs_query g old new tables select def served at run =
-    runs_wider run (λ p there none. none) (λ p of. tt) (λ damage breaks ready. let st = stands_ready g old tables select.table def served ready at in breaks.broken st.owners st.forests st.stands)
-
--- and so does a scan
-pub runs_scan : {S : Type 0} (g : Ghosts S) (old new : S) (tables : Tables) (place : ℕ) (def : TableDef) {pred : Option Pred} {fault : Option StoreFault} → AreServed tables.catalog
-    → def_at tables.catalog place ≡ Some def → RunsOverPages g NoPage (IsScannedPage g tables.shape old def pred) (BreaksTable g tables.shape old def) old new fault → RunsOverPages g NoPage AnyPage (BreaksDatabase g old tables) old new fault
+-- looking at its rows meets damage where they weren't, whichever pages are looked at
+pub runs_scan : {S : Type 0} (g : Ghosts S) (old new : S) (tables : Tables) (place : ℕ) (def : TableDef) {Looks : ℕ → Type 0} {fault : Option StoreFault} → AreServed tables.catalog
+    → def_at tables.catalog place ≡ Some def → RunsOverPages g NoPage Looks (BreaksTable g tables.shape old def) old new fault → RunsOverPages g NoPage AnyPage (BreaksDatabase g old tables) old new fault
 runs_scan g old new tables place def served at run =
     runs_wider run (λ p there none. none) (λ p of. tt) (λ damage breaks ready. let st = stands_ready g old tables place def served ready at in breaks.broken st.owners st.forests st.stands)

@@ -30,7 +30,7 @@ use Rattle.script_engine.specs.declared.class.Setting.{Setting}
 use Rattle.script_engine.specs.declared.class.Setting.TheVariants as setting
 use Rattle.script_engine.specs.declared.engine.Engine.{Engine}
 use Rattle.script_engine.proofs.FetchesForListingLemmas.{lists_none}
-use Rattle.script_engine.proofs.FetchesForQueryLemmas.{fetches_none}
+use Rattle.script_engine.proofs.FetchesForStatementLemmas.{fetches_none}
 use Rattle.script_engine.proofs.LeavingLemmas.{leaves_still}
 use Rattle.script_engine.proofs.LeavingOthersLemmas.{leaves_others_still}
 use Rattle.script_engine.proofs.OnAnyLemmas.{any_answered, as_it_was, steps_any}
@@ -122,14 +122,14 @@ module _ {S : Type 0} (g : Ghosts S) (old : Engine S) (stmt : Stmt) (set : Setti
           (outcome_is ∙ sym (ap answer_to_setting untaken), sym (ap (λ (b : Bool). if b then set_on set old.tables.settings else old.tables.settings) untaken));
       built = λ was. was;
       leaves = λ ready. leaves_still g stmt old old refl;
-      fetches = λ ready. fetches_none g old.tables.shape old.tables.catalog old.store (bound_of old.tables.catalog stmt);
+      fetches = λ ready. fetches_none g old.tables.shape old.tables.catalog old.tables.settings old.store (bound_of old.tables.catalog stmt);
       lists = λ ready. lists_none g old.tables.catalog old.store (role_of stmt);
       unserved = λ unserved other outcome e. let same : said.Refused refusal ≡ outcome = cc in sym same ∙ outcome_is;
       damaged = λ damage e ready. absurd (cc);
       exact = λ damage e. absurd (cc);
       stays = λ damage e. absurd (cc);
       shape = refl;
-      outside = outside_steady g (Ok (said.Refused refusal)) old old steady_none (counts_fault_none (λ e. absurd (cc))) (λ e. absurd (cc));
+      outside = outside_steady g (Ok (said.Refused refusal)) old old steady_none (counts_fault_none (λ e. absurd (cc)));
     }
 
     pub set_refused_any : Executes g stmt (Ok (said.Refused refusal)) old old → IsGoingEngine g old → ExecutesOnAny g stmt (Ok (said.Refused refusal)) old old
@@ -181,14 +181,14 @@ module _ {S : Type 0} (g : Ghosts S) (old : Engine S) (stmt : Stmt) (set : Setti
           (sym (ap answer_to_setting taken), sym (ap (λ (b : Bool). if b then set_on set old.tables.settings else old.tables.settings) taken));
       built = λ was. was;
       leaves = λ ready. leaves_still g stmt old set_engine refl;
-      fetches = λ ready. fetches_none g old.tables.shape old.tables.catalog old.store (bound_of old.tables.catalog stmt);
+      fetches = λ ready. fetches_none g old.tables.shape old.tables.catalog old.tables.settings old.store (bound_of old.tables.catalog stmt);
       lists = λ ready. lists_none g old.tables.catalog old.store (role_of stmt);
       unserved = λ unserved other outcome e. let wrong : true ≡ false = sym served ∙ unserved in absurd (cc);
       damaged = λ damage e ready. absurd (cc);
       exact = λ damage e. absurd (cc);
       stays = λ damage e. absurd (cc);
       shape = refl;
-      outside = outside_steady g (Ok (said.Done reply.Done)) old set_engine steady_none (counts_fault_none (λ e. absurd (cc))) (λ e. absurd (cc));
+      outside = outside_steady g (Ok (said.Done reply.Done)) old set_engine steady_none (counts_fault_none (λ e. absurd (cc)));
     }
 
     pub set_any : Executes g stmt (Ok (said.Done reply.Done)) old set_engine → IsGoingEngine g old → ExecutesOnAny g stmt (Ok (said.Done reply.Done)) old set_engine

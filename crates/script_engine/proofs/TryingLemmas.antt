@@ -1,5 +1,5 @@
 -- A statement that is tried between a mark and its end.
-use Rattle.std.proofs.Common.{◌≡◌, ◌⊎◌, ℕ, false, true, List, Option, Some, None, Result, Ok, Err, refl, sym, ap, subst, inl, inr, arith, ◌∙◌, unwrap_or}
+use Rattle.std.proofs.Common.{◌≡◌, ◌⊎◌, ℕ, false, true, List, Option, Some, None, Result, Ok, Err, sym, ap, subst, inl, inr, arith, ◌∙◌, unwrap_or}
 use Rattle.std.specs.Prelude.{IsErrOf, IsTrue}
 use Rattle.mdc_words.specs.Faults.{CountsFault}
 use Rattle.mdc_words.specs.Time.{OverTime}
@@ -19,9 +19,9 @@ use Rattle.store_api.specs.Causes.{store_fault_in}
 use Rattle.store_api.specs.Moments.{OnlyBase}
 use Rattle.store_api.specs.RunsOverPages.{RunsOverPages}
 use Rattle.store_api.specs.Works.{Steady}
-use Rattle.store_api.specs.declared.fault.Damage.{Damage}
 use Rattle.store_api.specs.declared.fault.StoreFault.{StoreFault}
 use Rattle.store_api.specs.declared.fault.StoreFault.TheVariants as store
+use Rattle.store_api.specs.declared.fault.StoreFault.TheVariants.{Device}
 use Rattle.store_api.specs.declared.pages.Pages.{Ghosts}
 use Rattle.store_api.specs.declared.shape.Shape.{Shape}
 use Rattle.store_api.proofs.WorksLemmas.{steady_keep, steady_mark, steady_then, steady_undo}
@@ -37,41 +37,22 @@ use Rattle.mdc_sound.specs.StandsForDatabase.{PagesStandFor}
 use Rattle.stored_catalog.specs.StoredDefinitions.{AreStored}
 use Rattle.statement_rows.specs.RowsOfStatement.{AnyPage}
 use Rattle.script_engine.specs.Doing.{DoesReady, DoesStep, LeavesAll, PlacesOnPages, StandsAfter, StepRunsFull, TellsPages, changed_place}
-use Rattle.script_engine.specs.Fetching.{FetchesForListing, FetchesForQuery}
+use Rattle.script_engine.specs.Fetching.{FetchesForListing, FetchesForStatement}
 use Rattle.script_engine.specs.Listing.{PagesTell}
 use Rattle.script_engine.specs.NotedRooms.{AreForgotten}
 use Rattle.script_engine.specs.Others.{KeepsOthers, touched_place}
 use Rattle.script_engine.specs.Ready.{AreServed, BreaksDatabase, IsReady, KeepsServed}
 use Rattle.script_engine.specs.Roles.{is_built_form, only_reads, role_of}
-use Rattle.script_engine.specs.Stops.{stop_of}
 use Rattle.script_engine.specs.Trying.{IsRefusedFull, TriesStep}
-use Rattle.script_engine.specs.declared.stop.EngineStop.{EngineStop}
-use Rattle.script_engine.specs.declared.stop.EngineStop.TheVariants.{Damaged, Device, Output}
 use Rattle.script_engine.specs.declared.tables.Tables.{Tables}
 use Rattle.script_engine.proofs.FetchesForListingLemmas.{lists_marked}
-use Rattle.script_engine.proofs.FetchesForQueryLemmas.{fetches_marked}
+use Rattle.script_engine.proofs.FetchesForStatementLemmas.{fetches_marked}
 use Rattle.script_engine.proofs.ReadyTablesLemmas.{ready_of_sound}
 use Rattle.script_engine.proofs.SameWorkLemmas.{ready_same}
 
--- which stops a call on a database ends with
-pub stop_device : (e : StoreFault) → stop_of e ≡ Device → e ≡ store.Device
-stop_device store.Device is = refl
-stop_device (store.Damaged d) is = absurd (cc)
-stop_device store.Memory is = absurd (cc)
-
-pub stop_names : (e : StoreFault) (damage : Damage) → stop_of e ≡ Damaged damage → e ≡ store.Damaged damage
-stop_names store.Device damage is = absurd (cc)
-stop_names (store.Damaged d) damage is = cc
-stop_names store.Memory damage is = absurd (cc)
-
-pub stop_output : (e : StoreFault) → stop_of e ≡ Output → ⊥
-stop_output store.Device is = cc
-stop_output (store.Damaged d) is = cc
-stop_output store.Memory is = cc
-
--- a stop is the one of a fault
-pub stop_counts : {X : Type 0} (e : StoreFault) {before now : ℕ} → CountsFault (Some e ≡ Some store.Device) before now → CountsFault (IsErrOf {T = X} (Err (stop_of e)) Device) before now
-stop_counts e counts = counts_fault_as (λ is. ap Some (stop_device e (cc))) (λ is. let same : e ≡ store.Device = cc in ap (λ x. Err (stop_of x)) same) counts
+-- a fault is counted as the stop that it is
+pub stop_counts : {X : Type 0} (e : StoreFault) {before now : ℕ} → CountsFault (Some e ≡ Some Device) before now → CountsFault (IsErrOf {T = X} (Err e) Device) before now
+stop_counts e counts = counts_fault_as (λ is. cc) (λ is. cc) counts
 
 module _ {S : Type 0} (g : Ghosts S) where
   -- what a call did to a marked store it did to the one that was marked
@@ -148,10 +129,10 @@ module _ {S : Type 0} (g : Ghosts S) where
       run_so_far : Steady g old mid
       run_so_far = steady_then begun runs.works.steady
 
-      fetched_so_far : (new : S) → (g.state new).fetched ≡ (g.state mid).fetched → FetchesForQuery g before.shape marked mid before.catalog (bound_of before.catalog stmt)
-          → FetchesForQuery g before.shape old new before.catalog (bound_of before.catalog stmt)
+      fetched_so_far : (new : S) → (g.state new).fetched ≡ (g.state mid).fetched → FetchesForStatement g before.shape marked mid before.catalog before.settings (bound_of before.catalog stmt)
+          → FetchesForStatement g before.shape old new before.catalog before.settings (bound_of before.catalog stmt)
       fetched_so_far new same fetches =
-          fetches_marked g before.shape before.catalog old marked begun.is_told same_work mid new (bound_of before.catalog stmt) (ap (λ s. s.fetched) marks) same fetches
+          fetches_marked g before.shape before.catalog before.settings old marked begun.is_told same_work mid new (ap (λ s. s.fetched) marks) same (bound_of before.catalog stmt) fetches
 
       listed_so_far : (new : S) → (g.state new).fetched ≡ (g.state mid).fetched → FetchesForListing g marked mid before.catalog (role_of stmt) → FetchesForListing g old new before.catalog (role_of stmt)
       listed_so_far new same fetches = lists_marked g before.catalog old marked begun.is_told same_work mid new (role_of stmt) (ap (λ s. s.fetched) marks) same fetches
@@ -160,14 +141,14 @@ module _ {S : Type 0} (g : Ghosts S) where
       left_so_far new work left = record { pages = work ∙ (left.pages ∙ same_work); catalog = left.catalog }
 
       -- a fault of the store: all is as it was
-      pub try_stops : (e : StoreFault) (stop : EngineStop) (new : S) (last : Tables) → result ≡ Err (space.Store e) → stop ≡ stop_of e → Undoes (g.state mid) (g.state new)
+      pub try_stops : (e : StoreFault) (stop : StoreFault) (new : S) (last : Tables) → result ≡ Err (space.Store e) → stop ≡ e → Undoes (g.state mid) (g.state new)
           → g.disk_faults new ≡ g.disk_faults mid → g.say_faults new ≡ g.say_faults mid → OverTime g.clock g.left (OnlyBase (g.state mid)) mid new
           → now.catalog ≡ before.catalog → last.catalog ≡ now.catalog → last.shape ≡ now.shape → last.settings ≡ now.settings → TriesStep g stmt (Err stop) old new before last
       try_stops e stop new last is names undone count_undone say_undone time_undone catalog forgot shape settings =
           let fault : store_fault_in store_part_of result ≡ Some e = ap (store_fault_in store_part_of) is in
           let ending : Steady g mid new = steady_undo undone count_undone say_undone time_undone in
           let work : pages_of g new ≡ pages_of g old = ap (λ s. s.work) undone ∙ ap (λ o. unwrap_or o (g.state mid).work) (runs.works.marked ∙ ap (λ s. s.marked) marks) in
-          subst (λ (x : EngineStop). TriesStep g stmt (Err x) old new before last) (sym names) (record {
+          subst (λ (x : StoreFault). TriesStep g stmt (Err x) old new before last) (sym names) (record {
             tries = record {
               steady = steady_then run_so_far ending;
               unmarked = tt;
@@ -178,21 +159,20 @@ module _ {S : Type 0} (g : Ghosts S) where
               refused = λ refusal r. absurd (cc);
               reads = tt;
               unbuilt = λ form. tt;
-              device = subst (λ n. CountsFault (IsErrOf {T = Outcome} (Err (stop_of e)) Device) (g.disk_faults old) n) (sym count_undone)
+              device = subst (λ n. CountsFault (IsErrOf {T = Outcome} (Err e) Device) (g.disk_faults old) n) (sym count_undone)
                   (stop_counts e (counts_fault_then count (subst (λ (f : Option StoreFault). CountsFault (f ≡ Some store.Device) (g.disk_faults marked) (g.disk_faults mid)) fault runs.cause.device)));
-              output = λ r. stop_output e (cc);
             };
             does = tt;
             fetches = tt;
             lists = tt;
-            damaged = λ damage r ready. runs.cause.damaged damage (fault ∙ ap Some (stop_names e damage (cc))) (ready_marked ready);
+            damaged = λ damage r ready. runs.cause.damaged damage (fault ∙ ap Some (cc)) (ready_marked ready);
           })
 
       -- it was done or refused, and the mark is dropped
       pub try_kept : (outcome : Outcome) (new : S) → result ≡ Ok outcome → Keeps (g.state mid) (g.state new) → g.disk_faults new ≡ g.disk_faults mid → g.say_faults new ≡ g.say_faults mid
           → OverTime g.clock g.left (OnlyBase (g.state mid)) mid new → (IsReady g marked before → DoesReady g marked mid before now stmt outcome)
           → ((refusal : Refusal) → outcome ≡ said.Refused refusal → LeavesAll g marked mid before now) → (is_built_form stmt ≡ false → outcome ≡ said.Refused (refusal_of NotBuilt)) → (only_reads (role_of stmt) ≡ true → LeavesAll g marked mid before now)
-          → FetchesForQuery g before.shape marked mid before.catalog (bound_of before.catalog stmt) → FetchesForListing g marked mid before.catalog (role_of stmt) → TriesStep g stmt (Ok outcome) old new before now
+          → FetchesForStatement g before.shape marked mid before.catalog before.settings (bound_of before.catalog stmt) → FetchesForListing g marked mid before.catalog (role_of stmt) → TriesStep g stmt (Ok outcome) old new before now
       try_kept outcome new is kept count_kept say_kept time_kept does leaves unbuilt reads fetches lists =
           let ending : Steady g mid new = steady_keep (Ok tt) kept tt (omega (arith, count_kept)) say_kept time_kept in
           let work : pages_of g new ≡ pages_of g mid = ap (λ s. s.work) kept in
@@ -210,7 +190,6 @@ module _ {S : Type 0} (g : Ghosts S) where
               reads = λ is. left_so_far new work (reads is);
               unbuilt = unbuilt;
               device = subst (λ n. CountsFault (IsErrOf {T = Outcome} (Ok outcome) Device) (g.disk_faults old) n) (sym count_kept) (counts_fault_as (λ r. absurd (cc)) (λ r. absurd (cc)) quiet);
-              output = λ r. absurd (cc);
             };
             does = λ ready. inl (executed_kept old mid new before now stmt outcome ending.is_told work (executed_marked old marked mid before now stmt outcome same_work (does (ready_marked ready))));
             fetches = λ ready. fetched_so_far new (ap (λ s. s.fetched) kept) fetches;
@@ -224,7 +203,7 @@ module _ {S : Type 0} (g : Ghosts S) where
           → IfFull fault (λ n. (n ≡ before.shape.extents) × (IsReady g marked before → StepRunsFull before.shape (pages_of g marked) before.catalog stmt))
           → now.catalog ≡ before.catalog → AreServed before.catalog
           → last.catalog ≡ now.catalog → last.shape ≡ now.shape → last.settings ≡ now.settings → ((owners : List Kind) → AreRightNotes last.shape last.notes owners) → AreForgotten last.rooms
-          → FetchesForQuery g before.shape marked mid before.catalog (bound_of before.catalog stmt) → FetchesForListing g marked mid before.catalog (role_of stmt) → (is_built_form stmt ≡ false → IfFull fault (λ n. ⊥))
+          → FetchesForStatement g before.shape marked mid before.catalog before.settings (bound_of before.catalog stmt) → FetchesForListing g marked mid before.catalog (role_of stmt) → (is_built_form stmt ≡ false → IfFull fault (λ n. ⊥))
           → TriesStep g stmt (Ok (said.Refused refusal)) old new before last
       try_full cap fault refusal new last is is_full refuses undone count_undone say_undone time_undone full catalog served forgot shape settings notes rooms fetches lists unbuilt =
           let filled : (cap ≡ before.shape.extents) × (IsReady g marked before → StepRunsFull before.shape (pages_of g marked) before.catalog stmt) =
@@ -250,7 +229,6 @@ module _ {S : Type 0} (g : Ghosts S) where
               reads = λ is. leaves;
               unbuilt = λ form. absurd (subst (λ (f : SpaceFault). IfFull f (λ n. ⊥)) is_full (unbuilt form));
               device = subst (λ n. CountsFault (IsErrOf {T = Outcome} (Ok (said.Refused refusal)) Device) (g.disk_faults old) n) (sym count_undone) (counts_fault_as (λ r. absurd (cc)) (λ r. absurd (cc)) quiet);
-              output = λ r. absurd (cc);
             };
             does = λ ready. inr (record {
               says = ap said.Refused (refuses ∙ ap (λ n. refusal_of (FileFull n)) filled.0);

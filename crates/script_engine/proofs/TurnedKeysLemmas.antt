@@ -44,7 +44,6 @@ use Rattle.row_entries.proofs.StandingRowsLemmas.{lie_apart}
 use Rattle.statement_rows.specs.RowsOfStatement.{AnyPage}
 use Rattle.statement_rows.specs.Turning.{MayTurn, turned_row}
 use Rattle.statement_rows.specs.declared.changing.Turned.{Turned}
-use Rattle.table_scan.specs.FoundRows.{FindsRows}
 use Rattle.table_scan.proofs.ScannedRowsLemmas.{perm_filter}
 use Rattle.table_scan.proofs.ScanningLemmas.{map_kept}
 use Rattle.unique_keys.specs.Clashes.{AreStaying, BreaksClash, IsClashPage}
@@ -57,7 +56,7 @@ use Rattle.script_engine.specs.declared.tables.Tables.{Tables}
 use Rattle.script_engine.proofs.JudgedKeysLemmas.{clash_said}
 use Rattle.script_engine.proofs.KeptKeysLemmas.{keys_before}
 use Rattle.script_engine.proofs.ReadyKeysLemmas.{no_unique_says_nothing, rootless_twins, runs_clash, stands_with_keys}
-use Rattle.script_engine.proofs.ScannedTablesLemmas.{HasHits, found_still, hits_of, hits_qualify, plain_of, ready_still, row_fits, stands_ready}
+use Rattle.script_engine.proofs.ScannedTablesLemmas.{FindsIfSound, HasHits, found_if_sound, hits_of, hits_qualify, plain_of, ready_still, row_fits, stands_ready}
 use Rattle.script_engine.proofs.StoredDefsLemmas.{stored_defs, stored_table}
 use Rattle.script_engine.proofs.TurnedRowsLemmas.{turned_hit, turned_news, turned_places}
 use Rattle.script_engine.proofs.UnsetKeysLemmas.{rootless_unset, unset_says_nothing}
@@ -124,19 +123,19 @@ runs_judged g old mid new before place def served at told same scan judge =
 -- The rows that qualify were found on ready pages, and nothing was changed since.
 module _ {S : Type 0} (g : Ghosts S) (old mid : S) (before : Tables) (place : ℕ) (def : TableDef) (pred : Option Pred) (found : List Hit) (served : AreServed before.catalog)
     (at : def_at before.catalog place ≡ Some def) (told : (g.state mid).is_told ≡ (g.state old).is_told) (same : (g.state mid).work ≡ (g.state old).work)
-    (finds : (owners : List Kind) (forests : TableForests) → StandsTable g before.shape old def owners forests → FindsRows g before.shape old def pred found forests) (ready : IsReady g old before) where
+    (finds : FindsIfSound g before.shape old def pred found) (ready : IsReady g old before) where
   -- they qualify
   pub found_qualify : AllByRecursion (λ hit. qualifies pred hit.row.values ≡ true) found
   found_qualify =
       let st = stands_ready g old before place def served ready at in
-      hits_qualify g before.shape old def st.owners st.forests st.stands pred found (finds st.owners st.forests st.stands)
+      hits_qualify g before.shape old def st.owners st.forests st.stands pred found (finds st.owners st.forests st.stands st.indexes)
 
   -- and are those of the plain table
   pub found_there : (db : Database) → PagesStandFor before.shape (pages_of g old) db → HasHits db place def pred found
   found_there db stands =
       let st = stands_ready g old before place def served ready at in
       let here = stored_table db before.catalog place def (stored_defs before.shape (pages_of g old) before.catalog db ready.stored stands) at in
-      hits_of g before.shape old def st.owners st.forests st.stands pred found (finds st.owners st.forests st.stands) st.between before.catalog place db here.0 ready.stored at stands here.1
+      hits_of g before.shape old def st.owners st.forests st.stands pred found (finds st.owners st.forests st.stands st.indexes) st.between before.catalog place db here.0 ready.stored at stands here.1
 
   -- the rows of its plain table fit
   rows_fit_there : (db : Database) → PagesStandFor before.shape (pages_of g old) db → (table : PlainTable) → table_at db place ≡ Some table → AllByRecursion (λ row. IsTrue (fits_all def.columns row.values)) table.rows
@@ -170,7 +169,7 @@ module _ {S : Type 0} (g : Ghosts S) (old mid : S) (before : Tables) (place : �
         let rows : List PlacedRow = rows_in_table before.shape (pages_of g mid) def st.forests.map in
         let left : List Row = filter (λ (row : Row). not (qualifies pred row.values)) has.table.rows in
         let turned : List Row = map (changed_row sets pred) (filter (λ (row : Row). qualifies pred row.values) has.table.rows) in
-        let hits = found_still g old mid told same before.shape def pred found st.owners st.forests finds st.stands in
+        let hits = found_if_sound g old mid told same before.shape def pred found st.owners st.forests finds st.stands st.indexes in
         let plain = plain_of g before.shape mid def st.owners st.forests st.stands before.catalog place db has.table still.stored at here_too has.at in
         let staying : AreStaying rows (map (λ (t : Turned). t.hit.rid) items) (values_of left) =
         unqualified_stay pred rows (map (λ (t : Turned). t.hit.rid) items) (values_of left) (lie_apart g before.shape mid def st.owners st.forests st.stands)

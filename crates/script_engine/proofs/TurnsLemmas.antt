@@ -22,6 +22,8 @@ use Rattle.statement_meaning.specs.declared.pass.Pass.{Pass}
 use Rattle.statement_meaning.specs.declared.settings.Settings.{Settings}
 use Rattle.store_api.specs.Works.{Rests, Steady}
 use Rattle.store_api.specs.declared.fault.Damage.{Damage}
+use Rattle.store_api.specs.declared.fault.StoreFault.{StoreFault}
+use Rattle.store_api.specs.declared.fault.StoreFault.TheVariants.{Damaged, Device}
 use Rattle.store_api.specs.declared.pages.Pages.{Ghosts}
 use Rattle.store_api.proofs.MomentsLemmas.{base_or_now-steady}
 use Rattle.store_api.proofs.WorksLemmas.{rests_steady, steady_none, steady_then}
@@ -47,12 +49,10 @@ use Rattle.script_engine.specs.Serving.{IsReadyEngine, MayCall, held_by}
 use Rattle.script_engine.specs.Trying.{IsRefusedFull, TriesStep}
 use Rattle.script_engine.specs.Turns.{Executes, LeavesCommitted, LeavesOutside}
 use Rattle.script_engine.specs.declared.engine.Engine.{Engine}
-use Rattle.script_engine.specs.declared.stop.EngineStop.{EngineStop}
-use Rattle.script_engine.specs.declared.stop.EngineStop.TheVariants.{Damaged, Device, Output}
 use Rattle.script_engine.specs.declared.tables.Tables.{Tables}
 use Rattle.script_engine.proofs.CatalogLemmas.{built_defs, one_catalog, served_of}
 use Rattle.script_engine.proofs.FetchesForListingLemmas.{lists_changing}
-use Rattle.script_engine.proofs.FetchesForQueryLemmas.{fetches_counted}
+use Rattle.script_engine.proofs.FetchesForStatementLemmas.{fetches_counted}
 use Rattle.script_engine.proofs.FullStepsLemmas.{step_beyond}
 use Rattle.script_engine.proofs.LeavingLemmas.{leaves_steady, leaves_then}
 use Rattle.script_engine.proofs.LeavingOthersLemmas.{leaves_others_done, leaves_others_still}
@@ -238,11 +238,10 @@ module _ {S : Type 0} (g : Ghosts S) where
 
   -- ---- the outside
 
-  pub outside_steady : {X : Type 0} (result : Result X EngineStop) (old new : Engine S) → Steady g old.store new.store → CountsFault (IsErrOf result Device) (g.disk_faults old.store) (g.disk_faults new.store)
-      → (IsErrOf result Output → ⊥) → LeavesOutside g result old new
-  outside_steady result old new steady device output = record {
+  pub outside_steady : {X : Type 0} (result : Result X StoreFault) (old new : Engine S) → Steady g old.store new.store → CountsFault (IsErrOf result Device) (g.disk_faults old.store) (g.disk_faults new.store)
+      → LeavesOutside g result old new
+  outside_steady result old new steady device = record {
     device = device;
-    output = output;
     say_faults = steady.say_faults;
     is_told = steady.is_told;
     told = steady.told;
@@ -251,10 +250,9 @@ module _ {S : Type 0} (g : Ghosts S) where
     rests = λ back going was. rests_steady (back new.store) going steady was;
   }
 
-  outside_commit : {X : Type 0} (result : Result X EngineStop) (old new : Engine S) → CommitsWork g result old.store new.store → (Rests g old.store → Rests g new.store) → LeavesOutside g result old new
+  outside_commit : {X : Type 0} (result : Result X StoreFault) (old new : Engine S) → CommitsWork g result old.store new.store → (Rests g old.store → Rests g new.store) → LeavesOutside g result old new
   outside_commit result old new commits rests = record {
     device = commits.device;
-    output = commits.output;
     say_faults = commits.say_faults;
     is_told = commits.is_told;
     told = commits.told;
@@ -267,7 +265,6 @@ module _ {S : Type 0} (g : Ghosts S) where
   pub outside_value : {X : Type 0} {x : X} (old new : Engine S) → LeavesOutside {X = Unit {0}} g (Ok tt) old new → LeavesOutside g (Ok x) old new
   outside_value old new left = record {
     device = counts_fault_as (λ is. absurd (cc)) (λ is. absurd (cc)) left.device;
-    output = λ is. absurd (cc);
     say_faults = left.say_faults;
     is_told = left.is_told;
     told = left.told;
@@ -279,7 +276,6 @@ module _ {S : Type 0} (g : Ghosts S) where
   outside_done : {X : Type 0} {x : X} (old new : Engine S) → CommitsWork {X = Unit {0}} g (Ok tt) old.store new.store → (Rests g old.store → Rests g new.store) → LeavesOutside g (Ok x) old new
   outside_done old new commits rests = record {
     device = counts_fault_as (λ is. absurd (cc)) (λ is. absurd (cc)) commits.device;
-    output = λ is. absurd (cc);
     say_faults = commits.say_faults;
     is_told = commits.is_told;
     told = commits.told;
@@ -289,11 +285,10 @@ module _ {S : Type 0} (g : Ghosts S) where
   }
 
   -- a commit behind a run that counted nothing
-  pub outside_then : {X : Type 0} (result : Result X EngineStop) (old new : Engine S) (mid : S) → Steady g old.store mid → g.disk_faults mid ≡ g.disk_faults old.store → CommitsWork g result mid new.store
+  pub outside_then : {X : Type 0} (result : Result X StoreFault) (old new : Engine S) (mid : S) → Steady g old.store mid → g.disk_faults mid ≡ g.disk_faults old.store → CommitsWork g result mid new.store
       → (Rests g mid → Rests g new.store) → LeavesOutside g result old new
   outside_then result old new mid steady still commits rests = record {
     device = counts_fault_then still commits.device;
-    output = commits.output;
     say_faults = commits.say_faults ∙ steady.say_faults;
     is_told = commits.is_told ∙ steady.is_told;
     told = commits.told ∙ steady.told;
@@ -307,10 +302,9 @@ module _ {S : Type 0} (g : Ghosts S) where
   }
 
   -- the same stop, of a call with another value
-  outside_as : {X Y : Type 0} (stop : EngineStop) (old new : Engine S) → LeavesOutside {X = X} g (Err stop) old new → LeavesOutside {X = Y} g (Err stop) old new
+  outside_as : {X Y : Type 0} (stop : StoreFault) (old new : Engine S) → LeavesOutside {X = X} g (Err stop) old new → LeavesOutside {X = Y} g (Err stop) old new
   outside_as stop old new left = record {
     device = counts_fault_as (λ is. cc) (λ is. cc) left.device;
-    output = λ is. left.output (cc);
     say_faults = left.say_faults;
     is_told = left.is_told;
     told = left.told;
@@ -325,12 +319,12 @@ module _ {S : Type 0} (g : Ghosts S) where
   pub stays_steady : (old new : Engine S) → Steady g old.store new.store → (g.state new.store).marked ≡ None → (g.state old.store).ended ≡ false → new.is_open ≡ old.is_open → StaysAtDamage g old new
   stays_steady old new steady unmarked going is_open = record { base = steady.base; going = steady.ended ∙ going; unmarked = unmarked; is_open = is_open }
 
-  pub executes_stop : {X Y : Type 0} (stmt : Stmt) (result : Result Outcome EngineStop) (stop : EngineStop) (old new : Engine S) → IsErrAnd result (λ e. e ≡ stop)
+  pub executes_stop : {X Y : Type 0} (stmt : Stmt) (result : Result Outcome StoreFault) (stop : StoreFault) (old new : Engine S) → IsErrAnd result (λ e. e ≡ stop)
       → ((damage : Damage) → stop ≡ Damaged damage → IsReadyEngine g old → ⊥) → NamesExactly {X = Y} g old.tables.shape (Err stop) new.store → ((damage : Damage) → stop ≡ Damaged damage → StaysAtDamage g old new)
       → (IsReadyEngine g old → LeavesCommitted g stmt old new) → new.tables.shape ≡ old.tables.shape → new.tables.settings ≡ old.tables.settings
       → LeavesOutside {X = X} g (Err stop) old new → Executes g stmt result old new
   executes_stop stmt (Ok outcome) stop old new is damaged exact stays leaves shape settings left = absurd is
-  executes_stop stmt (Err e) stop old new is damaged exact stays leaves shape settings left = subst (λ (x : EngineStop). Executes g stmt (Err x) old new) (sym is) (record {
+  executes_stop stmt (Err e) stop old new is damaged exact stays leaves shape settings left = subst (λ (x : StoreFault). Executes g stmt (Err x) old new) (sym is) (record {
     steps = tt;
     may = tt;
     keeps = tt;
@@ -376,7 +370,7 @@ module _ {S : Type 0} (g : Ghosts S) where
       MayBeLeft.after (said.Done reply.Done) (held_with work work old.tables.catalog false old.tables.settings old.pass) (commit_steps old.tables.shape (held_by g old) (held_with work work old.tables.catalog false old.tables.settings old.pass) is_open refl refl refl refl (same_settings refl refl)) refl refl
       (ready.work.view, ready.work.sound) ready.work.stored (built_defs old.tables.catalog (may.served ready.served))
 
-  pub commit_stops : (result : Result Outcome EngineStop) (stop : EngineStop) (old : Engine S) (store : S) → MayCall g old → old.is_open ≡ true → IsErrAnd result (λ e. e ≡ stop)
+  pub commit_stops : (result : Result Outcome StoreFault) (stop : StoreFault) (old : Engine S) (store : S) → MayCall g old → old.is_open ≡ true → IsErrAnd result (λ e. e ≡ stop)
       → CommitsWork {X = Unit {0}} g (Err stop) old.store store → (Rests g old.store → Rests g store) → NamesExactly {X = Unit {0}} g old.tables.shape (Err stop) store
       → Executes g statement.Commit result old (record old { store = store })
   commit_stops result stop old store may is_open is commits rests exact =
@@ -409,7 +403,7 @@ module _ {S : Type 0} (g : Ghosts S) where
 
   -- ---- ROLLBACK
 
-  pub roll_back_stops : (result : Result Outcome EngineStop) (stop : EngineStop) (old : Engine S) (store : S) (tables : Tables) → MayCall g old → IsErrAnd result (λ e. e ≡ stop)
+  pub roll_back_stops : (result : Result Outcome StoreFault) (stop : StoreFault) (old : Engine S) (store : S) (tables : Tables) → MayCall g old → IsErrAnd result (λ e. e ≡ stop)
       → Reloads g (Err stop) old.store store old.tables tables
       → ((damage : Damage) → stop ≡ Damaged damage → IsTrue (g.state old.store).is_told → IsSoundDatabase old.tables.shape (g.state old.store).base → ⊥) → NamesExactly {X = Bool} g old.tables.shape (Err stop) store
       → Executes g statement.Rollback result old (record old { store = store; tables = tables })
@@ -418,7 +412,7 @@ module _ {S : Type 0} (g : Ghosts S) where
       executes_stop {X = Bool} {Y = Bool} statement.Rollback result stop old new is
       (λ damage e ready. damaged damage e ready.work.told (ready.base_view, ready.base_sound)) exact
       (λ damage e. stays_steady old new reloads.steady reloads.unmarked may.going refl)
-      (λ ready. leaves_steady g statement.Rollback old new reloads.steady) reloads.shape reloads.settings (outside_steady (Err stop) old new reloads.steady reloads.device reloads.output)
+      (λ ready. leaves_steady g statement.Rollback old new reloads.steady) reloads.shape reloads.settings (outside_steady (Err stop) old new reloads.steady reloads.device)
 
   roll_back_steps : (old : Engine S) (store : S) (tables : Tables) (served : Bool) → old.is_open ≡ true → Reloads g (Ok served) old.store store old.tables tables
       → StepsOnPages old.tables.shape (held_by g old) statement.Rollback (said.Done reply.Done) (held_by g (record old { store = store; tables = tables; served = served; is_open = false }))
@@ -483,7 +477,7 @@ module _ {S : Type 0} (g : Ghosts S) where
         exact = λ damage e. absurd (cc);
         stays = λ damage e. absurd (cc);
         shape = reloads.shape;
-        outside = outside_steady (Ok (said.Done reply.Done)) old new reloads.steady (counts_fault_as (λ is. absurd (cc)) (λ is. absurd (cc)) reloads.device) (λ is. absurd (cc));
+        outside = outside_steady (Ok (said.Done reply.Done)) old new reloads.steady (counts_fault_as (λ is. absurd (cc)) (λ is. absurd (cc)) reloads.device);
       }
 
   -- ---- any other statement
@@ -551,7 +545,7 @@ module _ {S : Type 0} (g : Ghosts S) where
           exact = λ damage e. absurd (cc);
           stays = λ damage e. absurd (cc);
           shape = tries.shape;
-          outside = outside_steady (Ok outcome) old kept_engine tries.steady tries.device tries.output;
+          outside = outside_steady (Ok outcome) old kept_engine tries.steady tries.device;
         }
 
   not_done : (outcome : Outcome) (refusal : Refusal) → is_refusal outcome ≡ false → outcome ≡ said.Refused refusal → ⊥
@@ -600,7 +594,7 @@ module _ {S : Type 0} (g : Ghosts S) where
             settings = sets_other (role_of stmt) old.served old.tables.settings outcome tables.settings other tries.settings;
             built = λ was. served ∙ sym tries.served.built;
             leaves = λ ready. leaves_then g (Ok tt) stmt old changed_engine mid tries.steady commits (made_left (may.served served) ready);
-            fetches = λ ready. fetches_counted g old.tables.shape old.tables.catalog old.store mid store (bound_of old.tables.catalog stmt) (tried.fetches ready.work) commits.brings;
+            fetches = λ ready. fetches_counted g old.tables.shape old.tables.catalog old.tables.settings old.store mid store (bound_of old.tables.catalog stmt) (tried.fetches ready.work) commits.brings;
             lists = λ ready. lists_changing g old.tables.catalog old.store store (role_of stmt) changing;
             unserved = λ unserved other outcome is. let wrong : true ≡ false = sym served ∙ unserved in absurd (cc);
             damaged = λ damage e ready. absurd (cc);
@@ -610,7 +604,7 @@ module _ {S : Type 0} (g : Ghosts S) where
             outside = outside_value old changed_engine (outside_then (Ok tt) old changed_engine mid tries.steady still_counted commits rests);
           }
 
-      pub change_stops : (result : Result Outcome EngineStop) (stop : EngineStop) → MayCall g old → IsErrAnd result (λ e. e ≡ stop) → CommitsWork {X = Unit {0}} g (Err stop) mid store
+      pub change_stops : (result : Result Outcome StoreFault) (stop : StoreFault) → MayCall g old → IsErrAnd result (λ e. e ≡ stop) → CommitsWork {X = Unit {0}} g (Err stop) mid store
           → (Rests g mid → Rests g store) → NamesExactly {X = Unit {0}} g tables.shape (Err stop) store → Executes g stmt result old changed_engine
       change_stops result stop may is commits rests exact =
           let tries = tried.tries in
@@ -624,7 +618,7 @@ module _ {S : Type 0} (g : Ghosts S) where
           (outside_then (Err stop) old changed_engine mid tries.steady still_counted commits rests)
 
   -- the execution stopped
-  pub change_untried : (result : Result Outcome EngineStop) (stop : EngineStop) (old : Engine S) (store : S) (tables : Tables) (stmt : Stmt) → MayCall g old → IsErrAnd result (λ e. e ≡ stop)
+  pub change_untried : (result : Result Outcome StoreFault) (stop : StoreFault) (old : Engine S) (store : S) (tables : Tables) (stmt : Stmt) → MayCall g old → IsErrAnd result (λ e. e ≡ stop)
       → TriesStep g stmt (Err stop) old.store store old.tables tables → NamesExactly {X = Outcome} g old.tables.shape (Err stop) store
       → Executes g stmt result old (record old { store = store; tables = tables })
   change_untried result stop old store tables stmt may is tried exact =
@@ -633,10 +627,10 @@ module _ {S : Type 0} (g : Ghosts S) where
       executes_stop {X = Outcome} {Y = Outcome} stmt result stop old new is (λ damage e ready. tried.damaged damage (ap Err e) ready.work) exact
       (λ damage e. stays_steady old new tries.steady (tries.back damage (ap Err e)).unmarked may.going refl)
       (λ ready. leaves_steady g stmt old new tries.steady) tries.shape tries.settings
-      (outside_steady (Err stop) old new tries.steady tries.device tries.output)
+      (outside_steady (Err stop) old new tries.steady tries.device)
 
   -- a statement that reads alone was tried
-  pub read_tried : (result : Result Outcome EngineStop) (old : Engine S) (store : S) (tables : Tables) (stmt : Stmt) → only_reads (role_of stmt) ≡ true → MayCall g old → old.served ≡ true
+  pub read_tried : (result : Result Outcome StoreFault) (old : Engine S) (store : S) (tables : Tables) (stmt : Stmt) → only_reads (role_of stmt) ≡ true → MayCall g old → old.served ≡ true
       → TriesStep g stmt result old.store store old.tables tables → NamesExactly g old.tables.shape result store → Executes g stmt result old (record old { store = store; tables = tables })
   read_tried (Ok outcome) old store tables stmt reads may served tried exact =
       change_kept old store tables stmt outcome (tried_reading (role_of stmt) reads) tried (inr (tried.tries.reads reads)) may served

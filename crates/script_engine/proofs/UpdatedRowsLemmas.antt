@@ -38,12 +38,13 @@ use Rattle.mdc_sound.specs.StandingTable.{RoomNote, StandsTable, TableForests, p
 use Rattle.mdc_sound.specs.StandsForDatabase.{PagesStandFor}
 use Rattle.binder.specs.Saying.{first_of}
 use Rattle.cell_change.proofs.ChangedSpaceLemmas.{shows_spots}
+use Rattle.cell_change.proofs.RowChangesLemmas.{indexes_here}
 use Rattle.row_checks.specs.Executing.{done}
 use Rattle.statement_rows.specs.RowsAndSpace.{TurnsRowsBy}
 use Rattle.statement_rows.specs.RowsOfStatement.{ChangesRowsOf, HasTheseRows, IsReadyBetween, with_rows}
 use Rattle.statement_rows.specs.Turning.{turned_row}
 use Rattle.statement_rows.specs.declared.changing.Turned.{Turned}
-use Rattle.table_scan.specs.FoundRows.{FindsRows}
+use Rattle.executor.specs.Planned.{LieInTable}
 use Rattle.script_engine.specs.Doing.{DoesStatement, PlacesRows, RunsFullAlone, StatementRunsFull, with_changed}
 use Rattle.script_engine.specs.Inserting.{IsSaidFirst, SaysNothing, first_refusal}
 use Rattle.script_engine.specs.NotedRooms.{KeepsOtherRooms, rooms_at}
@@ -56,7 +57,7 @@ use Rattle.script_engine.proofs.BehindLooksLemmas.{refused_behind}
 use Rattle.script_engine.proofs.DoneRowsLemmas.{changed_alike, count_is, ready_mid, rows_done}
 use Rattle.script_engine.proofs.PuttingTuplesLemmas.{none_said, refused_in_front}
 use Rattle.script_engine.proofs.ReadyKeysLemmas.{nothing_of_keys}
-use Rattle.script_engine.proofs.ScannedTablesLemmas.{found_still, hits_fit, hits_qualify, qualifying, these_rows}
+use Rattle.script_engine.proofs.ScannedTablesLemmas.{FindsIfSound, found_if_sound, hits_qualify, lying_fit, qualifying, these_rows}
 use Rattle.script_engine.proofs.TurnedKeysLemmas.{found_qualify, found_there, set_keys}
 use Rattle.script_engine.proofs.TurnedRowsLemmas.{each_passes, turned_changed, turned_hit, turned_news, turned_places}
 
@@ -76,7 +77,7 @@ causes_are db place sets pred columns table found at same are =
 -- The rows that qualify were found on the pages, and nothing was changed since.
 module _ {S : Type 0} (g : Ghosts S) (old mid : S) (before : Tables) (place : ℕ) (def : TableDef) (sets : List BoundSet) (pred : Option Pred) (found : List Hit) (served : AreServed before.catalog)
     (at : def_at before.catalog place ≡ Some def) (told : (g.state mid).is_told ≡ (g.state old).is_told) (same : (g.state mid).work ≡ (g.state old).work)
-    (finds : (owners : List Kind) (forests : TableForests) → StandsTable g before.shape old def owners forests → FindsRows g before.shape old def pred found forests) where
+    (finds : FindsIfSound g before.shape old def pred found) where
   -- what is said against it
   said_against : IsReady g old before → (db : Database) → PagesStandFor before.shape (pages_of g old) db
       → causes_of_rows db (bound.Update place sets pred) ≡ flat_map (λ hit. changed_causes def.columns sets None hit.row) found ++ key_causes db (bound.Update place sets pred)
@@ -112,7 +113,7 @@ refused_does g old mid before place sets pred refusal outcome told same first is
 
 module _ {S : Type 0} (g : Ghosts S) (old mid new : S) (before now : Tables) (place : ℕ) (def : TableDef) (sets : List BoundSet) (pred : Option Pred) (found : List Hit) (items : List Turned) (served : AreServed before.catalog)
     (at : def_at before.catalog place ≡ Some def) {room : Entry → RoomNote} (lent : rooms_at before.rooms place ≡ room) (told : (g.state mid).is_told ≡ (g.state old).is_told) (same : (g.state mid).work ≡ (g.state old).work)
-    (finds : (owners : List Kind) (forests : TableForests) → StandsTable g before.shape old def owners forests → FindsRows g before.shape old def pred found forests)
+    (finds : FindsIfSound g before.shape old def pred found)
     (made : map turned_row items ≡ map (turned_hit sets) found) (silent : SaysNothing g old before (bound.Update place sets pred)) where
   -- what the plain table becomes
   becomes : IsReady g old before → (db : Database) → PagesStandFor before.shape (pages_of g mid) db → changed_at db place (with_rows (map (λ t. t.row) items)) ≡ changed_at db place (changed_table sets pred)
@@ -147,7 +148,7 @@ module _ {S : Type 0} (g : Ghosts S) (old mid new : S) (before now : Tables) (pl
       let forests = mid_ready.forests in
       let owners = mid_ready.owners in
       let st = mid_ready.between.ready.stands in
-      let hits_here = found_still g old mid told same before.shape def pred found owners forests finds st in
+      let hits_here = found_if_sound g old mid told same before.shape def pred found owners forests finds st (indexes_here g before.shape mid def owners forests mid_ready.between.sound st) in
       let lie = these_rows g before.shape mid def owners forests st pred found hits_here mid_ready.between.sound in
       let q = hits_qualify g before.shape mid def owners forests st pred found hits_here in
       let rows = with_changed sets pred (map placed_row found) in
@@ -181,7 +182,7 @@ module _ {S : Type 0} (g : Ghosts S) (old mid new : S) (before now : Tables) (pl
       let forests = mid_ready.forests in
       let owners = mid_ready.owners in
       let st = mid_ready.between.ready.stands in
-      let hits_here = found_still g old mid told same before.shape def pred found owners forests finds st in
+      let hits_here = found_if_sound g old mid told same before.shape def pred found owners forests finds st (indexes_here g before.shape mid def owners forests mid_ready.between.sound st) in
       let lie = these_rows g before.shape mid def owners forests st pred found hits_here mid_ready.between.sound in
       let q = hits_qualify g before.shape mid def owners forests st pred found hits_here in
       let runs = full owners forests mid_ready.between (subst (λ r. HasTheseRows g before.shape mid def r owners forests) (sym (turned_places sets items found made)) lie) in
@@ -201,8 +202,8 @@ module _ {S : Type 0} (g : Ghosts S) (old mid new : S) (before now : Tables) (pl
 
 -- a hit that doesn't fit shows that the table doesn't stand
 pub unfit_breaks : {S : Type 0} (g : Ghosts S) (shape : Shape) (s : S) (def : TableDef) (pred : Option Pred) (found : List Hit) (damage : Damage)
-    → ((owners : List Kind) (forests : TableForests) → StandsTable g shape s def owners forests → FindsRows g shape s def pred found forests)
+    → ((owners : List Kind) (forests : TableForests) → StandsTable g shape s def owners forests → LieInTable g shape s def pred found forests)
     → list_all (λ hit. fits_all def.columns hit.row.values) found ≡ false → IsNoStandingTable g shape s def damage
-unfit_breaks g shape s def pred found damage finds unfit owners forests st =
-    let fit = each_passes (λ (hit : Hit). fits_all def.columns hit.row.values) found (hits_fit g shape s def owners forests st pred found (finds owners forests st)) in
+unfit_breaks g shape s def pred found damage lies unfit owners forests st =
+    let fit = each_passes (λ (hit : Hit). fits_all def.columns hit.row.values) found (lying_fit g shape s def owners forests st pred found (lies owners forests st).lie) in
     absurd (cc (fit, unfit))

@@ -4,6 +4,8 @@ use Rattle.mdc_words.specs.Faults.{CountsFault}
 use Rattle.mdc_ast.specs.Definitions.{Definitions}
 use Rattle.store_api.specs.Works.{Steady}
 use Rattle.store_api.specs.declared.fault.Damage.{Damage}
+use Rattle.store_api.specs.declared.fault.StoreFault.{StoreFault}
+use Rattle.store_api.specs.declared.fault.StoreFault.TheVariants.{Damaged, Device}
 use Rattle.store_api.specs.declared.pages.Pages.{Ghosts}
 use Rattle.store_api.specs.declared.shape.Shape.{Shape}
 use Rattle.mdc_sound.specs.Breaks.{IsFirstBreak}
@@ -11,15 +13,13 @@ use Rattle.mdc_sound.specs.SoundDatabase.{IsSoundDatabase}
 use Rattle.stored_catalog.specs.StoredDefinitions.{AreStored, AreWithinLimits}
 use Rattle.script_engine.specs.Ready.{DoNamesDiffer}
 use Rattle.script_engine.specs.declared.engine.Engine.{Engine}
-use Rattle.script_engine.specs.declared.stop.EngineStop.{EngineStop}
-use Rattle.script_engine.specs.declared.stop.EngineStop.TheVariants.{Damaged, Device, Output}
 
 -- where the store tells its pages, the damage is the first rule that they break, and the lowest page that breaks it
 abbrev pub IsExactDamage : {S : Type 0} → Ghosts S → Shape → S → Damage → Type 0
 IsExactDamage g shape s damage = IsTrue (g.state s).is_told → IsFirstBreak shape (g.state s).work damage.rule damage.page
 
 -- the damage that a call answers is that of the pages as it leaves them
-abbrev pub NamesExactly : {S X : Type 0} → Ghosts S → Shape → Result X EngineStop → S → Type 0
+abbrev pub NamesExactly : {S X : Type 0} → Ghosts S → Shape → Result X StoreFault → S → Type 0
 NamesExactly g shape result s = (damage : Damage) → result ≡ Err (Damaged damage) → IsExactDamage g shape s damage
 
 -- Pages were read alone: all is as it was, but for the page at hand.
@@ -29,14 +29,13 @@ pub record OnlyReads {S : Type 0} (g : Ghosts S) (old new : S) : Type 0 where
   pub marked : (g.state new).marked ≡ (g.state old).marked
 
 -- The pages were judged: the damage that is named is exact, where they aren't sound.
-pub record JudgesDamage {S : Type 0} (g : Ghosts S) (shape : Shape) (stop : EngineStop) (old new : S) : Type 0 where
+pub record JudgesDamage {S : Type 0} (g : Ghosts S) (shape : Shape) (stop : StoreFault) (old new : S) : Type 0 where
   pub reads : OnlyReads g old new
   pub device : CountsFault (stop ≡ Device) (g.disk_faults old) (g.disk_faults new)
   pub exact : (damage : Damage) → stop ≡ Damaged damage → (IsTrue (g.state new).is_told → IsSoundDatabase shape (g.state new).work → ⊥) → IsExactDamage g shape new damage
-  pub output : stop ≡ Output → ⊥
 
 -- The catalog of the table pages was read, or exact damage is named, which sound pages don't have.
-pub record LoadsExactly {S : Type 0} (g : Ghosts S) (shape : Shape) (result : Result Definitions EngineStop) (old new : S) : Type 0 where
+pub record LoadsExactly {S : Type 0} (g : Ghosts S) (shape : Shape) (result : Result Definitions StoreFault) (old new : S) : Type 0 where
   pub reads : OnlyReads g old new
   pub stored : IfOk result (λ catalog. IsTrue (g.state old).is_told → AreStored (g.state old).work catalog)
   pub limits : IfOk result AreWithinLimits
@@ -44,7 +43,6 @@ pub record LoadsExactly {S : Type 0} (g : Ghosts S) (shape : Shape) (result : Re
   pub device : CountsFault (IsErrOf result Device) (g.disk_faults old) (g.disk_faults new)
   pub damaged : (damage : Damage) → result ≡ Err (Damaged damage) → IsTrue (g.state old).is_told → (shape : Shape) → IsSoundDatabase shape (g.state old).work → ⊥
   pub exact : NamesExactly g shape result new
-  pub output : IsErrOf result Output → ⊥
 
 -- Where damage is named, nothing was committed, the store goes on with no mark, and a transaction is open as it was.
 pub record StaysAtDamage {S : Type 0} (g : Ghosts S) (old new : Engine S) : Type 0 where

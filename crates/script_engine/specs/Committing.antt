@@ -7,12 +7,12 @@ use Rattle.store_api.specs.Frame.{OnlyPage}
 use Rattle.store_api.specs.Moments.{BaseOrNow}
 use Rattle.store_api.specs.StoreState.{stated_count}
 use Rattle.store_api.specs.declared.fault.Damage.{Damage}
+use Rattle.store_api.specs.declared.fault.StoreFault.{StoreFault}
+use Rattle.store_api.specs.declared.fault.StoreFault.TheVariants.{Damaged, Device}
 use Rattle.store_api.specs.declared.pages.Pages.{Ghosts}
 use Rattle.store_api.specs.declared.shape.Shape.{Shape}
 use Rattle.mdc_sound.specs.SpaceRules.{IsRootSound}
 use Rattle.script_engine.specs.Breaking.{OnlyReads}
-use Rattle.script_engine.specs.declared.stop.EngineStop.{EngineStop}
-use Rattle.script_engine.specs.declared.stop.EngineStop.TheVariants.{Damaged, Device, Output}
 
 -- the pages are told, and the root page is sound
 pub record HasSoundRoot {S : Type 0} (g : Ghosts S) (s : S) : Type 0 where
@@ -22,19 +22,18 @@ pub record HasSoundRoot {S : Type 0} (g : Ghosts S) (s : S) : Type 0 where
 
 -- Page 0 was looked at, if there is one: whether it states how many pages there are, as that of a sound root page does. No other page
 -- came to hand, and none was changed.
-pub record CountsPages {S : Type 0} (g : Ghosts S) (result : Result Bool EngineStop) (old new : S) : Type 0 where
+pub record CountsPages {S : Type 0} (g : Ghosts S) (result : Result Bool StoreFault) (old new : S) : Type 0 where
   pub reads : OnlyReads g old new
   pub brings : OnOk result (BringsOnly g (OnlyPage 0) old new)
   pub counted : IfOk result (λ counts. counts ≡ true → IsTrue (g.state old).is_told → stated_count (g.state old).work ≡ length (g.state old).work)
   pub miscounted : IfOk result (λ counts. counts ≡ false → HasSoundRoot g old → ⊥)
   pub device : CountsFault (IsErrOf result Device) (g.disk_faults old) (g.disk_faults new)
   pub whole : (damage : Damage) → result ≡ Err (Damaged damage) → ⊥
-  pub output : IsErrOf result Output → ⊥
 
 -- The work was made the base, or a stop came, which leaves the base or the work as the base, the base where no call of the disk
 -- failed. Damage is named where page 0 doesn't state the count, and pages were read alone then. No other page came to hand where the
 -- work was made the base.
-pub record CommitsWork {S X : Type 0} (g : Ghosts S) (result : Result X EngineStop) (old new : S) : Type 0 where
+pub record CommitsWork {S X : Type 0} (g : Ghosts S) (result : Result X StoreFault) (old new : S) : Type 0 where
   pub work : (g.state new).work ≡ (g.state old).work
   pub brings : OnOk result (BringsOnly g (OnlyPage 0) old new)
   pub base : OnOk result ((g.state new).base ≡ (g.state old).work)
@@ -49,5 +48,4 @@ pub record CommitsWork {S X : Type 0} (g : Ghosts S) (result : Result X EngineSt
   pub say_faults : g.say_faults new ≡ g.say_faults old
   pub damaged : (damage : Damage) → result ≡ Err (Damaged damage) → HasSoundRoot g old → ⊥
   pub halts : (damage : Damage) → result ≡ Err (Damaged damage) → OnlyReads g old new
-  pub output : IsErrOf result Output → ⊥
   pub time : OverTime g.clock g.left (BaseOrNow (g.state old) (g.state new)) old new

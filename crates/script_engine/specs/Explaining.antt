@@ -18,15 +18,19 @@ use Rattle.table_trees.specs.TableTrees.{map_place}
 use Rattle.table_trees.specs.ToldPages.{HasTree, PageList}
 use Rattle.mdc_sound.specs.TableRows.{rows_in_table}
 use Rattle.plan_chooser.specs.declared.plan.Plan.{Plan}
+use Rattle.plan_chooser.specs.declared.word.PlanWord.{PlanWord}
 use Rattle.plan_chooser.specs.PlanRows.{plan_row}
 use Rattle.plan_chooser.specs.Rule.{plan_of}
 use Rattle.plan_chooser.specs.Words.{word_of, word_text}
 use Rattle.answer_text.specs.ExplainedPlan.{explain_text}
 use Rattle.executor.specs.RowBlocks.{IsBlockWith, IsCountOf}
 
--- what is said of a plan, of so many blocks with a row that it has, and of so many rows that qualify
+-- what is said of a plan with this word, of so many blocks with a row that it has, and of so many rows that qualify
+abbrev pub word_told : PlanWord → ℕ → ℕ → Outcome
+word_told word blocks rows = said.Done (reply.Lines (explain_text (word_text word) blocks rows))
+
 abbrev pub plan_told : Plan → ℕ → ℕ → Outcome
-plan_told plan blocks rows = said.Done (reply.Lines (explain_text (word_text (word_of plan)) blocks rows))
+plan_told plan blocks rows = word_told (word_of plan) blocks rows
 
 -- there are so many Used blocks, by this block map, with a row that the plan has
 abbrev pub CountsBlocksOf : Shape → PageList → TableDef → Forest → Plan → ℕ → Type 0

@@ -20,6 +20,5 @@ pub mod Resting
 pub mod Roles
 pub mod Serving
 pub mod SetKeys
-pub mod Stops
 pub mod Trying
 pub mod Turns

@@ -11,6 +11,8 @@ use Rattle.statement_meaning.specs.Cause.{NotBuilt, refusal_of}
 use Rattle.store_api.specs.Moments.{Outcomes}
 use Rattle.store_api.specs.StoreState.{StoreState}
 use Rattle.store_api.specs.declared.fault.Damage.{Damage}
+use Rattle.store_api.specs.declared.fault.StoreFault.{StoreFault}
+use Rattle.store_api.specs.declared.fault.StoreFault.TheVariants.{Damaged, Device}
 use Rattle.store_api.specs.declared.pages.Pages.{Ghosts}
 use Rattle.table_trees.specs.ToldPages.{PageList}
 use Rattle.mdc_sound.specs.Breaks.{IsFirstBreak}
@@ -21,8 +23,6 @@ use Rattle.script_engine.specs.Leaving.{IsAllCommitted}
 use Rattle.script_engine.specs.Roles.{Begins, Changes, Commits, Explains, GoesBack, Lists, Queries, Role, Sets, is_built_form, is_control, is_going_back, role_of, set_on}
 use Rattle.script_engine.specs.Serving.{MayCall, held_by}
 use Rattle.script_engine.specs.declared.engine.Engine.{Engine}
-use Rattle.script_engine.specs.declared.stop.EngineStop.{EngineStop}
-use Rattle.script_engine.specs.declared.stop.EngineStop.TheVariants.{Damaged, Device}
 
 -- ---- an outcome
 
@@ -118,7 +118,7 @@ pub record StopsAtDamage {S : Type 0} (g : Ghosts S) (stmt : Stmt) (old new : En
 -- What a statement does to an engine whatever the pages are: it steps on them as its form and the transaction have it, a crash within
 -- it leaves the pages of the last commit before it or after it, a stop commits nothing, unless a call of the disk failed, and damage
 -- is that of the pages that were held.
-pub record ExecutesOnAny {S : Type 0} (g : Ghosts S) (stmt : Stmt) (result : Result Outcome EngineStop) (old new : Engine S) : Type 0 where
+pub record ExecutesOnAny {S : Type 0} (g : Ghosts S) (stmt : Stmt) (result : Result Outcome StoreFault) (old new : Engine S) : Type 0 where
   pub steps : IfOk result (λ outcome. StepsOnAny (g.state old.store).is_told (held_by g old) stmt outcome (held_by g new) × IsGoingEngine g new)
   pub answered : OnOk result (OverTime g.clock g.left (BaseBeforeOrAfter (g.state old.store) (g.state new.store)) old.store new.store)
   pub stopped : OnErr result (OverTime g.clock g.left (LeftWithinOnAny (held_by g old) stmt (g.state old.store)) old.store new.store)

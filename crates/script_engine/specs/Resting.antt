@@ -8,6 +8,8 @@ use Rattle.store_api.specs.Moments.{Outcomes}
 use Rattle.store_api.specs.StoreState.{StoreState}
 use Rattle.store_api.specs.Works.{Rests}
 use Rattle.store_api.specs.declared.fault.Damage.{Damage}
+use Rattle.store_api.specs.declared.fault.StoreFault.{StoreFault}
+use Rattle.store_api.specs.declared.fault.StoreFault.TheVariants.{Damaged, Device}
 use Rattle.store_api.specs.declared.pages.Pages.{Ghosts}
 use Rattle.store_api.specs.declared.shape.Shape.{Shape}
 use Rattle.table_trees.specs.ToldPages.{PageList}
@@ -20,8 +22,6 @@ use Rattle.script_engine.specs.OnAnyPages.{IsGoingEngine}
 use Rattle.script_engine.specs.Serving.{IsReadyEngine, MayCall, held_by}
 use Rattle.script_engine.specs.Turns.{IsServedByForms, KeepsTime}
 use Rattle.script_engine.specs.declared.engine.Engine.{Engine}
-use Rattle.script_engine.specs.declared.stop.EngineStop.{EngineStop}
-use Rattle.script_engine.specs.declared.stop.EngineStop.TheVariants.{Damaged, Device, Output}
 
 -- ---- the chain
 
@@ -90,7 +90,7 @@ LeftTold s left told = ((pages : PageList) × (left ≡ Some pages)) × IfSome s
 -- An engine took steps of such a kind: it is as such steps leave it behind the last, or it stopped, and then the last was perhaps not
 -- committed, where a call of the disk failed. Where it stopped at damage, the pages are those that were held before such steps, or
 -- behind one of them.
-pub record TakesStepsBy {S : Type 0} (g : Ghosts S) (Once : HeldPages → HeldPages → Type 0) (Ready : Engine S → Type 0) (result : Result (Unit {0}) EngineStop) (old new : Engine S) : Type 0 where
+pub record TakesStepsBy {S : Type 0} (g : Ghosts S) (Once : HeldPages → HeldPages → Type 0) (Ready : Engine S → Type 0) (result : Result (Unit {0}) StoreFault) (old new : Engine S) : Type 0 where
   pub rests : List HeldPages
   pub steps : RestsBy Once (held_by g old) rests
   pub last : OnOk result ((held_by g new ≡ held_behind (held_by g old) rests) × Ready new)
@@ -100,17 +100,17 @@ pub record TakesStepsBy {S : Type 0} (g : Ghosts S) (Once : HeldPages → HeldPa
   pub time : OverTime g.clock g.left (LeftResting (held_by g old) rests (g.state old.store)) old.store new.store
 
 -- a sound engine took steps that leave it sound
-abbrev pub TakesSteps : {S : Type 0} → Ghosts S → Result (Unit {0}) EngineStop → Engine S → Engine S → Type 0
+abbrev pub TakesSteps : {S : Type 0} → Ghosts S → Result (Unit {0}) StoreFault → Engine S → Engine S → Type 0
 TakesSteps g result old new = TakesStepsBy g (RestsOnce old.tables.shape) (IsReadyEngine g) result old new
 
 -- one that may go on took steps whatever the pages are
-abbrev pub TakesStepsOnAny : {S : Type 0} → Ghosts S → Result (Unit {0}) EngineStop → Engine S → Engine S → Type 0
+abbrev pub TakesStepsOnAny : {S : Type 0} → Ghosts S → Result (Unit {0}) StoreFault → Engine S → Engine S → Type 0
 TakesStepsOnAny g result old new = TakesStepsBy g (RestsOnceOnAny (g.state old.store).is_told) (IsGoingEngine g) result old new
 
 -- The engine did what is left to be done after an answer: steps that leave it sound, or, whatever the pages are, such as may go on. A
 -- transaction stays open or none, all that was committed is, nothing is told, and the file reopens; no damage is named of sound pages,
 -- and damage that is named is exact.
-pub record Settles {S : Type 0} (g : Ghosts S) (result : Result (Unit {0}) EngineStop) (old new : Engine S) : Type 0 where
+pub record Settles {S : Type 0} (g : Ghosts S) (result : Result (Unit {0}) StoreFault) (old new : Engine S) : Type 0 where
   pub takes : IsReadyEngine g old → TakesSteps g result old new
   pub takes_any : IsGoingEngine g old → TakesStepsOnAny g result old new
   pub still : old.is_open ≡ true → held_by g new ≡ held_by g old
@@ -124,7 +124,6 @@ pub record Settles {S : Type 0} (g : Ghosts S) (result : Result (Unit {0}) Engin
   pub committed : (damage : Damage) → result ≡ Err (Damaged damage) → IsAllCommitted (held_by g old) → IsAllCommitted (held_by g new)
   pub shape : new.tables.shape ≡ old.tables.shape
   pub device : CountsFault (IsErrOf result Device) (g.disk_faults old.store) (g.disk_faults new.store)
-  pub output : IsErrOf result Output → ⊥
   pub say_faults : g.say_faults new.store ≡ g.say_faults old.store
   pub is_told : (g.state new.store).is_told ≡ (g.state old.store).is_told
   pub told : (g.state new.store).told ≡ (g.state old.store).told

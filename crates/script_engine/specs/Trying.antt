@@ -9,6 +9,8 @@ use Rattle.statement_meaning.specs.Binding.{bound_of}
 use Rattle.statement_meaning.specs.Cause.{FileFull, NotBuilt, refusal_of}
 use Rattle.store_api.specs.Works.{Steady}
 use Rattle.store_api.specs.declared.fault.Damage.{Damage}
+use Rattle.store_api.specs.declared.fault.StoreFault.{StoreFault}
+use Rattle.store_api.specs.declared.fault.StoreFault.TheVariants.{Damaged, Device}
 use Rattle.store_api.specs.declared.pages.Pages.{Ghosts}
 use Rattle.store_api.specs.declared.shape.Shape.{Shape}
 use Rattle.extent_map.specs.Owners.{AreRightNotes}
@@ -17,13 +19,11 @@ use Rattle.mdc_sound.specs.SoundDatabase.{IsSoundDatabase}
 use Rattle.mdc_sound.specs.StandingTable.{pages_of}
 use Rattle.stored_catalog.specs.StoredDefinitions.{AreStored}
 use Rattle.script_engine.specs.Doing.{DoesReady, LeavesAll, StepRunsFull}
-use Rattle.script_engine.specs.Fetching.{FetchesForListing, FetchesForQuery}
+use Rattle.script_engine.specs.Fetching.{FetchesForListing, FetchesForStatement}
 use Rattle.script_engine.specs.NotedRooms.{AreForgotten}
 use Rattle.statement_meaning.specs.Built.{are_built}
 use Rattle.script_engine.specs.Ready.{AreServed, IsReady}
 use Rattle.script_engine.specs.Roles.{Role, is_built_form, only_reads, role_of}
-use Rattle.script_engine.specs.declared.stop.EngineStop.{EngineStop}
-use Rattle.script_engine.specs.declared.stop.EngineStop.TheVariants.{Damaged, Device, Output}
 use Rattle.script_engine.specs.declared.tables.Tables.{Tables}
 
 -- a statement that runs full, against which nothing else is said, was refused with 70, and left all as it was
@@ -40,7 +40,7 @@ pub record GoesBack {S : Type 0} (g : Ghosts S) (old new : S) (before now : Tabl
 
 -- A statement was tried, whatever the pages are, and nothing is committed. A refusal, a query and LIST BLOCKS change nothing, and a form
 -- that isn't built is refused with 14.
-pub record Tries {S : Type 0} (g : Ghosts S) (stmt : Stmt) (result : Result Outcome EngineStop) (old new : S) (before now : Tables) : Type 0 where
+pub record Tries {S : Type 0} (g : Ghosts S) (stmt : Stmt) (result : Result Outcome StoreFault) (old new : S) (before now : Tables) : Type 0 where
   pub steady : Steady g old new
   pub unmarked : OnOk result ((g.state new).marked ≡ None)
   pub served : OnOk result (AreServed now.catalog)
@@ -51,14 +51,13 @@ pub record Tries {S : Type 0} (g : Ghosts S) (stmt : Stmt) (result : Result Outc
   pub reads : OnOk result (only_reads (role_of stmt) ≡ true → LeavesAll g old new before now)
   pub unbuilt : is_built_form stmt ≡ false → IfOk result (λ outcome. outcome ≡ said.Refused (refusal_of NotBuilt))
   pub device : CountsFault (IsErrOf result Device) (g.disk_faults old) (g.disk_faults new)
-  pub output : IsErrOf result Output → ⊥
 
--- A statement was tried, and on ready pages it is executed, or refused with 70. No damage is named of such pages, and of them a query
--- and LIST BLOCKS bring only those to hand that they look at.
-pub record TriesStep {S : Type 0} (g : Ghosts S) (stmt : Stmt) (result : Result Outcome EngineStop) (old new : S) (before now : Tables) : Type 0 where
+-- A statement was tried, and on ready pages it is executed, or refused with 70. No damage is named of such pages, and of them only
+-- those come to hand that are said of it.
+pub record TriesStep {S : Type 0} (g : Ghosts S) (stmt : Stmt) (result : Result Outcome StoreFault) (old new : S) (before now : Tables) : Type 0 where
   pub tries : Tries g stmt result old new before now
   pub does : IfOk result (λ outcome. IsReady g old before → DoesReady g old new before now stmt outcome ⊎ IsRefusedFull g old new before now stmt outcome)
-  pub fetches : OnOk result (IsReady g old before → FetchesForQuery g before.shape old new before.catalog (bound_of before.catalog stmt))
+  pub fetches : OnOk result (IsReady g old before → FetchesForStatement g before.shape old new before.catalog before.settings (bound_of before.catalog stmt))
   pub lists : OnOk result (IsReady g old before → FetchesForListing g old new before.catalog (role_of stmt))
   pub damaged : (damage : Damage) → result ≡ Err (Damaged damage) → IsReady g old before → ⊥
 
@@ -90,6 +89,6 @@ pub record AnswersAnew {S : Type 0} (g : Ghosts S) (stmt : Stmt) (outcome : Outc
   pub does : are_built read.catalog ≡ true → DoesAnew g stmt outcome old new read now
 
 -- where the pages are told and sound, an answer is one by what was read of them anew
-abbrev pub AnswersBySoundPages : {S : Type 0} → Ghosts S → Stmt → Result Outcome EngineStop → S → S → Tables → Tables → Type 0
+abbrev pub AnswersBySoundPages : {S : Type 0} → Ghosts S → Stmt → Result Outcome StoreFault → S → S → Tables → Tables → Type 0
 AnswersBySoundPages g stmt result old new before now =
     IfOk result (λ outcome. IsTrue (g.state old).is_told → IsSoundDatabase before.shape (pages_of g old) → AnswersAnew g stmt outcome old new before now)

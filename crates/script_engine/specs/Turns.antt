@@ -10,18 +10,18 @@ use Rattle.statement_meaning.specs.Cause.{NotBuilt, refusal_of}
 use Rattle.store_api.specs.Moments.{BaseOrNow}
 use Rattle.store_api.specs.Works.{Rests, Steady}
 use Rattle.store_api.specs.declared.fault.Damage.{Damage}
+use Rattle.store_api.specs.declared.fault.StoreFault.{StoreFault}
+use Rattle.store_api.specs.declared.fault.StoreFault.TheVariants.{Damaged, Device}
 use Rattle.store_api.specs.declared.pages.Pages.{Ghosts}
 use Rattle.script_engine.specs.Breaking.{NamesExactly, StaysAtDamage}
 use Rattle.script_engine.specs.Controls.{AnswersControl, AnswersSetting}
-use Rattle.script_engine.specs.Fetching.{FetchesForListing, FetchesForQuery}
+use Rattle.script_engine.specs.Fetching.{FetchesForListing, FetchesForStatement}
 use Rattle.script_engine.specs.Held.{KeepsBase, StepsOnPages}
 use Rattle.script_engine.specs.Leaving.{IsAllCommitted, LeftWithin, MayBeLeft}
 use Rattle.statement_meaning.specs.Built.{are_built}
 use Rattle.script_engine.specs.Roles.{is_control, role_of}
 use Rattle.script_engine.specs.Serving.{IsReadyEngine, MayCall, held_by}
 use Rattle.script_engine.specs.declared.engine.Engine.{Engine}
-use Rattle.script_engine.specs.declared.stop.EngineStop.{EngineStop}
-use Rattle.script_engine.specs.declared.stop.EngineStop.TheVariants.{Damaged, Device, Output}
 
 -- the engine serves statements exactly where all its tables are of built forms
 abbrev pub IsServedByForms : {S : Type 0} → Engine S → Type 0
@@ -33,9 +33,8 @@ KeepsTime g = (s : _) → ReachesBack g.clock g.left s
 
 -- What a statement leaves outside of an engine: a count of faults of the disk rises with `Device` alone, nothing is told, a crash
 -- within it leaves the base before, or the pages now, and one after it what the store says of itself at rest.
-pub record LeavesOutside {S X : Type 0} (g : Ghosts S) (result : Result X EngineStop) (old new : Engine S) : Type 0 where
+pub record LeavesOutside {S X : Type 0} (g : Ghosts S) (result : Result X StoreFault) (old new : Engine S) : Type 0 where
   pub device : CountsFault (IsErrOf result Device) (g.disk_faults old.store) (g.disk_faults new.store)
-  pub output : IsErrOf result Output → ⊥
   pub say_faults : g.say_faults new.store ≡ g.say_faults old.store
   pub is_told : (g.state new.store).is_told ≡ (g.state old.store).is_told
   pub told : (g.state new.store).told ≡ (g.state old.store).told
@@ -50,7 +49,7 @@ pub record LeavesCommitted {S : Type 0} (g : Ghosts S) (stmt : Stmt) (old new : 
 
 -- What a statement did to an engine: it steps on sound pages, no damage is named of sound pages, and damage that is named is exact.
 -- On any pages BEGIN, COMMIT and ROLLBACK do as the transaction's state has it, and only a setting changes what the run is set to.
-pub record Executes {S : Type 0} (g : Ghosts S) (stmt : Stmt) (result : Result Outcome EngineStop) (old new : Engine S) : Type 0 where
+pub record Executes {S : Type 0} (g : Ghosts S) (stmt : Stmt) (result : Result Outcome StoreFault) (old new : Engine S) : Type 0 where
   pub steps : IfOk result (λ outcome. IsReadyEngine g old → StepsOnPages old.tables.shape (held_by g old) stmt outcome (held_by g new) × IsReadyEngine g new)
   pub may : OnOk result (MayCall g new)
   pub keeps : OnOk result (IsAllCommitted (held_by g old) → KeepsBase (held_by g old) (held_by g new))
@@ -58,7 +57,7 @@ pub record Executes {S : Type 0} (g : Ghosts S) (stmt : Stmt) (result : Result O
   pub settings : MatchResult result (λ outcome. AnswersSetting (role_of stmt) old.served old.tables.settings outcome new.tables.settings) (λ stop. new.tables.settings ≡ old.tables.settings)
   pub built : OnOk result (IsServedByForms old → IsServedByForms new)
   pub leaves : IsReadyEngine g old → LeavesCommitted g stmt old new
-  pub fetches : OnOk result (IsReadyEngine g old → FetchesForQuery g old.tables.shape old.store new.store old.tables.catalog (bound_of old.tables.catalog stmt))
+  pub fetches : OnOk result (IsReadyEngine g old → FetchesForStatement g old.tables.shape old.store new.store old.tables.catalog old.tables.settings (bound_of old.tables.catalog stmt))
   pub lists : OnOk result (IsReadyEngine g old → FetchesForListing g old.store new.store old.tables.catalog (role_of stmt))
   pub unserved : old.served ≡ false → is_control (role_of stmt) ≡ false → (outcome : Outcome) → result ≡ Ok outcome → outcome ≡ said.Refused (refusal_of NotBuilt)
   pub damaged : (damage : Damage) → result ≡ Err (Damaged damage) → IsReadyEngine g old → ⊥

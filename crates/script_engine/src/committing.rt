@@ -5,14 +5,13 @@ ghost use Rattle.store_api.specs.Works.{Rests};
 ghost use Rattle.store_api.specs.declared.fault.Damage.{Damage};
 ghost use Rattle.script_engine.specs.Breaking.{NamesExactly};
 ghost use Rattle.script_engine.specs.Committing.{CommitsWork, CountsPages};
-ghost use Rattle.script_engine.specs.declared.stop.EngineStop.TheVariants as stop;
+ghost use Rattle.store_api.specs.declared.fault.StoreFault.TheVariants as stop;
 
 use crate::damage::stop_at;
-use crate::stop::EngineStop;
 use crate::tables::Tables;
 use store_api::layout::ROOT_PAGE;
 use store_api::rules::ROOT_PAGE_RULE;
-use store_api::{Damage, Store, stated_count};
+use store_api::{Damage, Store, StoreFault, stated_count};
 
 /// The damage of a page 0 that doesn't state how many pages there are.
 pub(crate) const WRONG_COUNT: Damage = Damage {
@@ -22,7 +21,7 @@ pub(crate) const WRONG_COUNT: Damage = Damage {
 
 /// Makes the work the base. `Damaged` names the damage of the work, where page 0 doesn't state how many pages there are; nothing is
 /// committed then.
-pub(crate) fn commit_work<S: Store>(tables: &Tables, store: &mut S) -> Result<(), EngineStop>
+pub(crate) fn commit_work<S: Store>(tables: &Tables, store: &mut S) -> Result<(), StoreFault>
     requires going { (S.state store.old).ended ≡ false }
     requires unmarked { (S.state store.old).marked ≡ None }
     ensures commits { CommitsWork S.Pages result store.old store.new }
@@ -36,7 +35,7 @@ pub(crate) fn commit_work<S: Store>(tables: &Tables, store: &mut S) -> Result<()
 }
 
 /// Whether page 0 states how many pages there are.
-pub(crate) fn is_counted<S: Store>(store: &mut S) -> Result<bool, EngineStop>
+pub(crate) fn is_counted<S: Store>(store: &mut S) -> Result<bool, StoreFault>
     requires going { (S.state store.old).ended ≡ false }
     ensures counts { CountsPages S.Pages result store.old store.new }
 {
@@ -52,7 +51,7 @@ pub(crate) fn is_counted<S: Store>(store: &mut S) -> Result<bool, EngineStop>
 }
 
 /// Makes the work the base, whose page 0 states how many pages there are.
-pub(crate) fn commit_counted<S: Store>(store: &mut S) -> Result<(), EngineStop>
+pub(crate) fn commit_counted<S: Store>(store: &mut S) -> Result<(), StoreFault>
     requires going { (S.state store.old).ended ≡ false }
     requires unmarked { (S.state store.old).marked ≡ None }
     requires counted { IsTrue (S.state store.old).is_told → stated_count (S.state store.old).work ≡ length (S.state store.old).work }

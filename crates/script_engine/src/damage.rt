@@ -8,11 +8,10 @@ ghost use Rattle.script_engine.specs.Ready.{AreServed};
 ghost use Rattle.script_engine.specs.Roles.{role_of};
 ghost use Rattle.script_engine.specs.Trying as trying;
 ghost use Rattle.script_engine.specs.Trying.{AnswersBySoundPages, Tries, TriesStep};
-ghost use Rattle.script_engine.specs.declared.stop.EngineStop.TheVariants as stop;
+ghost use Rattle.store_api.specs.declared.fault.StoreFault.TheVariants as stop;
 
 use crate::class::only_reads;
 use crate::opening::are_served;
-use crate::stop::EngineStop;
 use crate::tables::Tables;
 use crate::transactions::try_statement;
 use catalog::Catalog;
@@ -31,14 +30,14 @@ pub(crate) fn stop_at<P: Pages>(
     shape: Shape,
     pages: &mut P,
     met: Damage,
-) -> EngineStop
+) -> StoreFault
     requires going { (P.state pages.old).ended ≡ false }
     ensures judges { JudgesDamage P.Pages shape result pages.old pages.new }
 {
     match check(alloc, shape, pages) {
-        Ok(Verdict::Broken(damage)) => EngineStop::Damaged(damage),
-        Ok(Verdict::Sound) => EngineStop::Damaged(met),
-        Err(fault) => EngineStop::from(fault),
+        Ok(Verdict::Broken(damage)) => StoreFault::Damaged(damage),
+        Ok(Verdict::Sound) => StoreFault::Damaged(met),
+        Err(fault) => StoreFault::from(fault),
     }
 }
 
@@ -47,15 +46,13 @@ pub(crate) fn load_exactly<P: Pages>(
     alloc: Global,
     shape: Shape,
     pages: &mut P,
-) -> Result<Catalog, EngineStop>
+) -> Result<Catalog, StoreFault>
     requires going { (P.state pages.old).ended ≡ false }
     ensures loads { LoadsExactly P.Pages shape result pages.old pages.new }
 {
     match load_catalog(alloc, pages) {
-        Ok(catalog) => Ok(catalog),
         Err(StoreFault::Damaged(met)) => Err(stop_at(alloc, shape, pages, met)),
-        Err(StoreFault::Device) => Err(EngineStop::Device),
-        Err(StoreFault::Memory) => Err(EngineStop::Memory),
+        answer => answer,
     }
 }
 
@@ -64,7 +61,7 @@ pub(crate) fn try_exactly<P: Pages>(
     tables: &mut Tables,
     pages: &mut P,
     stmt: &Stmt,
-) -> Result<Outcome, EngineStop>
+) -> Result<Outcome, StoreFault>
     requires served { AreServed tables.old.catalog }
     requires written { IsWritten stmt.now }
     requires going { (P.state pages.old).ended ≡ false }
@@ -73,7 +70,7 @@ pub(crate) fn try_exactly<P: Pages>(
     ensures exact { NamesExactly P.Pages tables.old.shape result pages.new }
 {
     match try_statement(tables, pages, stmt) {
-        Err(EngineStop::Damaged(_)) => try_again(tables, pages, stmt),
+        Err(StoreFault::Damaged(_)) => try_again(tables, pages, stmt),
         answer => answer,
     }
 }
@@ -84,7 +81,7 @@ pub(crate) fn try_again<P: Pages>(
     tables: &mut Tables,
     pages: &mut P,
     stmt: &Stmt,
-) -> Result<Outcome, EngineStop>
+) -> Result<Outcome, StoreFault>
     requires served { AreServed tables.old.catalog }
     requires written { IsWritten stmt.now }
     requires going { (P.state pages.old).ended ≡ false }
@@ -95,7 +92,7 @@ pub(crate) fn try_again<P: Pages>(
     ensures exact { NamesExactly P.Pages tables.old.shape result pages.new }
 {
     match check(tables.alloc, tables.shape, pages)? {
-        Verdict::Broken(damage) => Err(EngineStop::Damaged(damage)),
+        Verdict::Broken(damage) => Err(StoreFault::Damaged(damage)),
         Verdict::Sound => try_reloaded(tables, pages, stmt),
     }
 }
@@ -105,7 +102,7 @@ fn try_reloaded<P: Pages>(
     tables: &mut Tables,
     pages: &mut P,
     stmt: &Stmt,
-) -> Result<Outcome, EngineStop>
+) -> Result<Outcome, StoreFault>
     requires served { AreServed tables.old.catalog }
     requires written { IsWritten stmt.now }
     requires going { (P.state pages.old).ended ≡ false }

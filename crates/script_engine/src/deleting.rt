@@ -11,17 +11,19 @@ ghost use Rattle.store_api.specs.RunsOverPages.{RunsOverPages};
 ghost use Rattle.row_checks.specs.Served.{IsDefined, MayJudge};
 ghost use Rattle.statement_rows.specs.RowsOfStatement.{AnyPage};
 ghost use Rattle.script_engine.specs.Doing.{DoesStatement, goes_by_blocks};
+ghost use Rattle.script_engine.specs.Fetching.{FetchesForStatement};
 ghost use Rattle.script_engine.specs.Ready.{AreServed, BreaksDatabase, IsReady, KeepsServed};
 
 use crate::tables::Tables;
+use executor::find_by_plan;
 use mdc_ast::{Outcome, Pred, Reply, RolloutMode};
 use rollout::{applies, roll_out};
 use statement_rows::delete_rows;
 use store_api::{Pages, StoreFault};
-use table_scan::find_rows;
 
 /// A DELETE of the rows of a table that qualify: block by block in the mode IMMEDIATE, where there is no WHERE, or it names dimension
-/// columns alone, and else row by row.
+/// columns alone, and else row by row. By blocks only pages come to hand that rolling them out looks at; rows are found by the plan in
+/// the mode that is set.
 pub fn delete<P: Pages>(
     tables: &mut Tables,
     pages: &mut P,
@@ -33,6 +35,7 @@ pub fn delete<P: Pages>(
     requires going { (P.state pages.old).ended ≡ false }
     ensures does { IfOk result (λ outcome. IsReady P.Pages pages.old tables.old → DoesStatement P.Pages pages.old pages.new tables.old tables.new (bound.Delete table pred.now) outcome) }
     ensures done { (refusal : Refusal) → result ≡ Ok (Outcome.Refused refusal) → ⊥ }
+    ensures fetches { FetchesForStatement P.Pages tables.old.shape pages.old pages.new tables.old.catalog tables.old.settings (bound.Delete table pred.now) }
     ensures keeps { KeepsServed result tables.old tables.new }
     ensures runs { RunsOverPages P.Pages AnyPage AnyPage (BreaksDatabase P.Pages pages.old tables.old) pages.old pages.new (fault_of result) }
 {
@@ -75,6 +78,7 @@ fn delete_blocks<P: Pages>(
     ensures catalog { tables.new.catalog ≡ tables.old.catalog }
     ensures shape { tables.new.shape ≡ tables.old.shape }
     ensures settings { tables.new.settings ≡ tables.old.settings }
+    ensures fetches { FetchesForStatement P.Pages tables.old.shape pages.old pages.new tables.old.catalog tables.old.settings (bound.Delete table pred.now) }
     ensures runs { RunsOverPages P.Pages AnyPage AnyPage (BreaksDatabase P.Pages pages.old tables.old) pages.old pages.new (fault_of result) }
 {
     let rooms = &mut tables.rooms.by_table[table as usize];
@@ -93,7 +97,7 @@ fn delete_blocks<P: Pages>(
     Ok(rolled.rows)
 }
 
-/// Deletes the rows that qualify of a table one by one, and tells their number.
+/// Deletes the rows that qualify of a table one by one, as the plan in the mode that is set finds them, and tells their number.
 fn delete_found<P: Pages>(
     tables: &mut Tables,
     pages: &mut P,
@@ -109,13 +113,21 @@ fn delete_found<P: Pages>(
     ensures catalog { tables.new.catalog ≡ tables.old.catalog }
     ensures shape { tables.new.shape ≡ tables.old.shape }
     ensures settings { tables.new.settings ≡ tables.old.settings }
+    ensures fetches { FetchesForStatement P.Pages tables.old.shape pages.old pages.new tables.old.catalog tables.old.settings (bound.Delete table pred.now) }
     ensures runs { RunsOverPages P.Pages AnyPage AnyPage (BreaksDatabase P.Pages pages.old tables.old) pages.old pages.new (fault_of result) }
 {
     let rooms = &mut tables.rooms.by_table[table as usize];
     let Some(def) = tables.catalog.def(table) else {
         unreachable!()
     };
-    let hits = find_rows(tables.alloc, def, tables.shape, pages, pred)?;
+    let found = find_by_plan(
+        tables.alloc,
+        def,
+        tables.shape,
+        pages,
+        tables.settings.plan,
+        pred,
+    )?;
     delete_rows(
         tables.alloc,
         def,
@@ -123,7 +135,7 @@ fn delete_found<P: Pages>(
         &mut tables.notes,
         rooms,
         pages,
-        hits.as_slice(),
+        found.hits.as_slice(),
     )?;
-    Ok(hits.len() as u64)
+    Ok(found.hits.len() as u64)
 }

@@ -1,5 +1,5 @@
 // The engine: tables over a store, in transactions.
-ghost use Rattle.std.specs.Prelude.{◌≡◌, IfErr, IfOk, IsErrOf, IsTrue, MatchResult, OnErr, OnOk, Err};
+ghost use Rattle.std.specs.Prelude.{◌≡◌, IfOk, IsErr, IsErrOf, IsTrue, MatchResult, OnErr, OnOk, Err};
 ghost use Rattle.mdc_words.specs.Faults.{CountsFault};
 ghost use Rattle.mdc_words.specs.Time.{OverTime};
 ghost use Rattle.statement_meaning.specs.Binding.{bound_of};
@@ -10,7 +10,7 @@ ghost use Rattle.store_api.specs.declared.fault.Damage.{Damage};
 ghost use Rattle.mdc_sound.specs.Breaks.{IsFirstBreak};
 ghost use Rattle.script_engine.specs.Breaking.{StaysAtDamage};
 ghost use Rattle.script_engine.specs.Controls.{AnswersSetting};
-ghost use Rattle.script_engine.specs.Fetching.{FetchesForListing, FetchesForQuery};
+ghost use Rattle.script_engine.specs.Fetching.{FetchesForListing, FetchesForStatement};
 ghost use Rattle.script_engine.specs.Held.{IsWritten, StepsOnPages};
 ghost use Rattle.script_engine.specs.Leaving.{LeftWithin, MayBeLeft};
 ghost use Rattle.script_engine.specs.OnAnyPages.{ExecutesOnAny, IsGoingEngine};
@@ -18,11 +18,10 @@ ghost use Rattle.script_engine.specs.Resting.{Settles};
 ghost use Rattle.script_engine.specs.Roles.{role_of};
 ghost use Rattle.script_engine.specs.Serving.{IsReadyEngine, MayCall, held_by};
 
-use crate::stop::EngineStop;
 use crate::tables::Tables;
 use mdc_ast::{Outcome, Stmt};
 use statement_meaning::Pass;
-use store_api::Store;
+use store_api::{Mute, Store, StoreFault};
 
 /// An engine over a store, which it owns.
 #[derive(Drop)]
@@ -47,13 +46,14 @@ impl<S: Store> Engine<S> {
 
     /// Executes a statement. Outside a transaction its change is committed before the answer; where it is refused, nothing has
     /// changed. A crash within it leaves the pages of the last commit before it, or those that it commits, and so does a stop, after
-    /// which the engine takes no further call but `close`. A query brings pages of rows to hand only of blocks in whose cells a row may
-    /// qualify, and LIST BLOCKS pages of the block map alone. Whatever the pages are, what BEGIN, COMMIT and ROLLBACK answer hangs on
+    /// which the engine takes no further call but `close`. A query and EXPLAIN bring pages of rows to hand only of blocks with a row that
+    /// the plan has in the mode that is set; in modes AUTO and BLOCK these are blocks in whose cells a row may qualify. A DELETE that goes
+    /// by blocks brings to hand of pages of rows only those of the blocks that it releases, and LIST BLOCKS pages of the block map alone. Whatever the pages are, what BEGIN, COMMIT and ROLLBACK answer hangs on
     /// whether a transaction is open, a refusal, a query, LIST BLOCKS and EXPLAIN change nothing, SET PLAN and SET CURRENT MDC ROLLOUT
     /// MODE alone change what the run is set to, and nothing else, a stop commits nothing, unless a call of the
     /// disk failed, and damage is exact: of the pages as they were held, the first rule that they break, and the lowest page that
     /// breaks it.
-    pub fn execute(&mut self, stmt: &Stmt) -> Result<Outcome, EngineStop>
+    pub fn execute(&mut self, stmt: &Stmt) -> Result<Outcome, StoreFault>
         requires may { MayCall S.Pages self.old }
         requires written { IsWritten stmt.now }
         ensures steps { IfOk result (λ outcome. IsReadyEngine S.Pages self.old → StepsOnPages self.old.tables.shape (held_by S.Pages self.old) stmt.now outcome (held_by S.Pages self.new) × IsReadyEngine S.Pages self.new) }
@@ -61,14 +61,13 @@ impl<S: Store> Engine<S> {
         ensures may { OnOk result (MayCall S.Pages self.new) }
         ensures left { IsReadyEngine S.Pages self.old → OverTime S.clock S.left (LeftWithin self.old.tables.shape (held_by S.Pages self.old) stmt.now (S.state self.old.store)) self.old.store self.new.store }
         ensures base { IsReadyEngine S.Pages self.old → MayBeLeft self.old.tables.shape (held_by S.Pages self.old) stmt.now (S.state self.new.store).base }
-        ensures fetches { OnOk result (IsReadyEngine S.Pages self.old → FetchesForQuery S.Pages self.old.tables.shape self.old.store self.new.store self.old.tables.catalog (bound_of self.old.tables.catalog stmt.now)) }
+        ensures fetches { OnOk result (IsReadyEngine S.Pages self.old → FetchesForStatement S.Pages self.old.tables.shape self.old.store self.new.store self.old.tables.catalog self.old.tables.settings (bound_of self.old.tables.catalog stmt.now)) }
         ensures lists { OnOk result (IsReadyEngine S.Pages self.old → FetchesForListing S.Pages self.old.store self.new.store self.old.tables.catalog (role_of stmt.now)) }
         ensures settings { MatchResult result (λ outcome. AnswersSetting (role_of stmt.now) self.old.served self.old.tables.settings outcome self.new.tables.settings) (λ stop. self.new.tables.settings ≡ self.old.tables.settings) }
-        ensures device { CountsFault (IsErrOf result EngineStop.Device) (S.disk_faults self.old.store) (S.disk_faults self.new.store) }
-        ensures damaged { (damage : Damage) → result ≡ Err (EngineStop.Damaged damage) → IsReadyEngine S.Pages self.old → ⊥ }
-        ensures breaks { (damage : Damage) → result ≡ Err (EngineStop.Damaged damage) → IsTrue (S.state self.old.store).is_told → IsFirstBreak self.old.tables.shape (S.state self.new.store).work damage.rule damage.page }
-        ensures stays { (damage : Damage) → result ≡ Err (EngineStop.Damaged damage) → StaysAtDamage S.Pages self.old self.new }
-        ensures output { IsErrOf result EngineStop.Output → ⊥ }
+        ensures device { CountsFault (IsErrOf result StoreFault.Device) (S.disk_faults self.old.store) (S.disk_faults self.new.store) }
+        ensures damaged { (damage : Damage) → result ≡ Err (StoreFault.Damaged damage) → IsReadyEngine S.Pages self.old → ⊥ }
+        ensures breaks { (damage : Damage) → result ≡ Err (StoreFault.Damaged damage) → IsTrue (S.state self.old.store).is_told → IsFirstBreak self.old.tables.shape (S.state self.new.store).work damage.rule damage.page }
+        ensures stays { (damage : Damage) → result ≡ Err (StoreFault.Damaged damage) → StaysAtDamage S.Pages self.old self.new }
         ensures say_faults { S.say_faults self.new.store ≡ S.say_faults self.old.store }
         ensures is_told { (S.state self.new.store).is_told ≡ (S.state self.old.store).is_told }
         ensures told { (S.state self.new.store).told ≡ (S.state self.old.store).told }
@@ -80,8 +79,8 @@ impl<S: Store> Engine<S> {
         self.turn(stmt)
     }
 
-    /// Tells bytes. After `Output` a front of them may have been told, and the engine takes no further call but `close`.
-    pub fn tell(&mut self, bytes: &[u8]) -> Result<(), EngineStop>
+    /// Tells bytes. After `Mute` a front of them may have been told, and the engine takes no further call but `close`.
+    pub fn tell(&mut self, bytes: &[u8]) -> Result<(), Mute>
         requires may { MayCall S.Pages self.old }
         ensures ok { OnOk result (Tells bytes.now (S.state self.old.store) (S.state self.new.store)) }
         ensures err { OnErr result (TellsPart bytes.now (S.state self.old.store) (S.state self.new.store)) }
@@ -89,19 +88,17 @@ impl<S: Store> Engine<S> {
         ensures held { held_by S.Pages self.new ≡ held_by S.Pages self.old }
         ensures ready { IsReadyEngine S.Pages self.old → IsReadyEngine S.Pages self.new }
         ensures may { OnOk result (MayCall S.Pages self.new) }
-        ensures output { CountsFault (IsErrOf result EngineStop.Output) (S.say_faults self.old.store) (S.say_faults self.new.store) }
-        ensures only_output { IfErr result (λ stop. stop ≡ EngineStop.Output) }
+        ensures say_faults { CountsFault (IsErr result) (S.say_faults self.old.store) (S.say_faults self.new.store) }
         ensures disk_faults { S.disk_faults self.new.store ≡ S.disk_faults self.old.store }
         ensures time { OverTime S.clock S.left (BaseWithFront bytes.now (S.state self.old.store)) self.old.store self.new.store }
         ensures rests { Rests S.Pages self.new.store }
     {
-        self.store.tell(bytes)?;
-        Ok(())
+        self.store.tell(bytes)
     }
 
     /// Does what is left to be done after an answer: where no transaction is open, perhaps steps, each a commit that leaves the
     /// database as it is. A crash meanwhile leaves the pages of one of these commits, or those before them. There is no step yet.
-    pub fn settle(&mut self) -> Result<(), EngineStop>
+    pub fn settle(&mut self) -> Result<(), StoreFault>
         requires may { MayCall S.Pages self.old }
         ensures settles { Settles S.Pages result self.old self.new }
     {

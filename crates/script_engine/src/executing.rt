@@ -14,7 +14,7 @@ ghost use Rattle.mdc_sound.specs.StandingTable.{pages_of};
 ghost use Rattle.statement_rows.specs.RowsOfStatement.{AnyPage};
 ghost use Rattle.script_engine.specs.Defining.{IsBoundOn, MayBeExecuted};
 ghost use Rattle.script_engine.specs.Doing.{DoesReady, DoesStatement, DoesStep, LeavesAll, RunsFullAlone, StepRunsFull, is_query};
-ghost use Rattle.script_engine.specs.Fetching.{FetchesForListing, FetchesForQuery};
+ghost use Rattle.script_engine.specs.Fetching.{FetchesForListing, FetchesForStatement};
 ghost use Rattle.script_engine.specs.Held.{IsWritten};
 ghost use Rattle.script_engine.specs.Ready.{AreServed, BreaksDatabase, IsReady, KeepsServed};
 ghost use Rattle.script_engine.specs.Roles.{is_built_form, only_reads, role_of};
@@ -53,7 +53,7 @@ pub fn execute<P: Pages>(
         × (IsReady P.Pages pages.old tables.old → StepRunsFull tables.old.shape (pages_of P.Pages pages.old) tables.old.catalog stmt.now))) }
     ensures unbuilt { is_built_form stmt.now ≡ false → MatchResult result (λ outcome. outcome ≡ Outcome.Refused (refusal_of NotBuilt)) (λ fault. IfFull fault (λ cap. ⊥)) }
     ensures reads { only_reads (role_of stmt.now) ≡ true → LeavesAll P.Pages pages.old pages.new tables.old tables.new }
-    ensures fetches { FetchesForQuery P.Pages tables.old.shape pages.old pages.new tables.old.catalog (bound_of tables.old.catalog stmt.now) }
+    ensures fetches { FetchesForStatement P.Pages tables.old.shape pages.old pages.new tables.old.catalog tables.old.settings (bound_of tables.old.catalog stmt.now) }
     ensures lists { FetchesForListing P.Pages pages.old pages.new tables.old.catalog (role_of stmt.now) }
     ensures keeps { KeepsServed result tables.old tables.new }
     ensures runs { RunsOverPages P.Pages AnyPage AnyPage (BreaksDatabase P.Pages pages.old tables.old) pages.old pages.new (store_fault_in store_part_of result) }
@@ -104,7 +104,7 @@ fn step<P: Pages>(tables: &mut Tables, pages: &mut P, stmt: &Stmt) -> Result<Out
         × (IsReady P.Pages pages.old tables.old → StepRunsFull tables.old.shape (pages_of P.Pages pages.old) tables.old.catalog stmt.now))) }
     ensures unbuilt { is_built_step stmt.now ≡ false → MatchResult result (λ outcome. outcome ≡ Outcome.Refused (refusal_of NotBuilt)) (λ fault. IfFull fault (λ cap. ⊥)) }
     ensures reads { only_reads (role_of stmt.now) ≡ true → LeavesAll P.Pages pages.old pages.new tables.old tables.new }
-    ensures fetches { FetchesForQuery P.Pages tables.old.shape pages.old pages.new tables.old.catalog (bound_of tables.old.catalog stmt.now) }
+    ensures fetches { FetchesForStatement P.Pages tables.old.shape pages.old pages.new tables.old.catalog tables.old.settings (bound_of tables.old.catalog stmt.now) }
     ensures keeps { KeepsServed result tables.old tables.new }
     ensures runs { RunsOverPages P.Pages AnyPage AnyPage (BreaksDatabase P.Pages pages.old tables.old) pages.old pages.new (store_fault_in store_part_of result) }
 {
@@ -132,7 +132,7 @@ fn carry_out<P: Pages>(
     ensures full { IfErr result (λ fault. IfFull fault (λ cap. (cap ≡ tables.old.shape.extents)
         × (IsReady P.Pages pages.old tables.old → RunsFullAlone tables.old.shape (pages_of P.Pages pages.old) tables.old.catalog bound))) }
     ensures reads { is_query bound ≡ true → LeavesAll P.Pages pages.old pages.new tables.old tables.new }
-    ensures fetches { FetchesForQuery P.Pages tables.old.shape pages.old pages.new tables.old.catalog bound }
+    ensures fetches { FetchesForStatement P.Pages tables.old.shape pages.old pages.new tables.old.catalog tables.old.settings bound }
     ensures keeps { KeepsServed result tables.old tables.new }
     ensures runs { RunsOverPages P.Pages AnyPage AnyPage (BreaksDatabase P.Pages pages.old tables.old) pages.old pages.new (store_fault_in store_part_of result) }
 {

@@ -14,9 +14,10 @@
 //! commits nothing, unless a call of the disk failed, and damage is that of the pages as they were held before the statement, at
 //! ROLLBACK of those of the last commit: the first rule that they break, and the lowest page that breaks it.
 //!
-//! It stands on `binder` for what a statement means, on `table_scan`, `statement_rows`, `index_building` and `stored_catalog` for what
-//! it does to pages, on `mdc_table` for the count of a table's blocks, on `plan_chooser` and `executor` for plans, on `row_checks` and
-//! `unique_keys` for what is said against its rows, and on `file_check` for which rule pages break.
+//! It stands on `binder` for what a statement means, on `table_query` and `executor` for rows that are found by the plan in the mode that
+//! is set, on `plan_chooser` for that plan's word, on `rollout`, `statement_rows`, `index_building` and `stored_catalog` for what a
+//! statement does to pages, on `mdc_table` for the count of a table's blocks, on `row_checks` and `unique_keys` for what is said against
+//! its rows, and on `file_check` for which rule pages break.
 #![tactic(auto)]
 
 mod class;
@@ -36,7 +37,6 @@ mod opening;
 mod querying;
 mod reclaiming;
 mod set_keys;
-mod stop;
 mod table_rooms;
 mod tables;
 mod transactions;
@@ -45,4 +45,3 @@ mod updating;
 pub use engine::Engine;
 pub use laws::{served_pages_are_valid, sound_pages_stand};
 pub use opening::Stopped;
-pub use stop::EngineStop;

@@ -19,7 +19,6 @@ ghost use Rattle.script_engine.specs.Turns.{IsServedByForms};
 
 use crate::damage::load_exactly;
 use crate::engine::Engine;
-use crate::stop::EngineStop;
 use crate::table_rooms::TableRooms;
 use crate::tables::Tables;
 use catalog::Catalog;
@@ -28,12 +27,12 @@ use mdc_ast::{ColumnDef, TableDef};
 use statement_meaning::{Pass, Settings};
 use std::alloc::Global;
 use store_api::layout::TABLE_PLACES;
-use store_api::{Shape, Store};
+use store_api::{Shape, Store, StoreFault};
 
 /// Why no engine was opened, and the store.
 #[derive(Drop)]
 pub struct Stopped<S: Store> {
-    pub stop: EngineStop,
+    pub stop: StoreFault,
     pub store: S,
 }
 
@@ -55,11 +54,10 @@ impl<S: Store> Engine<S> {
         ensures pages { MatchResult result (λ engine. KeepsPages S.Pages store engine.store) (λ stopped. KeepsPages S.Pages store stopped.store) }
         ensures ended { IfErr result (λ stopped. (S.state stopped.store).ended ≡ (S.state store).ended) }
         ensures disk_faults { IfOk result (λ engine. S.disk_faults engine.store ≡ S.disk_faults store) }
-        ensures device { IfErr result (λ stopped. CountsFault (stopped.stop ≡ EngineStop.Device) (S.disk_faults store) (S.disk_faults stopped.store)) }
-        ensures damaged { IfErr result (λ stopped. (damage : Damage) → stopped.stop ≡ EngineStop.Damaged damage → IsTrue (S.state store).is_told → IsSoundDatabase shape (S.state store).work → ⊥) }
-        ensures breaks { IfErr result (λ stopped. (damage : Damage) → stopped.stop ≡ EngineStop.Damaged damage → IsExactDamage S.Pages shape store damage) }
+        ensures device { IfErr result (λ stopped. CountsFault (stopped.stop ≡ StoreFault.Device) (S.disk_faults store) (S.disk_faults stopped.store)) }
+        ensures damaged { IfErr result (λ stopped. (damage : Damage) → stopped.stop ≡ StoreFault.Damaged damage → IsTrue (S.state store).is_told → IsSoundDatabase shape (S.state store).work → ⊥) }
+        ensures breaks { IfErr result (λ stopped. (damage : Damage) → stopped.stop ≡ StoreFault.Damaged damage → IsExactDamage S.Pages shape store damage) }
         ensures rests { MatchResult result (λ engine. Rests S.Pages store → Rests S.Pages engine.store) (λ stopped. Rests S.Pages store → Rests S.Pages stopped.store) }
-        ensures output { IfErr result (λ stopped. stopped.stop ≡ EngineStop.Output → ⊥) }
     {
         let mut store = store;
         match load_exactly(alloc, shape, &mut store) {

@@ -12,7 +12,7 @@ ghost use Rattle.script_engine.specs.Roles.{Sets, is_built_setting, is_tried, on
 ghost use Rattle.script_engine.specs.Serving.{MayCall};
 ghost use Rattle.script_engine.specs.Trying.{TriesStep};
 ghost use Rattle.script_engine.specs.Turns.{ComesUnready, Executes};
-ghost use Rattle.script_engine.specs.declared.stop.EngineStop.TheVariants as stop;
+ghost use Rattle.store_api.specs.declared.fault.StoreFault.TheVariants as stop;
 
 use crate::class::{Class, Setting, class_of};
 use crate::committing::{WRONG_COUNT, commit_counted, commit_work, is_counted};
@@ -20,12 +20,11 @@ use crate::damage::{load_exactly, try_again, try_exactly};
 use crate::engine::Engine;
 use crate::executing::execute;
 use crate::opening::are_served;
-use crate::stop::EngineStop;
 use crate::tables::Tables;
 use extent_map::SpaceFault;
 use mdc_ast::{Outcome, Reply, Stmt};
 use row_checks::{file_full, not_built, not_in_state};
-use store_api::{Pages, Store};
+use store_api::{Pages, Store, StoreFault};
 
 /// Whether a statement was refused.
 fn is_refused(outcome: &Outcome) -> bool
@@ -39,7 +38,7 @@ fn is_refused(outcome: &Outcome) -> bool
 
 impl<S: Store> Engine<S> {
     /// Executes a statement that is written so in a script.
-    pub(crate) fn turn(&mut self, stmt: &Stmt) -> Result<Outcome, EngineStop>
+    pub(crate) fn turn(&mut self, stmt: &Stmt) -> Result<Outcome, StoreFault>
         requires may { MayCall S.Pages self.old }
         requires written { IsWritten stmt.now }
         ensures executes { Executes S.Pages stmt.now result self.old self.new }
@@ -71,7 +70,7 @@ impl<S: Store> Engine<S> {
 
     /// A COMMIT.
     #[tactic(auto, using(crate::proofs::LeavingLemmas::leaves_still))]
-    fn commit(&mut self) -> Result<Outcome, EngineStop>
+    fn commit(&mut self) -> Result<Outcome, StoreFault>
         requires may { MayCall S.Pages self.old }
         ensures executes { Executes S.Pages Stmt.Commit result self.old self.new }
         ensures any { IsGoingEngine S.Pages self.old → ExecutesOnAny S.Pages Stmt.Commit result self.old self.new }
@@ -86,7 +85,7 @@ impl<S: Store> Engine<S> {
 
     /// A ROLLBACK.
     #[tactic(auto, using(crate::proofs::LeavingLemmas::leaves_still))]
-    fn roll_back(&mut self) -> Result<Outcome, EngineStop>
+    fn roll_back(&mut self) -> Result<Outcome, StoreFault>
         requires may { MayCall S.Pages self.old }
         ensures executes { Executes S.Pages Stmt.Rollback result self.old self.new }
         ensures any { IsGoingEngine S.Pages self.old → ExecutesOnAny S.Pages Stmt.Rollback result self.old self.new }
@@ -121,8 +120,8 @@ impl<S: Store> Engine<S> {
     }
 
     /// A statement that changes nothing, in a transaction or outside of one.
-    #[tactic(auto, using(crate::proofs::LeavingLemmas::leaves_still, crate::proofs::FetchesForQueryLemmas::fetches_none, crate::proofs::FetchesForListingLemmas::lists_none))]
-    fn read(&mut self, stmt: &Stmt) -> Result<Outcome, EngineStop>
+    #[tactic(auto, using(crate::proofs::LeavingLemmas::leaves_still, crate::proofs::FetchesForStatementLemmas::fetches_none, crate::proofs::FetchesForListingLemmas::lists_none))]
+    fn read(&mut self, stmt: &Stmt) -> Result<Outcome, StoreFault>
         requires may { MayCall S.Pages self.old }
         requires written { IsWritten stmt.now }
         requires reading { only_reads (role_of stmt.now) ≡ true }
@@ -136,8 +135,8 @@ impl<S: Store> Engine<S> {
     }
 
     /// A statement that may change pages, or whose form isn't built. Its change is committed where no transaction is open.
-    #[tactic(auto, using(crate::proofs::LeavingLemmas::leaves_still, crate::proofs::FetchesForQueryLemmas::fetches_none))]
-    fn change(&mut self, stmt: &Stmt) -> Result<Outcome, EngineStop>
+    #[tactic(auto, using(crate::proofs::LeavingLemmas::leaves_still, crate::proofs::FetchesForStatementLemmas::fetches_none))]
+    fn change(&mut self, stmt: &Stmt) -> Result<Outcome, StoreFault>
         requires may { MayCall S.Pages self.old }
         requires written { IsWritten stmt.now }
         requires other { is_tried (role_of stmt.now) ≡ true }
@@ -164,7 +163,7 @@ impl<S: Store> Engine<S> {
 
     /// The same of a statement behind which page 0 doesn't state how many pages there are: it goes back to the pages of the last commit,
     /// and is tried once more where they are sound. Of told pages page 0 then states the count.
-    fn change_anew(&mut self, stmt: &Stmt) -> Result<Outcome, EngineStop>
+    fn change_anew(&mut self, stmt: &Stmt) -> Result<Outcome, StoreFault>
         requires going { (S.state self.old.store).ended ≡ false }
         requires written { IsWritten stmt.now }
         requires other { is_tried (role_of stmt.now) ≡ true }
@@ -183,7 +182,7 @@ impl<S: Store> Engine<S> {
         }
         if !is_counted(&mut self.store)? {
             self.store.rollback();
-            return Err(EngineStop::Damaged(WRONG_COUNT));
+            return Err(StoreFault::Damaged(WRONG_COUNT));
         }
         commit_counted(&mut self.store)?;
         Ok(outcome)
@@ -191,7 +190,7 @@ impl<S: Store> Engine<S> {
 }
 
 /// Goes back to the pages of the last commit, and answers whether their tables are of forms that are built.
-fn go_back<S: Store>(tables: &mut Tables, store: &mut S) -> Result<bool, EngineStop>
+fn go_back<S: Store>(tables: &mut Tables, store: &mut S) -> Result<bool, StoreFault>
     requires going { (S.state store.old).ended ≡ false }
     ensures reloads { Reloads S.Pages result store.old store.new tables.old tables.new }
     ensures damaged { (damage : Damage) → result ≡ Err (stop.Damaged damage) → IsTrue (S.state store.old).is_told → IsSoundDatabase tables.old.shape (S.state store.old).base → ⊥ }
@@ -210,7 +209,7 @@ pub(crate) fn try_statement<P: Pages>(
     tables: &mut Tables,
     pages: &mut P,
     stmt: &Stmt,
-) -> Result<Outcome, EngineStop>
+) -> Result<Outcome, StoreFault>
     requires served { AreServed tables.old.catalog }
     requires written { IsWritten stmt.now }
     requires going { (P.state pages.old).ended ≡ false }
@@ -231,7 +230,7 @@ pub(crate) fn try_statement<P: Pages>(
         Err(SpaceFault::Store(fault)) => {
             pages.undo();
             tables.forget();
-            Err(EngineStop::from(fault))
+            Err(fault)
         }
     }
 }

@@ -16,7 +16,8 @@ ghost use Rattle.extent_map.specs.Damages.{IfFull, store_part_of};
 ghost use Rattle.extent_map.specs.declared.kind.Kind.{Kind};
 ghost use Rattle.block_rows.specs.HeldRows.{HasReadValues, HaveReadValues, placed_row};
 ghost use Rattle.mdc_ast.specs.TableLimits.{IsTableDef};
-ghost use Rattle.mdc_sound.specs.StandingTable.{StandsTable, TableForests, pages_of};
+ghost use Rattle.mdc_sound.specs.BlockRules.{AreTableIndexesSound};
+ghost use Rattle.mdc_sound.specs.StandingTable.{StandsTable, TableForests, pages_of, view_of};
 ghost use Rattle.binder.specs.Saying.{first_of};
 ghost use Rattle.row_filter.specs.Filtering.{may_filter};
 ghost use Rattle.row_checks.specs.Filtering.{may_change};
@@ -33,8 +34,9 @@ ghost use Rattle.script_engine.specs.SetKeys.{JudgesSet};
 use crate::keys::judge_turned;
 use crate::set_keys::sets_unique;
 use crate::tables::Tables;
+use executor::find_by_plan;
 use extent_map::{SpaceFault, first_page};
-use mdc_ast::{BoundSet, ColumnDef, Outcome, Pred, Refusal, Reply, Row, TableDef};
+use mdc_ast::{BoundSet, ColumnDef, Outcome, PlanMode, Pred, Refusal, Reply, Row, TableDef};
 use mdc_table::Hit;
 use mdc_values::{List, Memory};
 use row_checks::{Misfit, changed_values, first_misfit, unfit};
@@ -43,9 +45,9 @@ use statement_rows::{Turned, change_rows};
 use std::alloc::Global;
 use store_api::rules::ROW_PAGES_RULE;
 use store_api::{Damage, Pages, Shape, StoreFault};
-use table_scan::find_rows;
 
-/// An UPDATE of the rows of a table that qualify. All are judged before one is changed.
+/// An UPDATE of the rows of a table that qualify, which are found by the plan in the mode that is set. All are judged before one is
+/// changed.
 pub fn update<P: Pages>(
     tables: &mut Tables,
     pages: &mut P,
@@ -67,7 +69,14 @@ pub fn update<P: Pages>(
     let Some(def) = tables.catalog.def(table) else {
         unreachable!()
     };
-    let hits = find_fitting(tables.alloc, def, tables.shape, pages, pred)?;
+    let hits = find_fitting(
+        tables.alloc,
+        def,
+        tables.shape,
+        pages,
+        tables.settings.plan,
+        pred,
+    )?;
     if let Some(misfit) = first_misfit_of_hits(def.columns.as_slice(), sets, hits.as_slice()) {
         return refused(tables.alloc, misfit);
     }
@@ -89,29 +98,30 @@ pub fn update<P: Pages>(
     Ok(Outcome::Done(Reply::Updated(turned.len() as u64)))
 }
 
-// The rows that qualify, each of which fits its columns. One that doesn't is damage of its block.
+// The rows that qualify, found by the plan in a mode, each of which fits its columns. One that doesn't is damage of its block.
 fn find_fitting<P: Pages>(
     alloc: Global,
     def: &TableDef,
     shape: Shape,
     pages: &mut P,
+    mode: PlanMode,
     pred: &Option<Pred>,
 ) -> Result<Vec<Hit>, StoreFault>
     requires defined { IsTableDef def.now.number def.now }
     requires judged { (row : Row) → HasReadValues def.now.columns row → IsTrue (may_filter pred.now row.values) }
     requires going { (P.state pages.old).ended ≡ false }
     ensures finds { IfOk result (λ hits. (owners : List Kind) (forests : TableForests) → StandsTable P.Pages shape pages.old def.now owners forests
-        → FindsRows P.Pages shape pages.old def.now pred.now hits.items forests) }
+        → AreTableIndexesSound shape (pages_of P.Pages pages.old) (view_of def.now forests) → FindsRows P.Pages shape pages.old def.now pred.now hits.items forests) }
     ensures keyed { IfOk result (λ hits. HaveReadValues def.now.columns hits.items) }
     ensures fit { IfOk result (λ hits. IsTrue (list_all (λ hit. fits_all def.now.columns hit.row.values) hits.items)) }
     ensures same { (P.state pages.new).work ≡ (P.state pages.old).work }
     ensures runs { RunsOverPages P.Pages NoPage AnyPage (IsNoStandingTable P.Pages shape pages.old def.now) pages.old pages.new (fault_of result) }
 {
-    let hits = find_rows(alloc, def, shape, pages, pred)?;
-    if let Some(hit) = first_unfit(def.columns.as_slice(), hits.as_slice()) {
+    let found = find_by_plan(alloc, def, shape, pages, mode, pred)?;
+    if let Some(hit) = first_unfit(def.columns.as_slice(), found.hits.as_slice()) {
         return Err(StoreFault::Damaged(unfit_row(shape, hit)));
     }
-    Ok(hits)
+    Ok(found.hits)
 }
 
 // The first row that doesn't fit its columns.

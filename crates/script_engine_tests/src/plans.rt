@@ -1,4 +1,4 @@
-// EXPLAIN: the plan, the blocks that were fetched and the rows that qualify, in each plan mode.
+// EXPLAIN: the plan, the blocks that were fetched and the rows that qualify, in each plan mode; and rows that are found in each.
 use crate::scripts::answers;
 use std::process::Abort;
 use std::test::Fail;
@@ -66,7 +66,7 @@ INSERT INTO T VALUES (1, 100), (2, 200), (3, 300), (1, 200);
 ";
 
 // Behind the table a script is answered so.
-fn explains(rt: &(impl Abort + AllocGlobal), script: &[u8], replies: &[u8]) -> Result<(), Fail> {
+fn comes(rt: &(impl Abort + AllocGlobal), script: &[u8], replies: &[u8]) -> Result<(), Fail> {
     let alloc = rt.alloc();
     let mut all = Vec::from_slice(alloc, TABLE)?;
     all.extend_from_slice(script)?;
@@ -181,8 +181,8 @@ ROWS 1
 
 #[test]
 fn a_plan_is_that_of_the_mode_and_the_test(rt: HostRuntime) -> Result<(), Fail> {
-    explains(&rt, MODES, MODES_SAID)?;
-    explains(&rt, TESTS, TESTS_SAID)?;
+    comes(&rt, MODES, MODES_SAID)?;
+    comes(&rt, TESTS, TESTS_SAID)?;
     Ok(())
 }
 
@@ -256,7 +256,71 @@ ROWS 2
 
 #[test]
 fn a_plan_is_told_of_what_is_there_now(rt: HostRuntime) -> Result<(), Fail> {
-    explains(&rt, TURNS, TURNS_SAID)?;
-    explains(&rt, QUERIES, QUERIES_SAID)?;
+    comes(&rt, TURNS, TURNS_SAID)?;
+    comes(&rt, QUERIES, QUERIES_SAID)?;
+    Ok(())
+}
+
+// Each mode finds the same rows.
+const FOUND: &[u8] = b"SELECT * FROM T WHERE A = 1 AND B = 200;
+SELECT B, COUNT(*) FROM T WHERE A = 1 OR B = 200 GROUP BY B ORDER BY B;
+SELECT COUNT(*) FROM T WHERE A < 3;
+SELECT COUNT(*) FROM T WHERE B > 100;
+UPDATE T SET B = B + 1 WHERE B = 200 AND A < 3;
+SELECT * FROM T WHERE B > 200;
+UPDATE T SET A = 3 WHERE A = 1;
+SELECT * FROM T WHERE A = 3;
+DELETE FROM T WHERE A = 3 AND B < 201;
+SELECT * FROM T";
+
+const FOUND_SAID: &[u8] = b"A|B
+1|200
+1 ROWS
+B|COUNT(*)
+100|1
+200|2
+2 ROWS
+COUNT(*)
+3
+1 ROWS
+COUNT(*)
+3
+1 ROWS
+2 ROWS UPDATED
+A|B
+2|201
+3|300
+1|201
+3 ROWS
+2 ROWS UPDATED
+A|B
+3|100
+3|300
+3|201
+3 ROWS
+1 ROWS DELETED
+A|B
+2|201
+3|300
+3|201
+3 ROWS
+";
+
+// So it is behind a statement that sets the mode.
+fn finds(rt: &(impl Abort + AllocGlobal), setting: &[u8]) -> Result<(), Fail> {
+    let alloc = rt.alloc();
+    let mut all = Vec::from_slice(alloc, setting)?;
+    all.extend_from_slice(FOUND)?;
+    let mut said = Vec::from_slice(alloc, b"OK\n")?;
+    said.extend_from_slice(FOUND_SAID)?;
+    comes(rt, all.as_slice(), said.as_slice())
+}
+
+#[test]
+fn each_mode_finds_the_same_rows(rt: HostRuntime) -> Result<(), Fail> {
+    finds(&rt, b"SET PLAN AUTO;")?;
+    finds(&rt, b"SET PLAN BLOCK;")?;
+    finds(&rt, b"SET PLAN RECORD;")?;
+    finds(&rt, b"SET PLAN SCAN;")?;
     Ok(())
 }

@@ -12,12 +12,12 @@ use entry_tree_tests::extents_of;
 use file_check::{Verdict, check};
 use mdc_ast::Outcome;
 use mdc_outside::{MemSource, Source};
-use script_engine::{Engine, EngineStop};
+use script_engine::Engine;
 use sql_reader::Read;
 use std::alloc::Global;
 use std::process::Abort;
 use std::test::Fail;
-use store_api::{Damage, Pages, Store};
+use store_api::{Damage, Pages, Store, StoreFault};
 
 /// How many extents the tests have where they don't run full.
 pub const AMPLE: u32 = 64;
@@ -42,11 +42,11 @@ pub struct Came {
 }
 
 // The outcome of an item: a statement is executed, and what can't be read is refused.
-fn outcome_of<S: Store>(engine: &mut Engine<S>, read: Read) -> Result<Outcome, EngineStop>
+fn outcome_of<S: Store>(engine: &mut Engine<S>, read: Read) -> Result<Outcome, StoreFault>
     requires may { MayCall S.Pages engine.old }
     requires written { IsReadWritten read }
     ensures may { OnOk result (MayCall S.Pages engine.new) }
-    ensures stays { (damage : Damage) → result ≡ Err (EngineStop.Damaged damage) → StaysAtDamage S.Pages engine.old engine.new }
+    ensures stays { (damage : Damage) → result ≡ Err (StoreFault.Damaged damage) → StaysAtDamage S.Pages engine.old engine.new }
 {
     match read {
         Read::Stmt(stmt) => engine.execute(stmt.get()),
@@ -89,7 +89,7 @@ fn answer<S: Store>(
             say(alloc, engine, &outcome, said)?;
             Ok(None)
         }
-        Err(EngineStop::Damaged(damage)) => Ok(Some(damage)),
+        Err(StoreFault::Damaged(damage)) => Ok(Some(damage)),
         Err(stop) => Err(stop)?,
     }
 }

@@ -112,11 +112,58 @@ BLOCKS 0
 ROWS 0
 ";
 
+const BY_PLANS: &[u8] = b"SELECT A FROM T WHERE B = 20;
+SELECT SUM(B) FROM T WHERE A = 2 OR B = 20;
+UPDATE T SET B = 21 WHERE B = 20;
+SET CURRENT MDC ROLLOUT MODE NONE;
+DELETE FROM T WHERE A = 2";
+
+const BY_PLANS_SAID: &[u8] = b"A
+2
+1 ROWS
+SUM(B)
+20
+1 ROWS
+1 ROWS UPDATED
+OK
+1 ROWS DELETED
+";
+
 #[test]
 fn a_plan_fetches_row_pages_of_its_blocks_alone(rt: HostRuntime) -> Result<(), Fail> {
     let broken = [bytes_at(22, 0, b"S")];
     comes(&rt, INDEXED, &broken, PLANS, PLANS_SAID, None)?;
+    comes(&rt, INDEXED, &broken, BY_PLANS, BY_PLANS_SAID, None)?;
+    let named = damage_of(7, 22);
     let script = b"SET PLAN SCAN; EXPLAIN SELECT * FROM T WHERE A = 2";
-    comes(&rt, INDEXED, &broken, script, b"OK\n", damage_of(7, 22))?;
+    comes(&rt, INDEXED, &broken, script, b"OK\n", named)?;
+    let script = b"SET PLAN SCAN; SELECT B FROM T WHERE A = 2";
+    comes(&rt, INDEXED, &broken, script, b"OK\n", named)?;
+    let script = b"SET PLAN RECORD; SELECT SUM(B) FROM T WHERE A = 2";
+    comes(&rt, INDEXED, &broken, script, b"OK\n", named)?;
+    let script = b"SET PLAN BLOCK; UPDATE T SET B = 21 WHERE B = 20";
+    comes(&rt, INDEXED, &broken, script, b"OK\n", named)?;
+    Ok(())
+}
+
+// The row of B = 20 is on page 24.
+#[test]
+fn a_place_of_a_record_index_fetches_its_page_alone(rt: HostRuntime) -> Result<(), Fail> {
+    let broken = [bytes_at(25, 1, b"S")];
+    let script = b"SELECT A FROM T WHERE B = 20";
+    comes(&rt, INDEXED, &broken, script, b"A\n2\n1 ROWS\n", None)?;
+    let script = b"SELECT A FROM T WHERE A = 2";
+    comes(&rt, INDEXED, &broken, script, b"", damage_of(7, 25))?;
+    Ok(())
+}
+
+// Whatever the mode is.
+#[test]
+fn a_count_by_cells_fetches_no_row_page(rt: HostRuntime) -> Result<(), Fail> {
+    let script =
+        b"SELECT COUNT(*) FROM T WHERE A = 1; SET PLAN SCAN; SELECT COUNT(*) FROM T WHERE A < 3";
+    let said = b"COUNT(*)\n2\n1 ROWS\nOK\nCOUNT(*)\n3\n1 ROWS\n";
+    passes(&rt, script, said)?;
+    stops(&rt, b"SELECT COUNT(B) FROM T WHERE A = 1", b"")?;
     Ok(())
 }

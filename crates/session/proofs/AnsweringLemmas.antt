@@ -27,8 +27,8 @@ use Rattle.script_engine.specs.Resting as resting
 use Rattle.script_engine.specs.Serving.{IsReadyEngine, MayCall, held_by}
 use Rattle.script_engine.specs.Turns.{LeavesCommitted, LeavesOutside}
 use Rattle.script_engine.specs.declared.engine.Engine.{Engine}
-use Rattle.script_engine.specs.declared.stop.EngineStop.{EngineStop}
-use Rattle.script_engine.specs.declared.stop.EngineStop.TheVariants.{Damaged, Device}
+use Rattle.store_api.specs.declared.fault.StoreFault.{StoreFault}
+use Rattle.store_api.specs.declared.fault.StoreFault.TheVariants.{Damaged, Device}
 use Rattle.stored_catalog.specs.StoredDefinitions.{AreStored}
 use Rattle.session.specs.script.Answering.{AnswersItem, AnswersSo, MayBeKept}
 use Rattle.session.specs.script.AnyStops.{AreJudged, NeedsTables}
@@ -39,7 +39,7 @@ use Rattle.session.specs.script.TheWays.{on_any, on_sound}
 use Rattle.session.proofs.StopsLemmas.{device_stop, names_damage}
 
 -- what is used of the execution of a statement, on a sound engine and on any
-pub record HasExecuted {S : Type 0} (g : Ghosts S) (stmt : Stmt) (result : Result Outcome EngineStop) (old new : Engine S) : Type 0 where
+pub record HasExecuted {S : Type 0} (g : Ghosts S) (stmt : Stmt) (result : Result Outcome StoreFault) (old new : Engine S) : Type 0 where
   pub steps : IfOk result (λ outcome. IsReadyEngine g old → StepsOnPages old.tables.shape (held_by g old) stmt outcome (held_by g new) × IsReadyEngine g new)
   pub leaves : IsReadyEngine g old → LeavesCommitted g stmt old new
   pub any : IsGoingEngine g old → ExecutesOnAny g stmt result old new
@@ -108,7 +108,7 @@ module _ {S : Type 0} (g : Ghosts S) where
 
   module _ (old new : Engine S) where
     -- one that needs tables, and stopped, found them all of built forms
-    built_at : (stmt : Stmt) (stop : EngineStop) → ExecutesOnAny g stmt (Err stop) old new → NeedsTables stmt → are_built old.tables.catalog ≡ true
+    built_at : (stmt : Stmt) (stop : StoreFault) → ExecutesOnAny g stmt (Err stop) old new → NeedsTables stmt → are_built old.tables.catalog ≡ true
     built_at statement.Begin stop any needs = absurd needs
     built_at statement.Commit stop any needs = absurd needs
     built_at statement.Rollback stop any needs = absurd needs
@@ -116,7 +116,7 @@ module _ {S : Type 0} (g : Ghosts S) where
 
   module _ (stmt : Stmt) (old new : Engine S) (may : MayCall g old) where
     -- by a sound engine
-    answers_sound : (result : Result Outcome EngineStop) → HasExecuted g stmt result old new → (ready : IsReadyEngine g old) → AnswersSo (on_sound old.tables.shape) (IsSoundEngine g old.tables.shape) g (Statement stmt) result old new
+    answers_sound : (result : Result Outcome StoreFault) → HasExecuted g stmt result old new → (ready : IsReadyEngine g old) → AnswersSo (on_sound old.tables.shape) (IsSoundEngine g old.tables.shape) g (Statement stmt) result old new
     answers_sound (Ok outcome) executes ready =
         let steps = executes.steps ready in
         record {
@@ -134,7 +134,7 @@ module _ {S : Type 0} (g : Ghosts S) where
         }
 
     -- by any
-    answers_any : (result : Result Outcome EngineStop) → ExecutesOnAny g stmt result old new → new.tables.shape ≡ old.tables.shape → (g.state new.store).is_told ≡ (g.state old.store).is_told
+    answers_any : (result : Result Outcome StoreFault) → ExecutesOnAny g stmt result old new → new.tables.shape ≡ old.tables.shape → (g.state new.store).is_told ≡ (g.state old.store).is_told
         → AnswersSo (on_any (g.state old.store).is_told old.tables.shape) (IsAnyEngine g (g.state old.store).is_told old.tables.shape) g (Statement stmt) result old new
     answers_any (Ok outcome) any shape is_told = record {
       met = record { meets = any.steps.0; rests = resting.nothing };
@@ -158,11 +158,11 @@ module _ {S : Type 0} (g : Ghosts S) where
         }
 
     -- the store goes on, unless the disk failed
-    going_on : (result : Result Outcome EngineStop) → OnOk result (MayCall g new) → ExecutesOnAny g stmt result old new → (IsErrOf result Device → ⊥) → (g.state new.store).ended ≡ false
+    going_on : (result : Result Outcome StoreFault) → OnOk result (MayCall g new) → ExecutesOnAny g stmt result old new → (IsErrOf result Device → ⊥) → (g.state new.store).ended ≡ false
     going_on (Ok outcome) may_new any other = may_new.going
     going_on (Err stop) may_new any other = any.going other
 
-    pub answers_executed : (result : Result Outcome EngineStop) → HasExecuted g stmt result old new → AnswersItem g (Statement stmt) result old new
+    pub answers_executed : (result : Result Outcome StoreFault) → HasExecuted g stmt result old new → AnswersItem g (Statement stmt) result old new
     answers_executed result executes = record {
       sound = λ shape sound.
           subst (λ (s : Shape). AnswersSo (on_sound s) (IsSoundEngine g s) g (Statement stmt) result old new) sound.is_shape (answers_sound result executes sound.ready);
@@ -184,7 +184,6 @@ module _ {S : Type 0} (g : Ghosts S) where
   leaves_outside_none : (outcome : Outcome) (engine : Engine S) → LeavesOutside g (Ok outcome) engine engine
   leaves_outside_none outcome engine = record {
     device = counts_fault_none (λ is. absurd (cc));
-    output = λ is. absurd (cc);
     say_faults = refl;
     is_told = refl;
     told = refl;

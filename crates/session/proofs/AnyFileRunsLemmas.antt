@@ -29,22 +29,22 @@ use Rattle.file_verdict.proofs.SoundFilesLemmas.{formed_along, formed_standing, 
 use Rattle.session.specs.script.AnyGoing.{GoesOnAny}
 use Rattle.session.specs.script.Going.{Goes, held_last}
 use Rattle.session.specs.script.Leaving.{LeftOnAny}
-use Rattle.session.specs.declared.script.stop.Served.{Served}
-use Rattle.session.specs.declared.script.stop.SessionStop.{SessionStop}
-use Rattle.session.specs.declared.script.stop.SessionStop.TheVariants as session
+use Rattle.session.specs.declared.script.served.Served.{Served}
+use Rattle.session.specs.Stops.{IsOfScript}
+use Rattle.session.specs.declared.stop.Stop.{Stop}
+use Rattle.session.specs.declared.stop.Stop.TheVariants as why
 use Rattle.session.specs.file.AnyServing.{RestsByRun, RunsAnyItems, RunsNothing, RunsOnAnyFile, RunsOnServed, StandsFor}
-use Rattle.session.specs.file.Ending.{IsRefused, StopsOpening, stop_of_session}
+use Rattle.session.specs.file.Ending.{IsRefused, StopsOpening}
 use Rattle.session.specs.file.Leaving.{LeftByAnyRun, StopsUnrested}
 use Rattle.session.specs.file.Running.{IsLeftSinceAny, ServesAny}
-use Rattle.session.specs.declared.file.stop.FileStop.{FileStop}
-use Rattle.session.specs.declared.file.stop.FileStop.TheVariants as file
 use Rattle.session.proofs.FirstEndsLemmas.{ends_first}
+use Rattle.session.proofs.FileRunsLemmas.{early_of_script}
 use Rattle.session.proofs.FirstLeftLemmas.{left_first}
 
 -- ---- a store was opened
 
 -- a run on pages that are told as others are, behind the same tape, is one on these
-items_along : {told is_told : Bool} {pages theirs : PageList} {script left tape was new_tape : Option (List ℕ)} {result : Result Served FileStop} → told ≡ is_told → pages ≡ theirs → tape ≡ was
+items_along : {told is_told : Bool} {pages theirs : PageList} {script left tape was new_tape : Option (List ℕ)} {result : Result Served Stop} → told ≡ is_told → pages ≡ theirs → tape ≡ was
     → RunsAnyItems told pages script left tape new_tape result → RunsAnyItems is_told theirs script left was new_tape result
 items_along {is_told = is_told} {pages = pages} {script = script} {left = left} {new_tape = new_tape} tells same told run = record {
   held = run.held;
@@ -58,8 +58,7 @@ items_along {is_told = is_told} {pages = pages} {script = script} {left = left} 
   read = subst (λ (at : PageList). (IsTrue is_told → AreStored at run.held.defs) ⊎ RunsNothing run.items run.in_hand run.said script left) same
       (subst (λ (is : Bool). (IsTrue is → AreStored pages run.held.defs) ⊎ RunsNothing run.items run.in_hand run.said script left) tells run.read);
   tape_is = subst (λ (tape : Option (List ℕ)). Takes tape run.said new_tape) told run.tape_is;
-  end_ = run.end_;
-  result_is = run.result_is;
+  of_script = run.of_script;
   ends = run.ends;
   built = run.built;
 }
@@ -69,7 +68,7 @@ pub tells_still : (old new : Option File) → (old ≡ None → new ≡ None) �
 tells_still None new untold told = ap is_some (untold refl)
 tells_still (Some before) new untold told = ap is_some (told before refl).1
 
-module _ {S D : Type 0} (g : pages.Ghosts S) (d : disk.Ghosts D) (store : S) (script left : Option (List ℕ)) (new : D) (result : Result Served FileStop) where
+module _ {S D : Type 0} (g : pages.Ghosts S) (d : disk.Ghosts D) (store : S) (script left : Option (List ℕ)) (new : D) (result : Result Served Stop) where
   -- a run on a store that was opened on a file is one on the file
   pub any_served_on_file : (file opened : Option File) (tape : Option (List ℕ)) → ServesAny g d opened script left store new result → is_some opened ≡ is_some file → (g.state store).told ≡ tape
       → ForSome file (λ before. ((g.state store).base ≡ pages_in before.bytes) × IsFormed before.bytes × (after : File) × (opened ≡ Some after) × Stands before.bytes (pages_in before.bytes) after.bytes)
@@ -103,7 +102,7 @@ module _ {S D : Type 0} (g : pages.Ghosts S) (d : disk.Ghosts D) (store : S) (sc
     left_opened t image heard (inr none) = inr (record { pages = None; left = none; kind = λ same silent. absurd (cc) })
 
     -- at its end
-    kept_opened : (heard : List ℕ) → TellsNow d new → ReachesBack d.clock d.moment new → (d.beside new).tape ≡ Some heard → (result ≡ Err file.Device → ⊥)
+    kept_opened : (heard : List ℕ) → TellsNow d new → ReachesBack d.clock d.moment new → (d.beside new).tape ≡ Some heard → (result ≡ Err why.Device → ⊥)
         → StandsFor before.bytes (held_last serves.run.held serves.run.stages).base (d.file new)
     kept_opened heard now back heard_is other at is image could =
         let kept = serves.kept other said told after refl image heard (image_since d new at heard (d.clock new) image now back is heard_is (omega arith) could) in
@@ -157,9 +156,9 @@ theirs_of_file None at is = absurd (cc)
 theirs_of_file (Some file) at is = let same : file ≡ at = cc in ap (λ (f : File). pages_in f.bytes) same
 
 -- a run of nothing on these pages, up to a stop that isn't of the script
-nothing_on : (told : Bool) (pages : PageList) (script tape new_tape : Option (List ℕ)) (end_ : SessionStop) (stop : FileStop) → stop ≡ stop_of_session end_ → (end_ ≡ session.Unread → ⊥) → (end_ ≡ session.TooLong → ⊥) → new_tape ≡ tape
+nothing_on : (told : Bool) (pages : PageList) (script tape new_tape : Option (List ℕ)) (stop : Stop) → IsOfScript stop → (stop ≡ why.Unread → ⊥) → (stop ≡ why.TooLong → ⊥) → new_tape ≡ tape
     → RunsAnyItems told pages script script tape new_tape (Err stop)
-nothing_on told pages script tape new_tape end_ stop is read long same = record {
+nothing_on told pages script tape new_tape stop is read long same = record {
   held = record { base = pages; work = pages; defs = no_tables; open_ = false; settings = first_settings; pass = Idle };
   first = record { base = refl; work = refl; closed = refl; settings = refl; pass = refl };
   items = [];
@@ -170,14 +169,13 @@ nothing_on told pages script tape new_tape end_ stop is read long same = record 
   said = [];
   read = inr (record { unmet = refl; none_in_hand = refl; unsaid = refl; untaken = refl });
   tape_is = subst (Takes tape []) (sym same) (takes_nothing tape);
-  end_ = Err end_;
-  result_is = ap Err is;
-  ends = ends_first script end_ read long;
+  of_script = is;
+  ends = ends_first script stop read long;
   built = λ stmt hand other. absurd (cc);
 }
 
 -- a file that isn't opened for damage is damaged there
-damage_of_opening : (bytes : List ℕ) (fault : OpenFault) (stop : FileStop) (damage : Damage) → Refuses fault bytes → StopsOpening fault stop → stop ≡ file.Damaged damage → IsDamagedFile damage bytes
+damage_of_opening : (bytes : List ℕ) (fault : OpenFault) (stop : Stop) (damage : Damage) → Refuses fault bytes → StopsOpening fault stop → stop ≡ why.Damaged damage → IsDamagedFile damage bytes
 damage_of_opening bytes opening.Exists stop damage refuses stops is = absurd refuses
 damage_of_opening bytes opening.Unmade stop damage refuses stops is = absurd (cc)
 damage_of_opening bytes opening.NotMdc stop damage refuses stops is = absurd (cc)
@@ -189,38 +187,38 @@ damage_of_opening bytes (opening.Damaged named) stop damage refuses stops is =
 damage_of_opening bytes opening.Memory stop damage refuses stops is = absurd (cc)
 
 -- such a run on a file, where the damage that it names is that of one that can't be opened
-nothing_on_file : (at : Option File) (script tape new_tape : Option (List ℕ)) (end_ : SessionStop) (stop : FileStop) → ((damage : Damage) → stop ≡ file.Damaged damage → ForSome at (λ told. IsDamagedFile damage told.bytes))
-    → stop ≡ stop_of_session end_ → (end_ ≡ session.Unread → ⊥) → (end_ ≡ session.TooLong → ⊥) → new_tape ≡ tape → RunsOnServed at script script tape new_tape (Err stop)
-nothing_on_file at script tape new_tape end_ stop damaged is read long same = record {
+nothing_on_file : (at : Option File) (script tape new_tape : Option (List ℕ)) (stop : Stop) → ((damage : Damage) → stop ≡ why.Damaged damage → ForSome at (λ told. IsDamagedFile damage told.bytes))
+    → IsOfScript stop → (stop ≡ why.Unread → ⊥) → (stop ≡ why.TooLong → ⊥) → new_tape ≡ tape → RunsOnServed at script script tape new_tape (Err stop)
+nothing_on_file at script tape new_tape stop damaged is read long same = record {
   pages = pages_of_file at;
   theirs = theirs_of_file at;
-  run = nothing_on (is_some at) (pages_of_file at) script tape new_tape end_ stop is read long same;
+  run = nothing_on (is_some at) (pages_of_file at) script tape new_tape stop is read long same;
   damage = λ damage ends before told. inl (damaged damage (cc) before told);
 }
 
 -- nothing was run on a file that wasn't opened, unless its opening refused it
-pub any_unopened : (file : Option File) (script tape new_tape : Option (List ℕ)) (fault : OpenFault) (stop : FileStop) → ForSome file (λ file. Refuses fault file.bytes) → StopsOpening fault stop → new_tape ≡ tape
+pub any_unopened : (file : Option File) (script tape new_tape : Option (List ℕ)) (fault : OpenFault) (stop : Stop) → ForSome file (λ file. Refuses fault file.bytes) → StopsOpening fault stop → new_tape ≡ tape
     → IsRefused (Err stop) ⊎ RunsOnServed file script script tape new_tape (Err stop)
 any_unopened at script tape new_tape opening.Exists stop refuses stops same = absurd stops
 any_unopened at script tape new_tape opening.Unmade stop refuses stops same = inl (rw stops tt)
 any_unopened at script tape new_tape opening.NotMdc stop refuses stops same = inl (rw stops tt)
 any_unopened at script tape new_tape (opening.Version version) stop refuses stops same = inl (rw stops tt)
-any_unopened at script tape new_tape opening.Device stop refuses stops same = inr (nothing_on_file at script tape new_tape session.Device stop (λ damage named. absurd (cc)) stops (λ e. cc) (λ e. cc) same)
+any_unopened at script tape new_tape opening.Device stop refuses stops same = inr (nothing_on_file at script tape new_tape stop (λ damage named. absurd (cc)) (rw stops tt) (λ e. cc) (λ e. cc) same)
 any_unopened at script tape new_tape (opening.Damaged damage) stop refuses stops same =
-    inr (nothing_on_file at script tape new_tape (session.Damaged damage) stop (λ other named before is. damage_of_opening before.bytes (opening.Damaged damage) stop other (refuses before is) stops named) stops (λ e. cc) (λ e. cc) same)
-any_unopened at script tape new_tape opening.Memory stop refuses stops same = inr (nothing_on_file at script tape new_tape session.Memory stop (λ damage named. absurd (cc)) stops (λ e. cc) (λ e. cc) same)
+    inr (nothing_on_file at script tape new_tape stop (λ other named before is. damage_of_opening before.bytes (opening.Damaged damage) stop other (refuses before is) stops named) (rw stops tt) (λ e. cc) (λ e. cc) same)
+any_unopened at script tape new_tape opening.Memory stop refuses stops same = inr (nothing_on_file at script tape new_tape stop (λ damage named. absurd (cc)) (rw stops tt) (λ e. cc) (λ e. cc) same)
 
 -- nor where the disk failed or memory was wanted before
-pub any_before : (file : Option File) (script tape new_tape : Option (List ℕ)) (end_ : SessionStop) → (end_ ≡ session.Device) ⊎ (end_ ≡ session.Memory) → new_tape ≡ tape
-    → RunsOnServed file script script tape new_tape (Err (stop_of_session end_))
-any_before at script tape new_tape end_ is_one same =
-    nothing_on_file at script tape new_tape end_ (stop_of_session end_) (λ damage named. absurd (undamaged end_ is_one damage named)) refl (λ e. elim is_one [ inl f ↦ cc | inr f ↦ cc ]) (λ e. elim is_one [ inl f ↦ cc | inr f ↦ cc ]) same
+pub any_before : (file : Option File) (script tape new_tape : Option (List ℕ)) (stop : Stop) → (stop ≡ why.Device) ⊎ (stop ≡ why.Memory) → new_tape ≡ tape
+    → RunsOnServed file script script tape new_tape (Err stop)
+any_before at script tape new_tape stop is_one same =
+    nothing_on_file at script tape new_tape stop (λ damage named. absurd (undamaged stop is_one damage named)) (early_of_script stop is_one) (λ e. elim is_one [ inl f ↦ cc | inr f ↦ cc ]) (λ e. elim is_one [ inl f ↦ cc | inr f ↦ cc ]) same
   where
-    undamaged : (end_ : SessionStop) → (end_ ≡ session.Device) ⊎ (end_ ≡ session.Memory) → (damage : Damage) → stop_of_session end_ ≡ file.Damaged damage → ⊥
-    undamaged end_ (inl is) damage named = let wrong : file.Device ≡ file.Damaged damage = sym (ap stop_of_session is) ∙ named in cc
-    undamaged end_ (inr is) damage named = let wrong : file.Memory ≡ file.Damaged damage = sym (ap stop_of_session is) ∙ named in cc
+    undamaged : (stop : Stop) → (stop ≡ why.Device) ⊎ (stop ≡ why.Memory) → (damage : Damage) → stop ≡ why.Damaged damage → ⊥
+    undamaged stop (inl is) damage named = cc
+    undamaged stop (inr is) damage named = cc
 
-module _ {D : Type 0} (d : disk.Ghosts D) (before : File) (said : List ℕ) (script : Option (List ℕ)) (old new : D) (First : Type 0) (fault : OpenFault) (stop : FileStop) (formed : IsFormed before.bytes) (is : d.file old ≡ Some before) (told : (d.beside old).tape ≡ Some said) where
+module _ {D : Type 0} (d : disk.Ghosts D) (before : File) (said : List ℕ) (script : Option (List ℕ)) (old new : D) (First : Type 0) (fault : OpenFault) (stop : Stop) (formed : IsFormed before.bytes) (is : d.file old ≡ Some before) (told : (d.beside old).tape ≡ Some said) where
   -- what is kept where all was on the disk
   kept_unopened : OpensOf d old new → StandsFor before.bytes (pages_in before.bytes) (d.file new)
   kept_unopened opens at is_at image could =
@@ -230,7 +228,7 @@ module _ {D : Type 0} (d : disk.Ghosts D) (before : File) (said : List ℕ) (scr
       (formed_standing before.bytes image (pages_in before.bytes) formed stands, stands.pages)
 
   -- what a crash leaves of a run of nothing
-  leaves_unopened : (held : HeldPages) → held.base ≡ pages_in before.bytes → (result : Result Served FileStop) → OpensOf d old new ⊎ (First × LeavesOf d CouldBeLeft old new)
+  leaves_unopened : (held : HeldPages) → held.base ≡ pages_in before.bytes → (result : Result Served Stop) → OpensOf d old new ⊎ (First × LeavesOf d CouldBeLeft old new)
       → RestsByRun d before said held [] [] [] old new result ⊎ StopsUnrested d before said script script old new
   leaves_unopened held base result (inl opens) =
       let Left : List ℕ → List ℕ → Type 0 = LeftByAnyRun before.bytes held [] [] [] said in
@@ -246,12 +244,12 @@ module _ {D : Type 0} (d : disk.Ghosts D) (before : File) (said : List ℕ) (scr
   leaves_unopened held base result (inr leaves) = inr (leaves.1.crash before said is told, refl)
 
   -- a run of nothing on a file that is served, but wasn't opened
-  pub any_refused_on_file : (end_ : SessionStop) → (end_ ≡ session.Device) ⊎ (end_ ≡ session.Memory) → stop ≡ stop_of_session end_ → Refuses fault before.bytes → StopsOpening fault stop
+  pub any_refused_on_file : (stop ≡ why.Device) ⊎ (stop ≡ why.Memory) → Refuses fault before.bytes → StopsOpening fault stop
       → OpensOf d old new ⊎ (First × LeavesOf d CouldBeLeft old new) → RunsOnAnyFile d before said script script old new (Err stop)
   unfolding nothing_on
-  any_refused_on_file end_ is_one stop_is refuses stops leaves =
+  any_refused_on_file is_one refuses stops leaves =
       let tape : (d.beside new).tape ≡ Some said = ap (λ b. b.tape) (kept_beside d old new First leaves) ∙ told in
-      let run = nothing_on true (pages_in before.bytes) script (Some said) (d.beside new).tape end_ stop stop_is (λ e. elim is_one [ inl f ↦ cc | inr f ↦ cc ]) (λ e. elim is_one [ inl f ↦ cc | inr f ↦ cc ]) tape in
+      let run = nothing_on true (pages_in before.bytes) script (Some said) (d.beside new).tape stop (early_of_script stop is_one) (λ e. elim is_one [ inl f ↦ cc | inr f ↦ cc ]) (λ e. elim is_one [ inl f ↦ cc | inr f ↦ cc ]) tape in
       record {
         serves = record {
           pages = pages_in before.bytes;

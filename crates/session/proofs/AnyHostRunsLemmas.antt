@@ -1,5 +1,5 @@
 -- Runs on a store whatever its pages are, as the host has them to which the store is closed.
-use Rattle.std.proofs.Common.{◌≡◌, ◌⊎◌, ◌≤◌, ℕ, Bool, List, Option, Some, None, Result, Err, false, is_some, sym, ◌∙◌, ap, subst, inl, inr}
+use Rattle.std.proofs.Common.{◌≡◌, ◌⊎◌, ◌≤◌, ℕ, Bool, List, Option, Some, None, Result, Err, IfErr, false, is_some, sym, ◌∙◌, ap, subst, inl, inr}
 use Rattle.std.specs.Option.{ForSome}
 use Rattle.std.specs.Prelude.{IsTrue, MatchBool}
 use Rattle.mdc_words.specs.Time.{OverTime}
@@ -27,14 +27,12 @@ use Rattle.session.specs.script.AnyGoing.{GoesOnAny}
 use Rattle.session.specs.script.AnyStops.{IsHeldDamage}
 use Rattle.session.specs.script.Going.{Stage}
 use Rattle.session.specs.script.Leaving.{LeftOnAny}
-use Rattle.session.specs.declared.script.stop.Served.{Served}
-use Rattle.session.specs.declared.script.stop.SessionStop.{SessionStop}
-use Rattle.session.specs.declared.script.stop.SessionStop.TheVariants as session
+use Rattle.session.specs.Stops.{IsOfScript}
+use Rattle.session.specs.declared.script.served.Served.{Served}
+use Rattle.session.specs.declared.stop.Stop.{Stop}
+use Rattle.session.specs.declared.stop.Stop.TheVariants as why
 use Rattle.session.specs.file.AnyServing.{RunsNothing}
-use Rattle.session.specs.file.Ending.{end_of_session}
 use Rattle.session.specs.file.Running.{IsLeftSinceAny, RunsAnyOnStore, ServesAny}
-use Rattle.session.specs.declared.file.stop.FileStop.{FileStop}
-use Rattle.session.proofs.EndOfSessionLemmas.{stop_of_end}
 
 -- no run leaves a file that doesn't reopen
 never_none : {held : HeldPages} {stages : List Stage} {outcomes : List Outcome} {in_hand : List Item} {before heard : List ℕ} → LeftOnAny held stages outcomes in_hand before None heard → ⊥
@@ -73,15 +71,15 @@ kept_any g file last image heard rests going (inr none) =
     let only = only_base (g.state last) None heard going (rests.only_rest None heard none) in
     absurd (cc)
 
-module _ {S D : Type 0} (g : pages.Ghosts S) (d : disk.Ghosts D) (file : Option File) (shape : Shape) (script left : Option (List ℕ)) (old last : S) (new : D) (end_ : Result Served SessionStop) (result : Result Served FileStop) where
+module _ {S D : Type 0} (g : pages.Ghosts S) (d : disk.Ghosts D) (file : Option File) (shape : Shape) (script left : Option (List ℕ)) (old last : S) (new : D) (result : Result Served Stop) where
   -- a run on a store, as the host has it to which the store was closed
-  pub any_on_host : RunsAnyOnStore g shape script left old last end_ → (g.state old).is_told ≡ is_some file → (d.beside new).tape ≡ (g.state last).told → result ≡ end_of_session end_
+  pub any_on_host : RunsAnyOnStore g shape script left old last result → (g.state old).is_told ≡ is_some file → (d.beside new).tape ≡ (g.state last).told → IfErr result IsOfScript
       → ForSome file (λ file. (given : Shape) → StatesExtents file.bytes given → shape ≡ given)
       → ((heard : List ℕ) → (g.state last).told ≡ Some heard → ForSome file (λ file. (t : ℕ) (image tape : List ℕ) → d.moment new t image tape → IsImageLeft file.bytes (g.left last t) image tape))
-      → d.clock new ≡ g.clock last → Rests g last → ((end_ ≡ Err session.Device → ⊥) → (g.state last).ended ≡ false)
+      → d.clock new ≡ g.clock last → Rests g last → ((result ≡ Err why.Device → ⊥) → (g.state last).ended ≡ false)
       → ((said : List ℕ) → (g.state old).told ≡ Some said → (heard : List ℕ) × ((g.state last).told ≡ Some heard))
       → ServesAny g d file script left old new result
-  any_on_host runs is_told tape_is result_is states closes same_clock rests going tape = record {
+  any_on_host runs is_told tape_is of_script states closes same_clock rests going tape = record {
     run = record {
       held = runs.held;
       first = runs.first;
@@ -93,21 +91,18 @@ module _ {S D : Type 0} (g : pages.Ghosts S) (d : disk.Ghosts D) (file : Option 
       said = runs.said;
       read = subst (λ (told : Bool). (IsTrue told → AreStored (g.state old).base runs.held.defs) ⊎ RunsNothing runs.items runs.in_hand runs.said script left) is_told runs.read;
       tape_is = subst (λ (tape : Option (List ℕ)). Takes (g.state old).told runs.said tape) (sym tape_is) runs.told;
-      end_ = end_;
-      result_is = result_is;
+      of_script = of_script;
       ends = runs.ends;
       built = runs.built;
     };
     damage = λ damage is at told given stated.
-        let named : end_ ≡ Err (session.Damaged damage) = stop_of_end end_ (session.Damaged damage) (sym result_is ∙ is) in
-        subst (λ (s : Shape). IsHeldDamage s runs.held runs.stages runs.in_hand damage) (states at told given stated) (runs.damage damage named (is_told ∙ ap is_some told));
+        subst (λ (s : Shape). IsHeldDamage s runs.held runs.stages runs.in_hand damage) (states at told given stated) (runs.damage damage is (is_told ∙ ap is_some told));
     since = λ said told at is t early image heard now.
         let heard_last = tape said told in
         since_any g.clock g.left (LeftOnAny runs.held runs.stages runs.outcomes runs.in_hand said) at.bytes old last t image heard (runs.time said told) early never_none (closes heard_last.0 heard_last.1 at is t image heard now);
     kept = λ other said told at is image heard now.
         let heard_last = tape said told in
-        let not_device : end_ ≡ Err session.Device → ⊥ = λ e. other (result_is ∙ ap end_of_session e) in
-        let kept = kept_any g at.bytes last image heard rests (going not_device)
+        let kept = kept_any g at.bytes last image heard rests (going other)
         (subst (λ (t : ℕ). IsImageLeft at.bytes (g.left last t) image heard) same_clock (closes heard_last.0 heard_last.1 at is (d.clock new) image heard now)) in
-        (kept.0, kept.1 ∙ runs.kept not_device);
+        (kept.0, kept.1 ∙ runs.kept other);
   }

@@ -9,8 +9,8 @@ use Rattle.script_engine.specs.Held.{HeldPages}
 use Rattle.script_engine.specs.OnAnyPages.{judged_pages}
 use Rattle.session.specs.script.AnyStops.{AreJudged, IsHeldDamage, StopsOnAny}
 use Rattle.session.specs.script.Going.{Stage, held_last}
-use Rattle.session.specs.declared.script.stop.SessionStop.{SessionStop}
-use Rattle.session.specs.declared.script.stop.SessionStop.TheVariants.{Damaged}
+use Rattle.session.specs.declared.stop.Stop.{Stop}
+use Rattle.session.specs.declared.stop.Stop.TheVariants.{Damaged}
 use Rattle.session.proofs.GoingLemmas.{held_last-append, held_last_behind}
 
 -- the pages that are judged behind other stages
@@ -25,7 +25,7 @@ damage_behind : (shape : Shape) (held : HeldPages) (stages more : List Stage) (i
 damage_behind shape held stages more in_hand damage is = record { pages = is.pages; judged = judged_behind held stages more in_hand is.pages is.judged; first = is.first }
 
 -- a stop behind other stages
-pub stops_behind : (told : Bool) (shape : Shape) (held : HeldPages) (stages more : List Stage) (in_hand : List Item) (stop : SessionStop) (base : PageList)
+pub stops_behind : (told : Bool) (shape : Shape) (held : HeldPages) (stages more : List Stage) (in_hand : List Item) (stop : Stop) (base : PageList)
     → StopsOnAny told shape (held_last held stages) more in_hand stop base → StopsOnAny told shape held (stages ++ more) in_hand stop base
 stops_behind told shape held stages more in_hand stop base stops = record {
   kept = λ other. stops.kept other ∙ ap (λ (last : HeldPages). last.base) (sym (held_last-append held stages more));
@@ -34,7 +34,7 @@ stops_behind told shape held stages more in_hand stop base stops = record {
 }
 
 -- a stop that names no damage, with no item in hand, where nothing was committed since
-pub stops_still : (told : Bool) (shape : Shape) (held : HeldPages) (stages : List Stage) (stop : SessionStop) (base : PageList) → ((damage : Damage) → stop ≡ Damaged damage → ⊥)
+pub stops_still : (told : Bool) (shape : Shape) (held : HeldPages) (stages : List Stage) (stop : Stop) (base : PageList) → ((damage : Damage) → stop ≡ Damaged damage → ⊥)
     → base ≡ (held_last held stages).base → StopsOnAny told shape held stages [] stop base
 stops_still told shape held stages stop base undamaged same = record {
   kept = λ other. same;

@@ -12,10 +12,10 @@ use Rattle.sql_reader.specs.declared.statements.Read.{Read}
 use Rattle.sql_reader.specs.declared.statements.ReadStop.{ReadStop}
 use Rattle.session.specs.script.ScriptLaws.{ScriptLaws}
 use Rattle.session.specs.script.Serving.{EndsScript, TakesScript}
-use Rattle.session.specs.script.Stops.{served_by, stop_of_reader}
+use Rattle.session.specs.Stops.{served_by, stop_of_reader}
 use Rattle.session.specs.script.Turning.{IsTurnStop}
-use Rattle.session.specs.declared.script.stop.SessionStop.{SessionStop}
-use Rattle.session.specs.declared.script.stop.SessionStop.TheVariants.{Memory}
+use Rattle.session.specs.declared.stop.Stop.{Stop}
+use Rattle.session.specs.declared.stop.Stop.TheVariants.{Memory}
 use Rattle.session.proofs.AskingLemmas.{IsAsked}
 use Rattle.session.proofs.EndingLemmas.{ends_done, ends_reading, ends_script, ends_turning, nothing_left, says_all, says_part, stops_within, taken_by_reader, taken_by_turn, takes_script}
 use Rattle.session.proofs.ScriptItemsLemmas.{in_time_first, none_given}
@@ -49,7 +49,7 @@ takes_asked_reading {script} {left} {stop = stop} asked =
     taken_by_reader stop asked.progress.taken rest (λ e. (asked.too_long (ap Err e)).0) (elim asked.within [ inl fits ↦ inl fits | inr e ↦ inr cc ]))
 
 -- the turn of an item stopped behind its outcome
-pub ends_asked_untold : (laws : ScriptLaws) {script left : Option (List ℕ)} {reader : Holding} {items : List Item} {read : Read} (stop : SessionStop) (outcomes : List Outcome) (outcome : Outcome) (part unsaid : List ℕ)
+pub ends_asked_untold : (laws : ScriptLaws) {script left : Option (List ℕ)} {reader : Holding} {items : List Item} {read : Read} (stop : Stop) (outcomes : List Outcome) (outcome : Outcome) (part unsaid : List ℕ)
     → length items ≡ length outcomes → outcome_text outcome ≡ part ++ unsaid → IsAsked script left reader items (Ok (Some read)) → IsTurnStop stop
     → IfSome script (λ bytes. EndsScript bytes left (texts outcomes ++ part) (items ++ item_of read ∷ []) [] (outcomes ++ outcome ∷ []) (Err stop))
 ends_asked_untold laws {script} {left} {items = items} {read = read} stop outcomes outcome part unsaid count text asked is_stop =
@@ -61,7 +61,7 @@ ends_asked_untold laws {script} {left} {items = items} {read = read} stop outcom
     (omega (arith, count, length-append outcomes (outcome ∷ []))) (inl refl) asked.read_to.in_time (fits_asked asked)))
 
 -- it stopped at the item in hand
-pub ends_asked_in_hand : (laws : ScriptLaws) {script left : Option (List ℕ)} {reader : Holding} {items : List Item} {read : Read} (stop : SessionStop) (outcomes : List Outcome) → length items ≡ length outcomes
+pub ends_asked_in_hand : (laws : ScriptLaws) {script left : Option (List ℕ)} {reader : Holding} {items : List Item} {read : Read} (stop : Stop) (outcomes : List Outcome) → length items ≡ length outcomes
     → IsAsked script left reader items (Ok (Some read)) → IsTurnStop stop → IfSome script (λ bytes. EndsScript bytes left (texts outcomes) items (item_of read ∷ []) outcomes (Err stop))
 ends_asked_in_hand laws {script} {left} {items = items} {read = read} stop outcomes count asked is_stop =
     let hand = item_of read ∷ [] in
@@ -69,7 +69,7 @@ ends_asked_in_hand laws {script} {left} {items = items} {read = read} stop outco
     ends_turning stop is_stop (stops_within laws asked.progress rest (texts outcomes) items hand outcomes (length items) asked.item
     (λ f. nothing_left left rest (asked.read_to.at_end f) is) (says_all outcomes (length items) count) (omega (arith, count)) (inr count) asked.read_to.in_time (fits_asked asked)))
 
-pub takes_asked_turning : {script left : Option (List ℕ)} {reader : Holding} {items : List Item} {read : Read} (stop : SessionStop) → IsAsked script left reader items (Ok (Some read)) → IsTurnStop stop
+pub takes_asked_turning : {script left : Option (List ℕ)} {reader : Holding} {items : List Item} {read : Read} (stop : Stop) → IsAsked script left reader items (Ok (Some read)) → IsTurnStop stop
     → IfSome script (λ bytes. TakesScript bytes left (Err stop))
 takes_asked_turning {script} {left} stop asked is_stop =
     takes_script script left asked.progress.taken (Err stop) asked.read_to.took (λ rest is. taken_by_turn stop asked.progress.taken rest is_stop (fits_asked asked))

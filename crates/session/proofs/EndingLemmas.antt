@@ -11,15 +11,15 @@ use Rattle.sql_reader.specs.declared.statements.ReadStop.TheVariants as read
 use Rattle.session.specs.script.Ending.{AnswersInTime, EndsSo, Says, StopsWithin, script_limit}
 use Rattle.session.specs.script.ScriptLaws.{ScriptLaws}
 use Rattle.session.specs.script.Serving.{EndsScript, IsTakenBy, TakesScript}
-use Rattle.session.specs.script.Stops.{served_by, stop_of_reader}
+use Rattle.session.specs.Stops.{served_by, stop_of_reader}
 use Rattle.session.specs.script.Turning.{IsTurnStop}
-use Rattle.session.specs.declared.script.stop.Served.{Served}
-use Rattle.session.specs.declared.script.stop.SessionStop.{SessionStop}
-use Rattle.session.specs.declared.script.stop.SessionStop.TheVariants.{TooLong, Unread}
+use Rattle.session.specs.declared.script.served.Served.{Served}
+use Rattle.session.specs.declared.stop.Stop.{Stop}
+use Rattle.session.specs.declared.stop.Stop.TheVariants.{NotMdc, TooLong, Unmade, Unread, Version}
 use Rattle.session.proofs.ScriptItemsLemmas.{taken_more}
 
 -- from what was taken in all
-pub ends_script : (script left : Option (List ℕ)) (taken said : List ℕ) (items in_hand : List Item) (outcomes : List Outcome) (result : Result Served SessionStop) → Took script [] left taken
+pub ends_script : (script left : Option (List ℕ)) (taken said : List ℕ) (items in_hand : List Item) (outcomes : List Outcome) (result : Result Served Stop) → Took script [] left taken
     → ((rest : List ℕ) → left ≡ Some rest → EndsSo taken rest said items in_hand outcomes result) → IfSome script (λ script. EndsScript script left said items in_hand outcomes result)
 ends_script None left taken said items in_hand outcomes result took ends = tt
 ends_script (Some script) left taken said items in_hand outcomes result (piece, rest, whole, is_left, is_taken) ends = record {
@@ -85,8 +85,11 @@ stops_within laws progress rest said items in_hand outcomes answered given empty
     }
 
 -- a stop of a turn
-pub ends_turning : (stop : SessionStop) {taken rest said : List ℕ} {items in_hand : List Item} {outcomes : List Outcome} → IsTurnStop stop → StopsWithin taken rest said items in_hand outcomes
+pub ends_turning : (stop : Stop) {taken rest said : List ℕ} {items in_hand : List Item} {outcomes : List Outcome} → IsTurnStop stop → StopsWithin taken rest said items in_hand outcomes
     → EndsSo taken rest said items in_hand outcomes (Err stop)
+ends_turning Unmade none stops = absurd none
+ends_turning NotMdc none stops = absurd none
+ends_turning (Version version) none stops = absurd none
 ends_turning Unread none stops = absurd none
 ends_turning TooLong none stops = absurd none
 ends_turning stop is stops = stops
@@ -108,7 +111,7 @@ ends_done false outcomes reads empty fits noted = (record { reads = reads; none_
 -- ---- what was taken
 
 -- from what was taken in all
-pub takes_script : (script left : Option (List ℕ)) (taken : List ℕ) (result : Result Served SessionStop) → Took script [] left taken → ((rest : List ℕ) → left ≡ Some rest → IsTakenBy result taken rest)
+pub takes_script : (script left : Option (List ℕ)) (taken : List ℕ) (result : Result Served Stop) → Took script [] left taken → ((rest : List ℕ) → left ≡ Some rest → IsTakenBy result taken rest)
     → IfSome script (λ script. TakesScript script left result)
 takes_script None left taken result took by_end = tt
 takes_script (Some script) left taken result (piece, rest, whole, is_left, is_taken) by_end = record {
@@ -120,7 +123,10 @@ takes_script (Some script) left taken result (piece, rest, whole, is_left, is_ta
 }
 
 -- by a stop of a turn
-pub taken_by_turn : (stop : SessionStop) (taken rest : List ℕ) → IsTurnStop stop → length taken ≤ script_limit → IsTakenBy (Err stop) taken rest
+pub taken_by_turn : (stop : Stop) (taken rest : List ℕ) → IsTurnStop stop → length taken ≤ script_limit → IsTakenBy (Err stop) taken rest
+taken_by_turn Unmade taken rest none fits = absurd none
+taken_by_turn NotMdc taken rest none fits = absurd none
+taken_by_turn (Version version) taken rest none fits = absurd none
 taken_by_turn Unread taken rest none fits = absurd none
 taken_by_turn TooLong taken rest none fits = absurd none
 taken_by_turn stop taken rest is fits = fits

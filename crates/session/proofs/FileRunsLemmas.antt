@@ -22,15 +22,14 @@ use Rattle.file_verdict.proofs.RestingLemmas.{IsLeftByStore, TellsNow, each_sinc
 use Rattle.file_verdict.proofs.SoundFilesLemmas.{states_standing}
 use Rattle.session.specs.script.Going.{Goes, Stage}
 use Rattle.session.specs.script.Leaving.{AreServedPages, LeftByServing}
-use Rattle.session.specs.declared.script.stop.Served.{Served}
-use Rattle.session.specs.declared.script.stop.SessionStop.{SessionStop}
-use Rattle.session.specs.declared.script.stop.SessionStop.TheVariants as session
-use Rattle.session.specs.file.Ending.{stop_of_session}
+use Rattle.session.specs.Stops.{IsOfScript}
+use Rattle.session.specs.declared.script.served.Served.{Served}
+use Rattle.session.specs.declared.stop.Stop.{Stop}
+use Rattle.session.specs.declared.stop.Stop.TheVariants as why
 use Rattle.session.specs.file.Leaving.{LeftByRun}
 use Rattle.session.specs.file.Running.{IsLeftSince, ServesStore}
 use Rattle.session.specs.file.Serving.{RunsItems, RunsOnFile}
 use Rattle.session.specs.file.Well.{AreWell, IsWell}
-use Rattle.session.specs.declared.file.stop.FileStop.{FileStop}
 use Rattle.session.proofs.FirstEndsLemmas.{ends_first}
 use Rattle.session.proofs.FirstLeftLemmas.{left_first}
 use Rattle.session.proofs.HostRunsLemmas.{ListLaws, items_on_lists}
@@ -43,19 +42,24 @@ split_left (inl (formed, states, inr was)) in_first in_second in_none = in_secon
 split_left (inr none) in_first in_second in_none = in_none none
 
 -- a fault of the disk and a want of memory name no damage
-no_damage : (end_ : SessionStop) (result : Result Served SessionStop) → (end_ ≡ session.Device) ⊎ (end_ ≡ session.Memory) → result ≡ Err end_ → (damage : Damage) → result ≡ Err (session.Damaged damage) → ⊥
+no_damage : (end_ : Stop) (result : Result Served Stop) → (end_ ≡ why.Device) ⊎ (end_ ≡ why.Memory) → result ≡ Err end_ → (damage : Damage) → result ≡ Err (why.Damaged damage) → ⊥
 no_damage end_ result (inl e) was damage ends = cc
 no_damage end_ result (inr e) was damage ends = cc
 
+-- nor do they refuse a file
+pub early_of_script : (stop : Stop) → (stop ≡ why.Device) ⊎ (stop ≡ why.Memory) → IsOfScript stop
+early_of_script stop (inl is) = subst IsOfScript (sym is) tt
+early_of_script stop (inr is) = subst IsOfScript (sym is) tt
+
 module _ {D : Type 0} (d : disk.Ghosts D) where
   -- a run on pages that a file stands for
-  record RunsFrom (pages : PageList) (before : File) (said : List ℕ) (script left : Option (List ℕ)) (old new : D) (result : Result Served FileStop) : Type 0 where
+  record RunsFrom (pages : PageList) (before : File) (said : List ℕ) (script left : Option (List ℕ)) (old new : D) (result : Result Served Stop) : Type 0 where
     pub shape : Shape
     pub states_extents : StatesExtents before.bytes shape
     pub run : RunsItems shape pages said script left (d.beside new).tape result
     pub leaves : LeavesSince d before said (LeftByRun shape run.held run.stages run.outcomes run.in_hand said) old new
 
-  on_file : (before : File) (said : List ℕ) (script left : Option (List ℕ)) (old new : D) (result : Result Served FileStop) → RunsFrom (pages_in before.bytes) before said script left old new result
+  on_file : (before : File) (said : List ℕ) (script left : Option (List ℕ)) (old new : D) (result : Result Served Stop) → RunsFrom (pages_in before.bytes) before said script left old new result
       → RunsOnFile d before said script left old new result
   on_file before said script left old new result runs = record { shape = runs.shape; states_extents = runs.states_extents; run = runs.run; leaves = runs.leaves }
 
@@ -81,7 +85,7 @@ module _ {D : Type 0} (d : disk.Ghosts D) where
       (λ none. inr (record { pages = None; left = none; kind = λ is same. absurd (let never = is in cc) }))
 
   -- a run on the store that was opened on a file is one on the file
-  pub run_on_file : {S : Type 0} (g : pages.Ghosts S) (store : S) (before : File) (said : List ℕ) (script left : Option (List ℕ)) (old opened new : D) (shape : Shape) (result : Result Served FileStop)
+  pub run_on_file : {S : Type 0} (g : pages.Ghosts S) (store : S) (before : File) (said : List ℕ) (script left : Option (List ℕ)) (old opened new : D) (shape : Shape) (result : Result Served Stop)
       → StatesExtents before.bytes shape → ServesStore g d shape said script left store new result → (g.state store).base ≡ pages_in before.bytes
       → TellsNow d old → d.file old ≡ Some before → (d.beside old).tape ≡ Some said → (origin : D) × StandsSince d.clock d.moment before said old origin opened → g.clock store ≡ d.clock opened → d.clock opened ≤ d.clock new
       → ((t : ℕ) (left : Option PageList) (heard : List ℕ) → g.left store t left heard → (image : List ℕ) × d.moment opened t image heard)
@@ -116,16 +120,16 @@ module _ {D : Type 0} (d : disk.Ghosts D) where
       }) (λ first. first) is told leaves)
 
   -- a run that stopped before any item, on a well file
-  pub refused_on_file : (laws : ListLaws) (before : File) (said : List ℕ) (script : Option (List ℕ)) (old new : D) (First : Type 0) (stop : FileStop) (end_ : SessionStop) → (well : IsWell before.bytes)
-      → (end_ ≡ session.Device) ⊎ (end_ ≡ session.Memory) → stop ≡ stop_of_session end_ → TellsNow d old → d.file old ≡ Some before → (d.beside old).tape ≡ Some said
+  pub refused_on_file : (laws : ListLaws) (before : File) (said : List ℕ) (script : Option (List ℕ)) (old new : D) (First : Type 0) (stop : Stop) → (well : IsWell before.bytes)
+      → (stop ≡ why.Device) ⊎ (stop ≡ why.Memory) → TellsNow d old → d.file old ≡ Some before → (d.beside old).tape ≡ Some said
       → OpensOf d old new ⊎ (First × LeavesOf d CouldBeLeft old new) → RunsOnFile d before said script script old new (Err stop)
-  refused_on_file laws before said script old new First stop end_ well is_one stop_is now_old is told leaves =
+  refused_on_file laws before said script old new First stop well is_one now_old is told leaves =
       let held : HeldPages = record { base = pages_in before.bytes; work = pages_in before.bytes; defs = well.served.defs; open_ = false; settings = first_settings; pass = Idle } in
       let tape : (d.beside new).tape ≡ Some (said ++ []) = ap (λ b. b.tape) (kept_beside d old new First leaves) ∙ (told ∙ ap Some (sym (append-nil said))) in
       let run : RunsItems well.shape (pages_in before.bytes) said script script (d.beside new).tape (Err stop) =
       items_on_lists laws well.shape (pages_in before.bytes) said script script (d.beside new).tape (Err stop) held well.served (record { base = refl; work = refl; defs = well.served.stored; closed = refl; settings = refl; pass = refl })
-      [] [] [] [] Goes.nothing [] tape (Err end_) (λ damage ends. no_damage end_ (Err end_) is_one refl damage ends) (ap Err stop_is)
-      (ends_first script end_ (λ e. elim is_one [ inl f ↦ cc | inr f ↦ cc ]) (λ e. elim is_one [ inl f ↦ cc | inr f ↦ cc ])) in
+      [] [] [] [] Goes.nothing [] tape (λ damage ends. no_damage stop (Err stop) is_one refl damage ends) (early_of_script stop is_one)
+      (ends_first script stop (λ e. elim is_one [ inl f ↦ cc | inr f ↦ cc ]) (λ e. elim is_one [ inl f ↦ cc | inr f ↦ cc ])) in
       record {
         shape = well.shape;
         states_extents = well.states;
@@ -136,7 +140,7 @@ module _ {D : Type 0} (d : disk.Ghosts D) where
   -- ---- each image is of a kind
 
   -- after a run each image is well, where each was before
-  pub stays_well : (before after : File) (said : List ℕ) (script left : Option (List ℕ)) (old new : D) (result : Result Served FileStop) → TellsNow d old → TellsNow d new → ReachesBack d.clock d.moment new
+  pub stays_well : (before after : File) (said : List ℕ) (script left : Option (List ℕ)) (old new : D) (result : Result Served Stop) → TellsNow d old → TellsNow d new → ReachesBack d.clock d.moment new
       → d.file old ≡ Some before → (d.beside old).tape ≡ Some said → d.file new ≡ Some after → AreWell before → RunsOnFile d before said script left old new result → AreWell after
   stays_well before after said script left old new result now_old now_new back is told is_after well runs =
       each_since d IsWell before after said (said ++ runs.run.more) old new (LeftByRun runs.shape runs.run.held runs.run.stages runs.run.outcomes runs.run.in_hand said) now_old now_new back is told is_after runs.run.tape_is

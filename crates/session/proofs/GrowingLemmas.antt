@@ -9,8 +9,8 @@ use Rattle.page_store.specs.Standing.{FrontAgrees, IsFormed}
 use Rattle.page_store.specs.declared.fault.OpenFault.{OpenFault}
 use Rattle.page_store.specs.declared.fault.OpenFault.TheVariants as opening
 use Rattle.session.specs.file.Ending.{StopsOpening}
-use Rattle.session.specs.declared.file.stop.FileStop.{FileStop}
-use Rattle.session.specs.declared.file.stop.FileStop.TheVariants as file
+use Rattle.session.specs.declared.stop.Stop.{Stop}
+use Rattle.session.specs.declared.stop.Stop.TheVariants as why
 
 -- what is picked as a file is read is what it has
 pub picked_as_read : (picked : Option (List ℕ)) (told : Option File) → picked ≡ file_bytes told → IfSome picked (λ first. ForSome told (λ file. file.bytes ≡ first))
@@ -39,5 +39,5 @@ told_first None new untold after is = absurd (let none = untold refl in cc)
 told_first (Some before) new untold after is = (before, refl)
 
 -- an opening that was refused for a fault of the disk stops the run for it
-pub stops_for_device : (fault : OpenFault) (stop : FileStop) → StopsOpening fault stop → fault ≡ opening.Device → stop ≡ file.Device
+pub stops_for_device : (fault : OpenFault) (stop : Stop) → StopsOpening fault stop → fault ≡ opening.Device → stop ≡ why.Device
 stops_for_device fault stop stops is = subst (λ (f : OpenFault). StopsOpening f stop) is stops

@@ -1,5 +1,5 @@
 -- Runs on a store, as the host has them to which the store is closed.
-use Rattle.std.proofs.Common.{◌≡◌, ◌≤◌, ℕ, List, ◌++◌, Option, Some, None, Result, Err, IfSome, sym, ◌∙◌, subst, inl, inr}
+use Rattle.std.proofs.Common.{◌≡◌, ◌≤◌, ℕ, List, ◌++◌, Option, Some, None, Result, Err, IfErr, IfSome, sym, ◌∙◌, subst, inl, inr}
 use Rattle.mdc_words.specs.Time.{OverTime}
 use Rattle.mdc_ast.specs.declared.reply.Outcome.{Outcome}
 use Rattle.mdc_ast.specs.Reading.{Item}
@@ -20,13 +20,12 @@ use Rattle.session.specs.script.Going.{GoesOnPages, Stage}
 use Rattle.session.specs.script.Leaving.{AreServedPages, LeftByServing}
 use Rattle.session.specs.script.Lists.{GoesOnLists}
 use Rattle.session.specs.script.Serving.{EndsScript}
-use Rattle.session.specs.declared.script.stop.Served.{Served}
-use Rattle.session.specs.declared.script.stop.SessionStop.{SessionStop}
-use Rattle.session.specs.declared.script.stop.SessionStop.TheVariants as session
-use Rattle.session.specs.file.Ending.{end_of_session}
+use Rattle.session.specs.declared.script.served.Served.{Served}
+use Rattle.session.specs.Stops.{IsOfScript}
+use Rattle.session.specs.declared.stop.Stop.{Stop}
+use Rattle.session.specs.declared.stop.Stop.TheVariants as why
 use Rattle.session.specs.file.Running.{IsLeftSince, RunsOnStore, ServesStore}
 use Rattle.session.specs.file.Serving.{IsOpened, RunsItems}
-use Rattle.session.specs.declared.file.stop.FileStop.{FileStop}
 
 -- the laws by which a run over sound pages is one over lists of rows
 pub record ListLaws : Type 0 where
@@ -45,11 +44,10 @@ opened_session shape pages held db opened stands = record {
 }
 
 -- the run over the lists of rows for which the pages stand
-pub items_on_lists : (laws : ListLaws) (shape : Shape) (pages : PageList) (said : List ℕ) (script left tape : Option (List ℕ)) (result : Result Served FileStop) (held : HeldPages) → AreServedPages shape pages → IsOpened pages held
+pub items_on_lists : (laws : ListLaws) (shape : Shape) (pages : PageList) (said : List ℕ) (script left tape : Option (List ℕ)) (result : Result Served Stop) (held : HeldPages) → AreServedPages shape pages → IsOpened pages held
     → (items : List Item) (outcomes : List Outcome) (stages : List Stage) (in_hand : List Item) → GoesOnPages shape held items outcomes stages → (more : List ℕ) → tape ≡ Some (said ++ more)
-    → (end_ : Result Served SessionStop) → ((damage : Damage) → end_ ≡ Err (session.Damaged damage) → ⊥) → result ≡ end_of_session end_
-    → IfSome script (λ script. EndsScript script left more items in_hand outcomes end_) → RunsItems shape pages said script left tape result
-items_on_lists laws shape pages said script left tape result held served opened items outcomes stages in_hand goes more tape_is end_ undamaged result_is ends =
+    → ((damage : Damage) → result ≡ Err (why.Damaged damage) → ⊥) → IfErr result IsOfScript → IfSome script (λ script. EndsScript script left more items in_hand outcomes result) → RunsItems shape pages said script left tape result
+items_on_lists laws shape pages said script left tape result held served opened items outcomes stages in_hand goes more tape_is undamaged of_script ends =
     let stands = laws.stand shape pages served.sound in
     let on_lists = laws.lists shape held items outcomes stages goes (session_on stands.0) (opened_session shape pages held stands.0 opened stands.1) in
     record {
@@ -66,9 +64,8 @@ items_on_lists laws shape pages said script left tape result held served opened 
       lists = on_lists.1;
       more = more;
       tape_is = tape_is;
-      end_ = end_;
       undamaged = undamaged;
-      result_is = result_is;
+      of_script = of_script;
       ends = ends;
     }
 
@@ -85,15 +82,15 @@ reopens : {shape : Shape} {held : HeldPages} {stages : List Stage} {outcomes : L
 reopens left = let none : None ≡ Some left.pages = left.reopens in cc
 
 -- a run on a store, as the host has it to which the store was closed
-pub run_on_host : {S D : Type 0} (g : pages.Ghosts S) (d : disk.Ghosts D) (laws : ListLaws) (shape : Shape) (said : List ℕ) (script left : Option (List ℕ)) (old last : S) (new : D) (end_ : Result Served SessionStop) (result : Result Served FileStop)
-    → RunsOnStore g shape script left old last end_ → (g.state old).told ≡ Some said → (d.beside new).tape ≡ (g.state last).told → result ≡ end_of_session end_
+pub run_on_host : {S D : Type 0} (g : pages.Ghosts S) (d : disk.Ghosts D) (laws : ListLaws) (shape : Shape) (said : List ℕ) (script left : Option (List ℕ)) (old last : S) (new : D) (result : Result Served Stop)
+    → RunsOnStore g shape script left old last result → (g.state old).told ≡ Some said → (d.beside new).tape ≡ (g.state last).told → IfErr result IsOfScript
     → ((t : ℕ) (image heard : List ℕ) → d.moment new t image heard → IsLeftSince (λ pages heard. ⊥) shape (g.left last t) image heard)
     → ServesStore g d shape said script left old new result
 unfolding items_on_lists
-run_on_host g d laws shape said script left old last new end_ result runs told tape_is result_is closes = record {
+run_on_host g d laws shape said script left old last new result runs told tape_is of_script closes = record {
   served = runs.served;
   run = items_on_lists laws shape (g.state old).base said script left (d.beside new).tape result runs.held runs.served runs.opened runs.items runs.outcomes runs.stages runs.in_hand runs.goes runs.said
-      (tape_is ∙ told_behind (g.state old).told (g.state last).told runs.said said told runs.told) end_ runs.undamaged result_is runs.ends;
+      (tape_is ∙ told_behind (g.state old).told (g.state last).told runs.said said told runs.told) runs.undamaged of_script runs.ends;
   since = λ t early image heard now.
       left_since g.clock g.left (LeftByServing shape runs.held runs.stages runs.outcomes runs.in_hand said) shape old last t image heard (runs.time said told) early reopens (closes t image heard now);
 }

@@ -6,7 +6,6 @@ pub mod AnyStoreRunsLemmas
 pub mod AskedEndsLemmas
 pub mod AskingLemmas
 pub mod CausesLemmas
-pub mod EndOfSessionLemmas
 pub mod EndingLemmas
 pub mod FileRunsLemmas
 pub mod FirstEndsLemmas

@@ -6,22 +6,20 @@ use Rattle.mdc_outside.specs.Disk.{File, IsImage, all_synced}
 use Rattle.store_api.specs.declared.shape.Shape.{Shape}
 use Rattle.table_trees.specs.ToldPages.{PageList}
 use Rattle.mdc_sound.specs.StandsForDatabase.{PagesStandFor}
-use Rattle.stored_catalog.specs.StoredDefinitions.{AreStored}
 use Rattle.page_store.specs.Standing.{pages_in}
-use Rattle.script_engine.specs.Held.{HeldPages}
 use Rattle.session.proofs.KeptDatabaseLemmas.{kept_stand}
 use Rattle.file_verdict.specs.SoundFile.{StatesExtents}
 use Rattle.file_verdict.proofs.JudgingLemmas.{stated_alike}
 use Rattle.session.specs.script.Lists.{IsKeptDatabase}
-use Rattle.session.specs.declared.script.stop.Served.{Served}
+use Rattle.session.specs.declared.script.served.Served.{Served}
 use Rattle.session.specs.file.Leaving.{LeftByRun}
-use Rattle.session.specs.file.Serving.{IsOpened, RunsItems}
-use Rattle.session.specs.declared.file.stop.FileStop.{FileStop}
+use Rattle.session.specs.file.Serving.{RunsItems}
+use Rattle.session.specs.declared.stop.Stop.{Stop}
 use Rattle.session.proofs.WellFilesLemmas.{pages_left, synced_image}
 
 -- a run on what a crash within a run leaves begins with the database that this one kept
 pub next_database : ((shape : Shape) (pages : PageList) (a b : Database) → PagesStandFor shape pages a → PagesStandFor shape pages b → a ≡ b)
-    → (shape now : Shape) (pages : PageList) (said said_next : List ℕ) (script left tape script_next left_next tape_next : Option (List ℕ)) (result result_next : Result Served FileStop)
+    → (shape now : Shape) (pages : PageList) (said said_next : List ℕ) (script left tape script_next left_next tape_next : Option (List ℕ)) (result result_next : Result Served Stop)
     (run : RunsItems shape pages said script left tape result) (image told : List ℕ) (crash : LeftByRun shape run.held run.stages run.outcomes run.in_hand said image told)
     → StatesExtents image now → (next : RunsItems now (pages_in image) said_next script_next left_next tape_next result_next)
     → IsKeptDatabase shape.extents (session_on run.db) run.sessions run.in_hand crash.left.items next.db
@@ -35,7 +33,7 @@ next_database one shape now pages said said_next script left tape script_next le
 
 -- a run on what a crash leaves of a file that is all on the disk, before any run on it came to its origin, has the same database
 pub same_database : ((shape : Shape) (pages : PageList) (a b : Database) → PagesStandFor shape pages a → PagesStandFor shape pages b → a ≡ b)
-    → (before : File) (shape now : Shape) (said said_next : List ℕ) (script left tape script_next left_next tape_next : Option (List ℕ)) (result result_next : Result Served FileStop)
+    → (before : File) (shape now : Shape) (said said_next : List ℕ) (script left tape script_next left_next tape_next : Option (List ℕ)) (result result_next : Result Served Stop)
     → before.since ≡ all_synced before.bytes → StatesExtents before.bytes shape → (run : RunsItems shape (pages_in before.bytes) said script left tape result)
     → (image : List ℕ) → IsImage before.since image → StatesExtents image now → (next : RunsItems now (pages_in image) said_next script_next left_next tape_next result_next) → next.db ≡ run.db
 same_database one before shape now said said_next script left tape script_next left_next tape_next result result_next synced states run image could states_now next =

@@ -18,12 +18,12 @@ use Rattle.script_engine.specs.declared.engine.Engine.{Engine}
 use Rattle.session.specs.script.Going.{Stage, held_last}
 use Rattle.session.specs.script.ScriptLaws.{ScriptLaws}
 use Rattle.session.specs.script.Serving.{EndsScript, RunsBy}
-use Rattle.session.specs.script.Stops.{served_by, stop_of_reader}
+use Rattle.session.specs.Stops.{served_by, stop_of_reader}
 use Rattle.session.specs.script.Turning.{EndsTold, IsTurnStop, RunsItems, StopsTurn}
 use Rattle.session.specs.script.Ways.{Way}
-use Rattle.session.specs.declared.script.stop.Served.{Served}
-use Rattle.session.specs.declared.script.stop.SessionStop.{SessionStop}
-use Rattle.session.specs.declared.script.stop.SessionStop.TheVariants.{Memory}
+use Rattle.session.specs.declared.script.served.Served.{Served}
+use Rattle.session.specs.declared.stop.Stop.{Stop}
+use Rattle.session.specs.declared.stop.Stop.TheVariants.{Memory}
 use Rattle.session.proofs.AskedEndsLemmas.{ends_asked_done, ends_asked_in_hand, ends_asked_reading, ends_asked_untold, ends_unasked}
 use Rattle.session.proofs.AskingLemmas.{IsAsked}
 use Rattle.session.proofs.GoingLemmas.{held_last-append, length-items}
@@ -80,7 +80,7 @@ module _ {S : Type 0} (way : Way) {Once : HeldPages → HeldPages → Type 0} (i
   -- ---- how it ends
 
   -- a run of items that ends so is one of their script
-  runs_script : {script left : Option (List ℕ)} {items in_hand : List Item} {outcomes : List Outcome} {stages : List Stage} {said : List ℕ} {old new : Engine S} (result : Result Served SessionStop)
+  runs_script : {script left : Option (List ℕ)} {items in_hand : List Item} {outcomes : List Outcome} {stages : List Stage} {said : List ℕ} {old new : Engine S} (result : Result Served Stop)
       → RunsItems way g items in_hand outcomes stages said old new → IfSome script (λ bytes. EndsScript bytes left said items in_hand outcomes result)
       → OnOk result ((held_by g new ≡ held_last (held_by g old) stages) × Ready new)
       → IfErr result (λ stop. way.Stops (held_by g old) stages in_hand stop (g.state new.store).base) → RunsBy way Ready g script left old new result
@@ -112,13 +112,13 @@ module _ {S : Type 0} (way : Way) {Once : HeldPages → HeldPages → Type 0} (i
       (is_way.still (held_by g old) was.stages (stop_of_reader stop) (g.state new.store).base (reader_names_no_damage stop) (ap (λ (held : HeldPages). held.base) was.held))
 
   -- a stop of a turn behind the items before it
-  stops_turn : {items : List Item} {refused : Bool} {old mid : Engine S} (was : HasAnswered way Ready g items refused old mid) (new : Engine S) (more : List Stage) (in_hand : List Item) (stop : SessionStop)
+  stops_turn : {items : List Item} {refused : Bool} {old mid : Engine S} (was : HasAnswered way Ready g items refused old mid) (new : Engine S) (more : List Stage) (in_hand : List Item) (stop : Stop)
       → way.Stops (held_by g mid) more in_hand stop (g.state new.store).base → way.Stops (held_by g old) (was.stages ++ more) in_hand stop (g.state new.store).base
   stops_turn {old = old} was new more in_hand stop stops =
       is_way.behind (held_by g old) was.stages more in_hand stop (g.state new.store).base (subst (λ (held : HeldPages). way.Stops held more in_hand stop (g.state new.store).base) was.held stops)
 
   -- the turn of an item stops: behind its outcome, or at the item in hand
-  pub exit_turning : (laws : ScriptLaws) {script left : Option (List ℕ)} {reader : Holding} {items : List Item} {read : Read} (stop : SessionStop) {refused : Bool} {old mid new : Engine S}
+  pub exit_turning : (laws : ScriptLaws) {script left : Option (List ℕ)} {reader : Holding} {items : List Item} {read : Read} (stop : Stop) {refused : Bool} {old mid new : Engine S}
       → IsAsked script left reader items (Ok (Some read)) → HasAnswered way Ready g items refused old mid → IsTurnStop stop
       → StopsTurn way g (item_of read) stop mid new → RunsBy way Ready g script left old new (Err stop)
   exit_turning laws stop {new = new} asked was is_stop (inl turn) =

@@ -1,5 +1,5 @@
 -- Runs on a store: of a session that was served, and of an engine that stopped as it was opened.
-use Rattle.std.proofs.Common.{◌≡◌, ℕ, List, [], Option, IfSome, Result, Err, false, refl, sym, ◌∙◌, subst}
+use Rattle.std.proofs.Common.{◌≡◌, ℕ, List, [], Option, IfSome, Result, Ok, Err, IsErrOf, false, refl, sym, ◌∙◌, subst}
 use Rattle.mdc_words.specs.Time.{OverTime}
 use Rattle.mdc_words.proofs.TimeLemmas.{over_time_then, over_time_wider}
 use Rattle.statement_meaning.specs.Session.{first_settings}
@@ -15,43 +15,45 @@ use Rattle.script_engine.specs.Held.{HeldPages}
 use Rattle.script_engine.specs.Opening.{IsSoundStore, KeepsPages}
 use Rattle.script_engine.specs.Serving.{IsReadyEngine, held_by}
 use Rattle.script_engine.specs.declared.engine.Engine.{Engine}
-use Rattle.script_engine.specs.declared.stop.EngineStop.{EngineStop}
-use Rattle.script_engine.specs.declared.stop.EngineStop.TheVariants as engine
+use Rattle.store_api.specs.declared.fault.StoreFault.{StoreFault}
+use Rattle.store_api.specs.declared.fault.StoreFault.TheVariants as fault
 use Rattle.session.proofs.ToldLemmas.{takes_nothing}
 use Rattle.session.specs.script.Going.{Goes}
 use Rattle.session.specs.script.Leaving.{AreServedPages, ReopensAlways}
 use Rattle.session.specs.script.Serving.{RunsScript, TakesScript}
-use Rattle.session.specs.script.Stops.{stop_of_engine}
-use Rattle.session.specs.declared.script.stop.Served.{Served}
-use Rattle.session.specs.declared.script.stop.SessionStop.{SessionStop}
-use Rattle.session.specs.declared.script.stop.SessionStop.TheVariants as session
+use Rattle.session.specs.Stops.{stop_of_fault}
+use Rattle.session.specs.declared.script.served.Served.{Served}
+use Rattle.session.specs.declared.stop.Stop.{Stop}
+use Rattle.session.specs.declared.stop.Stop.TheVariants as why
 use Rattle.session.specs.file.Running.{RunsOnStore}
 use Rattle.session.proofs.FirstEndsLemmas.{ends_first, takes_first}
 use Rattle.session.proofs.FirstLeftLemmas.{left_only_base}
 
--- a stop of an engine isn't one of a reader
-pub unread : (stop : EngineStop) → stop_of_engine stop ≡ session.Unread → ⊥
-unread engine.Device is = cc
-unread engine.Output is = cc
-unread (engine.Damaged damage) is = cc
-unread engine.Memory is = cc
+-- a run that ends by an error ends by this one
+pub ends_by : {T E : Type 0} (result : Result T E) (stop : E) → IsErrOf result stop → result ≡ Err stop
+ends_by (Ok done) stop is = absurd (cc)
+ends_by (Err other) stop is = cc
 
-pub not_long : (stop : EngineStop) → stop_of_engine stop ≡ session.TooLong → ⊥
-not_long engine.Device is = cc
-not_long engine.Output is = cc
-not_long (engine.Damaged damage) is = cc
-not_long engine.Memory is = cc
+-- a fault of the store isn't a stop of a reader
+pub unread : (stop : StoreFault) → stop_of_fault stop ≡ why.Unread → ⊥
+unread fault.Device is = cc
+unread (fault.Damaged damage) is = cc
+unread fault.Memory is = cc
+
+pub not_long : (stop : StoreFault) → stop_of_fault stop ≡ why.TooLong → ⊥
+not_long fault.Device is = cc
+not_long (fault.Damaged damage) is = cc
+not_long fault.Memory is = cc
 
 -- where an engine named no damage, its session names none
-not_damaged : (stop : EngineStop) → ((damage : Damage) → stop ≡ engine.Damaged damage → ⊥) → (damage : Damage) (result : Result Served SessionStop)
-    → result ≡ Err (stop_of_engine stop) → result ≡ Err (session.Damaged damage) → ⊥
-not_damaged engine.Device undamaged damage result was is = cc
-not_damaged engine.Output undamaged damage result was is = cc
-not_damaged (engine.Damaged found) undamaged damage result was is = undamaged found refl
-not_damaged engine.Memory undamaged damage result was is = cc
+not_damaged : (stop : StoreFault) → ((damage : Damage) → stop ≡ fault.Damaged damage → ⊥) → (damage : Damage) (result : Result Served Stop)
+    → result ≡ Err (stop_of_fault stop) → result ≡ Err (why.Damaged damage) → ⊥
+not_damaged fault.Device undamaged damage result was is = cc
+not_damaged (fault.Damaged found) undamaged damage result was is = undamaged found refl
+not_damaged fault.Memory undamaged damage result was is = cc
 
 -- a session whose engine wasn't opened took nothing
-pub takes_stopped : (script : Option (List ℕ)) (stop : EngineStop) (end_ : SessionStop) → end_ ≡ stop_of_engine stop → IfSome script (λ bytes. TakesScript bytes script (Err end_))
+pub takes_stopped : (script : Option (List ℕ)) (stop : StoreFault) (end_ : Stop) → end_ ≡ stop_of_fault stop → IfSome script (λ bytes. TakesScript bytes script (Err end_))
 takes_stopped script stop end_ is = takes_first script end_ (λ long. not_long stop (sym is ∙ long))
 
 module _ {S : Type 0} (g : pages.Ghosts S) where
@@ -78,9 +80,9 @@ module _ {S : Type 0} (g : pages.Ghosts S) where
   sound_along own shape s same sound = subst (λ (at : Shape). IsSoundStore g at s) same sound
 
   -- a session that was served on an engine that was opened
-  pub served_on_store : (script left : Option (List ℕ)) (result : Result Served SessionStop) (shape : Shape) (old : S) (opened new : Engine S) → IsSoundStore g shape old → IsReadyEngine g opened
+  pub served_on_store : (script left : Option (List ℕ)) (result : Result Served Stop) (shape : Shape) (old : S) (opened new : Engine S) → IsSoundStore g shape old → IsReadyEngine g opened
       → KeepsPages g old opened.store → opened.is_open ≡ false → opened.tables.settings ≡ first_settings → opened.pass ≡ Idle → opened.tables.shape ≡ shape → RunsScript g script left opened new result
-      → ((damage : Damage) → result ≡ Err (session.Damaged damage) → ⊥) → RunsOnStore g shape script left old new.store result
+      → ((damage : Damage) → result ≡ Err (why.Damaged damage) → ⊥) → RunsOnStore g shape script left old new.store result
   served_on_store script left result shape old opened new sound ready keeps closed settings pass same_shape runs undamaged =
       let work : (g.state opened.store).work ≡ (g.state old).base = keeps.work ∙ sym sound.committed in
       let served = served_ready opened (g.state old).base keeps.base ready in
@@ -104,8 +106,8 @@ module _ {S : Type 0} (g : pages.Ghosts S) where
       subst (λ (s : Shape). RunsOnStore g s script left old new.store result) same_shape on_store
 
   -- an engine that stopped as it was opened
-  pub stopped_on_store : (script : Option (List ℕ)) (stop : EngineStop) (shape : Shape) (old new : S) → IsSoundStore g shape old → KeepsPages g old new
-      → ((damage : Damage) → stop ≡ engine.Damaged damage → ⊥) → RunsOnStore g shape script script old new (Err (stop_of_engine stop))
+  pub stopped_on_store : (script : Option (List ℕ)) (stop : StoreFault) (shape : Shape) (old new : S) → IsSoundStore g shape old → KeepsPages g old new
+      → ((damage : Damage) → stop ≡ fault.Damaged damage → ⊥) → RunsOnStore g shape script script old new (Err (stop_of_fault stop))
   stopped_on_store script stop shape old new sound keeps undamaged =
       let served = served_sound shape old sound in
       let held : HeldPages = record { base = (g.state old).base; work = (g.state old).base; defs = served.defs; open_ = false; settings = first_settings; pass = Idle } in
@@ -120,8 +122,8 @@ module _ {S : Type 0} (g : pages.Ghosts S) where
         goes = Goes.nothing;
         said = [];
         told = subst (λ (tape : Option (List ℕ)). Takes (g.state old).told [] tape) (sym keeps.told) (takes_nothing (g.state old).told);
-        undamaged = λ damage is. not_damaged stop undamaged damage (Err (stop_of_engine stop)) refl is;
-        ends = ends_first script (stop_of_engine stop) (unread stop) (not_long stop);
+        undamaged = λ damage is. not_damaged stop undamaged damage (Err (stop_of_fault stop)) refl is;
+        ends = ends_first script (stop_of_fault stop) (unread stop) (not_long stop);
         time = λ before is. over_time_wider keeps.time (λ left heard only. left_only_base held [] [] [] before (g.state old) left heard served refl is only);
       }
 
@@ -139,6 +141,6 @@ module _ {S : Type 0} (g : pages.Ghosts S) where
 -- ---- a shape that is the same
 
 -- a run in a shape is one in another that is the same
-pub runs_along : {S : Type 0} (g : pages.Ghosts S) (own shape : Shape) (script left : Option (List ℕ)) (old last : S) (end_ : Result Served SessionStop) → own ≡ shape
+pub runs_along : {S : Type 0} (g : pages.Ghosts S) (own shape : Shape) (script left : Option (List ℕ)) (old last : S) (end_ : Result Served Stop) → own ≡ shape
     → RunsOnStore g own script left old last end_ → RunsOnStore g shape script left old last end_
 runs_along g own shape script left old last end_ same runs = subst (λ (at : Shape). RunsOnStore g at script left old last end_) same runs

@@ -19,21 +19,20 @@ use Rattle.script_engine.specs.OnAnyPages.{IsGoingEngine}
 use Rattle.script_engine.specs.Resting.{IsHeldWithin, RestsOnce, RestsOnceOnAny, Settles, TakesStepsBy, held_behind}
 use Rattle.script_engine.specs.Serving.{IsReadyEngine, held_by}
 use Rattle.script_engine.specs.declared.engine.Engine.{Engine}
-use Rattle.script_engine.specs.declared.stop.EngineStop.{EngineStop}
-use Rattle.script_engine.specs.declared.stop.EngineStop.TheVariants as engine
+use Rattle.store_api.specs.declared.fault.StoreFault.{StoreFault}
 use Rattle.session.specs.script.Answering.{AnswersBy, AnswersItem, StopsBy, TellsOutcome}
 use Rattle.session.specs.script.AnyStops.{AreJudged, StopsOnAny}
 use Rattle.session.specs.script.Engines.{IsAnyEngine, IsSoundEngine}
 use Rattle.session.specs.script.Going.{end_of, still}
 use Rattle.session.specs.script.Leaving.{ReopensAlways}
-use Rattle.session.specs.script.Stops.{stop_of_engine}
+use Rattle.session.specs.Stops.{stop_of_fault}
 use Rattle.session.specs.script.TheWays.{on_any, on_sound}
 use Rattle.session.specs.script.Turning.{EndsTold, RunsItems, StopsTurn, TurnsItem}
 use Rattle.session.specs.script.Ways.{Way}
-use Rattle.session.specs.declared.script.stop.SessionStop.{SessionStop}
+use Rattle.session.specs.declared.stop.Stop.{Stop}
 use Rattle.session.proofs.AnsweringLemmas.{served_base}
 use Rattle.session.proofs.GoingLemmas.{end_of-stage_then, stage_then, within_behind}
-use Rattle.session.proofs.StopsLemmas.{counts_device, counts_none, device_stop, engine_stops_turn, is_output, names_damage, of_device, telling_names_no_damage, telling_not_device, telling_stops_turn}
+use Rattle.session.proofs.StopsLemmas.{counts_device, counts_none, device_stop, engine_stops_turn, names_damage, never_unsaid, of_device, telling_names_no_damage, telling_not_device, telling_stops_turn}
 use Rattle.session.proofs.ToldLemmas.{same-tells_more, takes-tells, tells_more_then}
 use Rattle.session.proofs.TurningLemmas.{reopens_answering, reopens_resting, reopens_then, runs_one, runs_rested, runs_stopped}
 use Rattle.session.proofs.WayLemmas.{IsWay, any_way, sound_way}
@@ -43,11 +42,11 @@ use Rattle.session.proofs.WayLemmas.{IsWay, any_way, sound_way}
 module _ {S : Type 0} (way : Way) {Once : HeldPages → HeldPages → Type 0} (is_way : IsWay way Once) (Ready : Engine S → Type 0) (g : Ghosts S)
     (left_ready : (engine : Engine S) → Ready engine → way.Left (g.state engine.store).base) (item : Item) where
   -- before there is an outcome
-  stops_unanswered : (stop : SessionStop) (old new : Engine S) → StopsBy way g item stop old new → (g.state new.store).told ≡ (g.state old.store).told → StopsTurn way g item stop old new
+  stops_unanswered : (stop : Stop) (old new : Engine S) → StopsBy way g item stop old new → (g.state new.store).told ≡ (g.state old.store).told → StopsTurn way g item stop old new
   stops_unanswered stop old new stops same = inr (record { runs = runs_stopped way g item stop old new stops same; stops = stops.stops })
 
   -- a first part of its text was told
-  stops_untold : (stop : SessionStop) (outcome : Outcome) (old mid new : Engine S) → Ready old → AnswersBy way Ready g item outcome old mid → (g.state mid.store).told ≡ (g.state old.store).told
+  stops_untold : (stop : Stop) (outcome : Outcome) (old mid new : Engine S) → Ready old → AnswersBy way Ready g item outcome old mid → (g.state mid.store).told ≡ (g.state old.store).told
       → TellsOutcome g outcome (Err stop) mid new → StopsTurn way g item stop old new
   stops_untold stop outcome old mid new ready answers same tells =
       let takes = takes-tells (record (g.state mid.store) { hand = None }) (record (g.state new.store) { hand = None }) tells.err.0 tells.err.2 in
@@ -74,13 +73,13 @@ module _ {S : Type 0} (way : Way) {Once : HeldPages → HeldPages → Type 0} (i
   }
 
   -- what a turn told, with the steps after it
-  runs_settled : {refused : Bool} {Now : Engine S → Type 0} {result : Result (Unit {0}) EngineStop} {old mid new : Engine S} (told : EndsTold way Ready g item refused old mid)
+  runs_settled : {refused : Bool} {Now : Engine S → Type 0} {result : Result (Unit {0}) StoreFault} {old mid new : Engine S} (told : EndsTold way Ready g item refused old mid)
       → (takes : TakesStepsBy g Once Now result mid new) → (g.state new.store).told ≡ (g.state mid.store).told
       → RunsItems way g (item ∷ []) [] (told.outcome ∷ []) (stage_then told.stage takes.rests ∷ []) (outcome_text told.outcome) old new
   runs_settled {mid = mid} told takes same = runs_rested way g is_way told.runs told.held (left_ready mid told.ready) takes.steps takes.base same takes.time
 
   -- what is held behind them is held at the end of the stage
-  held_settled : {refused : Bool} {Now : Engine S → Type 0} {result : Result (Unit {0}) EngineStop} {old mid new : Engine S} (told : EndsTold way Ready g item refused old mid)
+  held_settled : {refused : Bool} {Now : Engine S → Type 0} {result : Result (Unit {0}) StoreFault} {old mid new : Engine S} (told : EndsTold way Ready g item refused old mid)
       → (takes : TakesStepsBy g Once Now result mid new) → held_behind (held_by g mid) takes.rests ≡ end_of (stage_then told.stage takes.rests)
   held_settled told takes = ap (λ (h : HeldPages). held_behind h takes.rests) told.held ∙ sym (end_of-stage_then told.stage takes.rests)
 
@@ -96,9 +95,9 @@ module _ {S : Type 0} (way : Way) {Once : HeldPages → HeldPages → Type 0} (i
   }
 
   -- a step stopped
-  stops_unsettled : {refused : Bool} {Now : Engine S → Type 0} (stop : EngineStop) {old mid new : Engine S} (told : EndsTold way Ready g item refused old mid) → (takes : TakesStepsBy g Once Now (Err stop) mid new)
-      → (g.state new.store).told ≡ (g.state mid.store).told → way.Stops (held_by g old) (stage_then told.stage takes.rests ∷ []) [] (stop_of_engine stop) (g.state new.store).base
-      → StopsTurn way g item (stop_of_engine stop) old new
+  stops_unsettled : {refused : Bool} {Now : Engine S → Type 0} (stop : StoreFault) {old mid new : Engine S} (told : EndsTold way Ready g item refused old mid) → (takes : TakesStepsBy g Once Now (Err stop) mid new)
+      → (g.state new.store).told ≡ (g.state mid.store).told → way.Stops (held_by g old) (stage_then told.stage takes.rests ∷ []) [] (stop_of_fault stop) (g.state new.store).base
+      → StopsTurn way g item (stop_of_fault stop) old new
   stops_unsettled stop told takes same stops = inl (record {
     outcome = told.outcome;
     stage = stage_then told.stage takes.rests;
@@ -121,9 +120,9 @@ module _ {S : Type 0} (g : Ghosts S) where
   }
 
   -- what a stop of a step after an item says
-  stops_resting : (told : Bool) (shape : Shape) (item : Item) (refused : Bool) (stop : EngineStop) (old mid new : Engine S) (ended : EndsTold (on_any told shape) (IsAnyEngine g told shape) g item refused old mid)
+  stops_resting : (told : Bool) (shape : Shape) (item : Item) (refused : Bool) (stop : StoreFault) (old mid new : Engine S) (ended : EndsTold (on_any told shape) (IsAnyEngine g told shape) g item refused old mid)
       → (takes : TakesStepsBy g (RestsOnceOnAny told) (IsGoingEngine g) (Err stop) mid new) → Settles g (Err stop) mid new
-      → StopsOnAny told shape (held_by g old) (stage_then ended.stage takes.rests ∷ []) [] (stop_of_engine stop) (g.state new.store).base
+      → StopsOnAny told shape (held_by g old) (stage_then ended.stage takes.rests ∷ []) [] (stop_of_fault stop) (g.state new.store).base
   stops_resting told shape item refused stop old mid new ended takes settles =
       let stage = ended.stage in
       record {
@@ -144,15 +143,15 @@ module _ {S : Type 0} (g : Ghosts S) where
 
   -- ---- before there is an outcome
 
-  pub turns_unanswered : (item : Item) (stop : EngineStop) (old new : Engine S) → AnswersItem g item (Err stop) old new → TurnsItem g item (Err (stop_of_engine stop)) old new
+  pub turns_unanswered : (item : Item) (stop : StoreFault) (old new : Engine S) → AnswersItem g item (Err stop) old new → TurnsItem g item (Err (stop_of_fault stop)) old new
   turns_unanswered item stop old new answers = record {
-    sound = λ shape ready. stops_unanswered (on_sound shape) (sound_way shape) (IsSoundEngine g shape) g (served_base g shape) item (stop_of_engine stop) old new (answers.sound shape ready) answers.outside.told;
+    sound = λ shape ready. stops_unanswered (on_sound shape) (sound_way shape) (IsSoundEngine g shape) g (served_base g shape) item (stop_of_fault stop) old new (answers.sound shape ready) answers.outside.told;
     any = λ told shape ready.
-        stops_unanswered (on_any told shape) (any_way told shape) (IsAnyEngine g told shape) g (λ engine is. tt) item (stop_of_engine stop) old new (answers.any told shape ready) answers.outside.told;
+        stops_unanswered (on_any told shape) (any_way told shape) (IsAnyEngine g told shape) g (λ engine is. tt) item (stop_of_fault stop) old new (answers.any told shape ready) answers.outside.told;
     may = tt;
     stop = engine_stops_turn stop;
     going = λ is other. answers.going is (λ e. other (of_device stop e));
-    unsaid = counts_none (λ is. answers.outside.output (is_output stop is)) answers.outside.say_faults;
+    unsaid = counts_none (never_unsaid stop) answers.outside.say_faults;
     device = counts_device stop answers.outside.device;
     damaged = λ damage e ready. answers.damaged damage (ap Err (names_damage stop damage (cc))) ready;
     beside = answers.outside.beside;
@@ -174,7 +173,7 @@ module _ {S : Type 0} (g : Ghosts S) where
     shape_told stays = subst (λ (e : Engine S). e.tables.shape ≡ old.tables.shape) (sym stays) answers.shape
 
     -- a first part of its text was told
-    pub turns_untold : (stop : SessionStop) → TellsOutcome g outcome (Err stop) mid new → TurnsItem g item (Err stop) old new
+    pub turns_untold : (stop : Stop) → TellsOutcome g outcome (Err stop) mid new → TurnsItem g item (Err stop) old new
     turns_untold stop tells =
         let takes = takes-tells (record (g.state mid.store) { hand = None }) (record (g.state new.store) { hand = None }) tells.err.0 tells.err.2 in
         let reopens = reopens_then g old.store mid.store new.store answers.outside.time tells.time in
@@ -232,16 +231,16 @@ module _ {S : Type 0} (g : Ghosts S) where
   -- ---- steps after the answer
 
   -- steps on a sound engine, in a shape that is its own
-  takes_sound : (shape : Shape) (result : Result (Unit {0}) EngineStop) (mid new : Engine S) → Settles g result mid new → IsSoundEngine g shape mid → TakesStepsBy g (RestsOnce shape) (IsReadyEngine g) result mid new
+  takes_sound : (shape : Shape) (result : Result (Unit {0}) StoreFault) (mid new : Engine S) → Settles g result mid new → IsSoundEngine g shape mid → TakesStepsBy g (RestsOnce shape) (IsReadyEngine g) result mid new
   takes_sound shape result mid new settles sound = subst (λ (s : Shape). TakesStepsBy g (RestsOnce s) (IsReadyEngine g) result mid new) sound.is_shape (settles.takes sound.ready)
 
   -- a crash within a turn and the steps after it leaves a file that reopens
-  reopens_settled : (item : Item) (refused : Bool) (result : Result (Unit {0}) EngineStop) (old mid new : Engine S) → TurnsItem g item (Ok refused) old mid → Settles g result mid new
+  reopens_settled : (item : Item) (refused : Bool) (result : Result (Unit {0}) StoreFault) (old mid new : Engine S) → TurnsItem g item (Ok refused) old mid → Settles g result mid new
       → OverTime g.clock g.left ReopensAlways old.store new.store
   reopens_settled item refused result old mid new turns settles = over_time_then turns.reopens (over_time_wider settles.time (reopens_resting (g.state mid.store)))
 
   -- steps on any engine, of pages that are told or not
-  takes_any : (told : Bool) (shape : Shape) (result : Result (Unit {0}) EngineStop) (mid new : Engine S) → Settles g result mid new → IsAnyEngine g told shape mid
+  takes_any : (told : Bool) (shape : Shape) (result : Result (Unit {0}) StoreFault) (mid new : Engine S) → Settles g result mid new → IsAnyEngine g told shape mid
       → TakesStepsBy g (RestsOnceOnAny told) (IsGoingEngine g) result mid new
   takes_any told shape result mid new settles is = subst (λ (b : Bool). TakesStepsBy g (RestsOnceOnAny b) (IsGoingEngine g) result mid new) is.is_told (settles.takes_any is.going)
 
@@ -276,8 +275,8 @@ module _ {S : Type 0} (g : Ghosts S) where
       }
 
   -- a step stopped
-  pub turns_unsettled : (item : Item) (refused : Bool) (stop : EngineStop) (old mid new : Engine S) → TurnsItem g item (Ok refused) old mid → Settles g (Err stop) mid new
-      → TurnsItem g item (Err (stop_of_engine stop)) old new
+  pub turns_unsettled : (item : Item) (refused : Bool) (stop : StoreFault) (old mid new : Engine S) → TurnsItem g item (Ok refused) old mid → Settles g (Err stop) mid new
+      → TurnsItem g item (Err (stop_of_fault stop)) old new
   turns_unsettled item refused stop old mid new turns settles =
       let reopens = reopens_settled item refused (Err stop) old mid new turns settles in
       record {
@@ -292,7 +291,7 @@ module _ {S : Type 0} (g : Ghosts S) where
         may = tt;
         stop = engine_stops_turn stop;
         going = λ is other. settles.going (λ e. other (of_device stop e));
-        unsaid = counts_none (λ is. settles.output (is_output stop is)) (settles.say_faults ∙ turns.unsaid.still (λ is. absurd (cc)));
+        unsaid = counts_none (never_unsaid stop) (settles.say_faults ∙ turns.unsaid.still (λ is. absurd (cc)));
         device = counts_fault_then (turns.device.still (λ is. absurd (cc))) (counts_device stop settles.device);
         damaged = λ damage e ready. settles.damaged damage (ap Err (names_damage stop damage (cc))) (turns.sound old.tables.shape (record { ready = ready; is_shape = refl })).ready.ready;
         beside = settles.beside ∙ turns.beside;

@@ -24,7 +24,7 @@ use Rattle.session.specs.script.Going.{Goes, IsHeldIn, Stage, end_of, nothing, o
 use Rattle.session.specs.script.Leaving.{AreKept, LeftBy, ReopensAlways, done, some_told, stopped}
 use Rattle.session.specs.script.Turning.{RunsItems}
 use Rattle.session.specs.script.Ways.{Way}
-use Rattle.session.specs.declared.script.stop.SessionStop.{SessionStop}
+use Rattle.session.specs.declared.stop.Stop.{Stop}
 use Rattle.session.proofs.GoingLemmas.{stage_then, within_behind, within_front}
 use Rattle.session.proofs.ToldLemmas.{takes_nothing, told_behind}
 use Rattle.session.proofs.WayLemmas.{IsWay, left_within}
@@ -191,7 +191,7 @@ module _ {S : Type 0} (way : Way) (g : Ghosts S) where
       → LeftBy way.Left way.Stopped (held_by g old) [] [] (item ∷ []) before left told
   left_in_hand item old before is left told ((pages, reopens, may), known) = left_silent pages may.items reopens may.may may.kept may.few (bytes_told is known)
 
-  pub runs_stopped : (item : Item) (stop : SessionStop) (old new : Engine S) → StopsBy way g item stop old new → (g.state new.store).told ≡ (g.state old.store).told
+  pub runs_stopped : (item : Item) (stop : Stop) (old new : Engine S) → StopsBy way g item stop old new → (g.state new.store).told ≡ (g.state old.store).told
       → RunsItems way g [] (item ∷ []) [] [] [] old new
   runs_stopped item stop old new stops same = record {
     goes = nothing;

@@ -13,8 +13,8 @@ use Rattle.stored_catalog.specs.StoredDefinitions.{AreStored}
 use Rattle.session.specs.script.Going.{Stage, end_of, held_last}
 use Rattle.session.specs.script.TheWays.{on_any, on_sound}
 use Rattle.session.specs.script.Ways.{Way}
-use Rattle.session.specs.declared.script.stop.SessionStop.{SessionStop}
-use Rattle.session.specs.declared.script.stop.SessionStop.TheVariants.{Damaged}
+use Rattle.session.specs.declared.stop.Stop.{Stop}
+use Rattle.session.specs.declared.stop.Stop.TheVariants.{Damaged}
 use Rattle.session.proofs.AnyStopsLemmas.{stops_behind, stops_still}
 use Rattle.session.proofs.GoingLemmas.{rests_then, stage_then}
 
@@ -24,9 +24,9 @@ pub record IsWay (way : Way) (Once : HeldPages → HeldPages → Type 0) : Type 
   pub rested : {held : HeldPages} {item : Item} {outcome : Outcome} {stage : Stage} {rests : List HeldPages} → way.Met held item outcome stage → RestsBy Once (end_of stage) rests
       → way.Met held item outcome (stage_then stage rests)
   pub left : {old new : HeldPages} → Once old new → way.Left new.base
-  pub behind : (held : HeldPages) (stages more : List Stage) (in_hand : List Item) (stop : SessionStop) (base : PageList)
+  pub behind : (held : HeldPages) (stages more : List Stage) (in_hand : List Item) (stop : Stop) (base : PageList)
       → way.Stops (held_last held stages) more in_hand stop base → way.Stops held (stages ++ more) in_hand stop base
-  pub still : (held : HeldPages) (stages : List Stage) (stop : SessionStop) (base : PageList) → ((damage : Damage) → stop ≡ Damaged damage → ⊥)
+  pub still : (held : HeldPages) (stages : List Stage) (stop : Stop) (base : PageList) → ((damage : Damage) → stop ≡ Damaged damage → ⊥)
       → base ≡ (held_last held stages).base → way.Stops held stages [] stop base
 
 -- so may the pages be left that are held within such steps

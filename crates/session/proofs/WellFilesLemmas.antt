@@ -1,5 +1,5 @@
 -- Well files: they are opened, and what a crash within a run leaves is well too.
-use Rattle.std.proofs.Common.{◌≡◌, ◌⊎◌, ℕ, Bool, true, List, Option, Some, refl, sym, ◌∙◌, ap, subst, inl, inr}
+use Rattle.std.proofs.Common.{◌≡◌, ◌⊎◌, ℕ, Bool, true, List, Option, Some, sym, ◌∙◌, ap, subst, inl, inr}
 use Rattle.mdc_ast.specs.declared.reply.Outcome.{Outcome}
 use Rattle.mdc_ast.specs.Reading.{Item}
 use Rattle.mdc_outside.specs.Disk.{File, IsImage, all_synced}
@@ -19,12 +19,11 @@ use Rattle.file_verdict.specs.SoundFile.{IsSoundFile}
 use Rattle.file_verdict.proofs.SoundFilesLemmas.{refused_served, sound_is_served}
 use Rattle.session.specs.script.Going.{Stage}
 use Rattle.session.specs.script.Leaving.{AreServedPages}
-use Rattle.session.specs.declared.script.stop.SessionStop.{SessionStop}
-use Rattle.session.specs.declared.script.stop.SessionStop.TheVariants as session
-use Rattle.session.specs.file.Ending.{StopsOpening, stop_of_session}
+use Rattle.session.specs.declared.stop.Stop.{Stop}
+use Rattle.session.specs.declared.stop.Stop.TheVariants as why
+use Rattle.session.specs.file.Ending.{StopsOpening}
 use Rattle.session.specs.file.Leaving.{LeftByRun}
 use Rattle.session.specs.file.Well.{AreWell, IsWell}
-use Rattle.session.specs.declared.file.stop.FileStop.{FileStop}
 
 -- ---- a well file is served
 
@@ -36,11 +35,11 @@ pub well_is_served : (bytes : List ℕ) → IsWell bytes → IsServed bytes
 well_is_served bytes well = sound_is_served bytes (sound_of_well bytes well)
 
 -- so its opening is refused for a fault of the disk or for want of memory alone
-pub stop_of_well : (fault : OpenFault) (stop : FileStop) (bytes : List ℕ) → IsServed bytes → Refuses fault bytes → StopsOpening fault stop
-    → (end_ : SessionStop) × ((end_ ≡ session.Device) ⊎ (end_ ≡ session.Memory)) × (stop ≡ stop_of_session end_)
+pub stop_of_well : (fault : OpenFault) (stop : Stop) (bytes : List ℕ) → IsServed bytes → Refuses fault bytes → StopsOpening fault stop
+    → (stop ≡ why.Device) ⊎ (stop ≡ why.Memory)
 stop_of_well fault stop bytes served refuses stops = elim (refused_served fault bytes served refuses) [
-  | inl device ↦ (session.Device, inl refl, subst (λ (f : OpenFault). StopsOpening f stop) device stops)
-  | inr memory ↦ (session.Memory, inr refl, subst (λ (f : OpenFault). StopsOpening f stop) memory stops)
+  | inl device ↦ inl (subst (λ (f : OpenFault). StopsOpening f stop) device stops)
+  | inr memory ↦ inr (subst (λ (f : OpenFault). StopsOpening f stop) memory stops)
 ]
 
 -- ---- what stands for the pages of a well file

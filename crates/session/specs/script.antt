@@ -8,7 +8,6 @@ pub mod Leaving
 pub mod Lists
 pub mod ScriptLaws
 pub mod Serving
-pub mod Stops
 pub mod TheWays
 pub mod Told
 pub mod Turning

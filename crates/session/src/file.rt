@@ -2,11 +2,9 @@
 mod laws;
 mod made;
 mod serving;
-mod stop;
 
 pub use laws::{
     ended_run_is_left, left_by_run_is_well, left_file_is_well, made_is_well, next_run_goes_on,
 };
 pub use made::made_database_is_sound;
 pub use serving::{Ended, serve_file};
-pub use stop::FileStop;

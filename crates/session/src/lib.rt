@@ -24,9 +24,11 @@
 
 mod file;
 mod script;
+mod stop;
 
 pub use file::{
-    Ended, FileStop, ended_run_is_left, left_by_run_is_well, left_file_is_well,
-    made_database_is_sound, made_is_well, next_run_goes_on, serve_file,
+    Ended, ended_run_is_left, left_by_run_is_well, left_file_is_well, made_database_is_sound,
+    made_is_well, next_run_goes_on, serve_file,
 };
-pub use script::{Served, SessionStop, goes_on_lists, serve};
+pub use script::{Served, goes_on_lists, serve};
+pub use stop::Stop;

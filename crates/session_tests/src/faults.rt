@@ -4,16 +4,16 @@ use crate::hosts::{host_of, small_database};
 use crate::runs::run_script;
 use crate::scenario::Scenario;
 use mdc_outside::Call;
-use session::FileStop;
+use session::Stop;
 use std::process::Abort;
 use std::test::Fail;
 
 // Why a run stops in which this call fails.
-fn stop_at(call: Call) -> FileStop {
+fn stop_at(call: Call) -> Stop {
     if call == Call::Say {
-        FileStop::Unsaid
+        Stop::Unsaid
     } else {
-        FileStop::Device
+        Stop::Device
     }
 }
 

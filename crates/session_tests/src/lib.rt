@@ -1,5 +1,5 @@
 //! Tests of `session`, over hosts in memory: what a crash and a fault in each call of a run leaves to the next run, how a file
-//! runs full, and what is left of a transaction that isn't committed or was refused a statement.
+//! runs full, what is left of a transaction that isn't committed or was refused a statement, and that settings are of a run alone.
 //!
 //! Where a crash falls in each call in turn, the next run finds each commit that was answered, and at most the one that was under
 //! way. What is answered is written by hand from docs/SQL.md. All of it is tests, so that `session` itself is proved once; and
@@ -22,5 +22,7 @@ mod indexed_commits;
 mod runs;
 #[cfg(test)]
 mod scenario;
+#[cfg(test)]
+mod settings;
 #[cfg(test)]
 mod transactions;

@@ -1,12 +1,12 @@
 // Runs of scripts on the file of a host.
 use mdc_outside::{Host, MemHost, MemSource, Source};
-use session::{FileStop, Served, serve_file};
+use session::{Served, Stop, serve_file};
 use std::alloc::Global;
 use std::marker::Brand;
 use std::test::Fail;
 
 /// How a run ended.
-pub type End = Result<Served, FileStop>;
+pub type End = Result<Served, Stop>;
 
 // Attaches the file of a host, and serves a source on it.
 fn serve_source<I: Source, H: Host + Drop>(

@@ -7,22 +7,23 @@ ghost use Rattle.store_api.specs.Frame.{NoPage};
 ghost use Rattle.store_api.specs.RunsOverPages.{RunsOverPages};
 ghost use Rattle.extent_map.specs.declared.kind.Kind.{Kind};
 ghost use Rattle.block_rows.specs.HeldRows.{HasReadValues, HaveReadValues};
-ghost use Rattle.mdc_sound.specs.StandingTable.{BreaksTable, StandsTable, TableForests};
+ghost use Rattle.mdc_sound.specs.BlockRules.{AreTableIndexesSound};
+ghost use Rattle.mdc_sound.specs.StandingTable.{BreaksTable, StandsTable, TableForests, pages_of, view_of};
 ghost use Rattle.row_filter.specs.Filtering.{may_filter};
 ghost use Rattle.row_groups.specs.Shape.{shape_of};
 ghost use Rattle.answer_text.specs.Answering.{GivesLines, IsFirstOverflow, Rise};
 ghost use Rattle.answer_text.specs.Lines.{are_outs_within};
-ghost use Rattle.table_scan.specs.FoundRows.{IsScannedPage};
+ghost use Rattle.executor.specs.Planned.{IsPlanPage};
 ghost use Rattle.table_query.specs.QueryAnswers.{AnswersQuery, AreQueryRows, store_part_of};
 
 use crate::fault::QueryFault;
 use answer_text::{AnswerFault, QueryLines};
 use block_rows::Hit;
-use mdc_ast::{BoundSelect, ColumnDef, TableDef};
+use executor::find_by_plan;
+use mdc_ast::{BoundSelect, ColumnDef, PlanMode, TableDef};
 use mdc_values::{Chars, List};
 use std::alloc::Global;
 use store_api::{Pages, Shape};
-use table_scan::find_rows;
 
 /// The answer to a query from copies of the rows, by rising number.
 pub(crate) fn answer_from_copies<P: Pages>(
@@ -30,6 +31,7 @@ pub(crate) fn answer_from_copies<P: Pages>(
     def: &TableDef,
     shape: Shape,
     pages: &mut P,
+    mode: PlanMode,
     select: &BoundSelect,
 ) -> Result<Chars, QueryFault>
     requires defined { IsTableDef def.now.number def.now }
@@ -37,12 +39,13 @@ pub(crate) fn answer_from_copies<P: Pages>(
     requires judged { (row : Row) → HasReadValues def.now.columns row → IsTrue (may_filter select.now.pred row.values) }
     requires going { (P.state pages.old).ended ≡ false }
     ensures answers { (owners : List Kind) (forests : TableForests) (rows : List Row) → StandsTable P.Pages shape pages.old def.now owners forests
-        → AreQueryRows P.Pages shape pages.old def.now select.now.pred forests rows → AnswersQuery def.now.columns select.now rows result }
+        → AreTableIndexesSound shape (pages_of P.Pages pages.old) (view_of def.now forests) → AreQueryRows P.Pages shape pages.old def.now select.now.pred forests rows
+        → AnswersQuery def.now.columns select.now rows result }
     ensures same { (P.state pages.new).work ≡ (P.state pages.old).work }
-    ensures runs { RunsOverPages P.Pages NoPage (IsScannedPage P.Pages shape pages.old def.now select.now.pred) (BreaksTable P.Pages shape pages.old def.now) pages.old pages.new (store_fault_in store_part_of result) }
+    ensures runs { RunsOverPages P.Pages NoPage (IsPlanPage P.Pages shape pages.old def.now mode select.now.pred) (BreaksTable P.Pages shape pages.old def.now) pages.old pages.new (store_fault_in store_part_of result) }
 {
-    let hits = find_rows(alloc, def, shape, pages, &select.pred)?;
-    Ok(lines_of_hits(alloc, select, &def.columns, hits.as_slice())?)
+    let found = find_by_plan(alloc, def, shape, pages, mode, &select.pred)?;
+    Ok(lines_of_hits(alloc, select, &def.columns, found.hits.as_slice())?)
 }
 
 /// The lines of a query over the rows that were found, which no line copies; or the first sum outside BIGINT.

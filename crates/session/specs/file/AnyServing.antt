@@ -21,12 +21,11 @@ use Rattle.session.specs.script.AnyGoing.{GoesOnAny}
 use Rattle.session.specs.script.AnyStops.{FindsBuilt, IsHeldDamage}
 use Rattle.session.specs.script.Going.{Stage, held_last}
 use Rattle.session.specs.script.Serving.{EndsScript}
-use Rattle.session.specs.declared.script.stop.Served.{Served}
-use Rattle.session.specs.declared.script.stop.SessionStop.{SessionStop}
-use Rattle.session.specs.file.Ending.{end_of_session}
+use Rattle.session.specs.declared.script.served.Served.{Served}
+use Rattle.session.specs.Stops.{IsOfScript}
+use Rattle.session.specs.declared.stop.Stop.{Stop}
 use Rattle.session.specs.file.Leaving.{LeftByAnyRun, StopsUnrested}
-use Rattle.session.specs.declared.file.stop.FileStop.{FileStop}
-use Rattle.session.specs.declared.file.stop.FileStop.TheVariants.{Damaged, Device}
+use Rattle.session.specs.declared.stop.Stop.TheVariants.{Damaged, Device}
 
 -- ---- a run
 
@@ -49,7 +48,7 @@ pub record RunsNothing (items in_hand : List Item) (said : List ℕ) (script lef
 -- A run of a script on these pages, which are told or not, and may be any: one run of its items on them, each of which does what its
 -- statement may, whose texts are said in order, and how it ends. The definitions are those of the pages, or they couldn't be read, and
 -- nothing was run.
-pub record RunsAnyItems (told : Bool) (pages : PageList) (script left tape new_tape : Option (List ℕ)) (result : Result Served FileStop) : Type 0 where
+pub record RunsAnyItems (told : Bool) (pages : PageList) (script left tape new_tape : Option (List ℕ)) (result : Result Served Stop) : Type 0 where
   pub held : HeldPages
   pub first : AreHeldFirst pages held
   pub items : List Item
@@ -60,10 +59,9 @@ pub record RunsAnyItems (told : Bool) (pages : PageList) (script left tape new_t
   pub said : List ℕ
   pub read : (IsTrue told → AreStored pages held.defs) ⊎ RunsNothing items in_hand said script left
   pub tape_is : Takes tape said new_tape
-  pub end_ : Result Served SessionStop
-  pub result_is : result ≡ end_of_session end_
-  pub ends : IfSome script (λ script. EndsScript script left said items in_hand outcomes end_)
-  pub built : IfErr end_ (λ stop. FindsBuilt held stages in_hand)
+  pub of_script : IfErr result IsOfScript
+  pub ends : IfSome script (λ script. EndsScript script left said items in_hand outcomes result)
+  pub built : IfErr result (λ stop. FindsBuilt held stages in_hand)
 
 -- Damage that is named of a file of these bytes: the file can't be opened there, or it is that of the pages that the run held then, in
 -- the extents that the file states.
@@ -71,7 +69,7 @@ abbrev pub IsDamageOf : List ℕ → HeldPages → List Stage → List Item → 
 IsDamageOf file held stages in_hand damage = IsDamagedFile damage file ⊎ ((shape : Shape) → StatesExtents file shape → IsHeldDamage shape held stages in_hand damage)
 
 -- A run of a script on a file: one on the pages that it stands for, where it is told, and the damage at which it stops.
-pub record RunsOnServed (file : Option File) (script left tape new_tape : Option (List ℕ)) (result : Result Served FileStop) : Type 0 where
+pub record RunsOnServed (file : Option File) (script left tape new_tape : Option (List ℕ)) (result : Result Served Stop) : Type 0 where
   pub pages : PageList
   pub theirs : ForSome file (λ file. pages ≡ pages_in file.bytes)
   pub run : RunsAnyItems (is_some file) pages script left tape new_tape result
@@ -85,11 +83,11 @@ StandsFor file pages after = ForSome after (λ after. (image : List ℕ) → IsI
 
 -- The run came to its origin, from which on a crash leaves so much. And at its end, unless a call of the disk failed, each image that may be
 -- left stands for the pages of the last commit that were held last.
-pub record RestsByRun {D : Type 0} (g : Ghosts D) (before : File) (said : List ℕ) (held : HeldPages) (stages : List Stage) (outcomes : List Outcome) (in_hand : List Item) (old new : D) (result : Result Served FileStop) : Type 0 where
+pub record RestsByRun {D : Type 0} (g : Ghosts D) (before : File) (said : List ℕ) (held : HeldPages) (stages : List Stage) (outcomes : List Outcome) (in_hand : List Item) (old new : D) (result : Result Served Stop) : Type 0 where
   pub rest : ComesToRest g before said (LeftByAnyRun before.bytes held stages outcomes in_hand said) old new
   pub kept : (result ≡ Err Device → ⊥) → StandsFor before.bytes (held_last held stages).base (g.file new)
 
 -- A run of a script on a file that is served, whatever its pages are, and what a crash leaves at each moment of it.
-pub record RunsOnAnyFile {D : Type 0} (g : Ghosts D) (before : File) (said : List ℕ) (script left : Option (List ℕ)) (old new : D) (result : Result Served FileStop) : Type 0 where
+pub record RunsOnAnyFile {D : Type 0} (g : Ghosts D) (before : File) (said : List ℕ) (script left : Option (List ℕ)) (old new : D) (result : Result Served Stop) : Type 0 where
   pub serves : RunsOnServed (Some before) script left (Some said) (g.beside new).tape result
   pub leaves : RestsByRun g before said serves.run.held serves.run.stages serves.run.outcomes serves.run.in_hand old new result ⊎ StopsUnrested g before said script left old new

@@ -1,32 +1,16 @@
 -- How a run on a file ends.
-use Rattle.std.specs.Prelude.{◌≡◌, ◌⊎◌, ℕ, List, Result, Ok, Err}
+use Rattle.std.specs.Prelude.{◌≡◌, ◌⊎◌, ℕ, List, Result, Err}
 use Rattle.page_store.specs.Fresh.{IsUnmade}
 use Rattle.page_store.specs.Opening.{IsDamagedFile, IsOfVersion, IsOther, IsServed}
 use Rattle.page_store.specs.declared.fault.OpenFault.{OpenFault}
 use Rattle.page_store.specs.declared.fault.OpenFault.TheVariants as opening
-use Rattle.session.specs.declared.script.stop.Served.{Served}
-use Rattle.session.specs.declared.script.stop.SessionStop.{SessionStop}
-use Rattle.session.specs.declared.script.stop.SessionStop.TheVariants as session
+use Rattle.session.specs.declared.script.served.Served.{Served}
+use Rattle.session.specs.declared.stop.Stop.{Stop}
 use Rattle.session.specs.file.Well.{IsWell}
-use Rattle.session.specs.declared.file.stop.FileStop.{FileStop}
-use Rattle.session.specs.declared.file.stop.FileStop.TheVariants.{Damaged, Device, Memory, NotMdc, TooLong, Unmade, Unread, Unsaid, Version}
-
--- a stop of the session
-abbrev pub stop_of_session : SessionStop → FileStop
-stop_of_session session.Unread = Unread
-stop_of_session session.TooLong = TooLong
-stop_of_session session.Unsaid = Unsaid
-stop_of_session session.Device = Device
-stop_of_session (session.Damaged damage) = Damaged damage
-stop_of_session session.Memory = Memory
-
--- the end of the session, as that of the run
-abbrev pub end_of_session : Result Served SessionStop → Result Served FileStop
-end_of_session (Ok served) = Ok served
-end_of_session (Err stop) = Err (stop_of_session stop)
+use Rattle.session.specs.declared.stop.Stop.TheVariants.{Damaged, Device, Memory, NotMdc, Unmade, Version}
 
 -- A refusal of a file at its opening. None says that it has a byte already: that is one of a making alone.
-abbrev pub StopsOpening : OpenFault → FileStop → Type 0
+abbrev pub StopsOpening : OpenFault → Stop → Type 0
 StopsOpening opening.Exists stop = ⊥
 StopsOpening opening.Unmade stop = stop ≡ Unmade
 StopsOpening opening.NotMdc stop = stop ≡ NotMdc
@@ -37,7 +21,7 @@ StopsOpening opening.Memory stop = stop ≡ Memory
 
 -- Why the file, of these bytes, isn't served: each refusal has its cause in them. Damage is named of a file that can't be opened, or
 -- of one that is opened and isn't well.
-abbrev pub IsCauseIn : List ℕ → Result Served FileStop → Type 0
+abbrev pub IsCauseIn : List ℕ → Result Served Stop → Type 0
 IsCauseIn file (Err Unmade) = IsUnmade file
 IsCauseIn file (Err NotMdc) = IsOther file
 IsCauseIn file (Err (Version version)) = IsOfVersion version file
@@ -45,14 +29,14 @@ IsCauseIn file (Err (Damaged damage)) = IsDamagedFile damage file ⊎ (IsServed 
 IsCauseIn file result = Unit {0}
 
 -- a file that no database was made in, or of another program or version
-abbrev pub IsRefused : Result Served FileStop → Type 0
+abbrev pub IsRefused : Result Served Stop → Type 0
 IsRefused (Err Unmade) = Unit {0}
 IsRefused (Err NotMdc) = Unit {0}
 IsRefused (Err (Version version)) = Unit {0}
 IsRefused result = ⊥
 
 -- an end of a file that can't be opened
-abbrev pub IsUnopened : Result Served FileStop → Type 0
+abbrev pub IsUnopened : Result Served Stop → Type 0
 IsUnopened (Err Unmade) = Unit {0}
 IsUnopened (Err NotMdc) = Unit {0}
 IsUnopened (Err (Version version)) = Unit {0}

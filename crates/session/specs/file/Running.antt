@@ -20,17 +20,15 @@ use Rattle.session.specs.script.AnyStops.{FindsBuilt, IsHeldDamage}
 use Rattle.session.specs.script.Going.{GoesOnPages, Stage, held_last}
 use Rattle.session.specs.script.Leaving.{AreServedPages, LeftByServing, LeftOnAny}
 use Rattle.session.specs.script.Serving.{EndsScript}
-use Rattle.session.specs.declared.script.stop.Served.{Served}
-use Rattle.session.specs.declared.script.stop.SessionStop.{SessionStop}
-use Rattle.session.specs.declared.script.stop.SessionStop.TheVariants.{Damaged, Device}
+use Rattle.session.specs.declared.script.served.Served.{Served}
+use Rattle.session.specs.declared.stop.Stop.{Stop}
+use Rattle.session.specs.declared.stop.Stop.TheVariants.{Damaged, Device}
 use Rattle.session.specs.file.AnyServing.{AreHeldFirst, RunsAnyItems, RunsNothing}
 use Rattle.session.specs.file.Serving.{IsOpened, RunsItems}
-use Rattle.session.specs.declared.file.stop.FileStop.{FileStop}
-use Rattle.session.specs.declared.file.stop.FileStop.TheVariants as file_stop
 
 -- A run of a script on a store that tells sound pages, all of which are committed: one run of its items on these, whose texts are
 -- told in order, how it ends, and what a crash meanwhile leaves.
-pub record RunsOnStore {S : Type 0} (g : pages.Ghosts S) (shape : Shape) (script left : Option (List ℕ)) (old new : S) (result : Result Served SessionStop) : Type 0 where
+pub record RunsOnStore {S : Type 0} (g : pages.Ghosts S) (shape : Shape) (script left : Option (List ℕ)) (old new : S) (result : Result Served Stop) : Type 0 where
   pub served : AreServedPages shape (g.state old).base
   pub held : HeldPages
   pub opened : IsOpened (g.state old).base held
@@ -53,7 +51,7 @@ IsLeftSince Run shape left image heard =
     (IsFormed image × StatesExtents image shape × (left (Some (pages_in image)) heard ⊎ Run (pages_in image) heard)) ⊎ left None heard
 
 -- Such a run over the lists of rows that the pages stand for, as the host has it to which the store was closed.
-pub record ServesStore {S D : Type 0} (g : pages.Ghosts S) (d : disk.Ghosts D) (shape : Shape) (said : List ℕ) (script left : Option (List ℕ)) (old : S) (new : D) (result : Result Served FileStop) : Type 0 where
+pub record ServesStore {S D : Type 0} (g : pages.Ghosts S) (d : disk.Ghosts D) (shape : Shape) (said : List ℕ) (script left : Option (List ℕ)) (old : S) (new : D) (result : Result Served Stop) : Type 0 where
   pub served : AreServedPages shape (g.state old).base
   pub run : RunsItems shape (g.state old).base said script left (d.beside new).tape result
   pub since : (t : ℕ) → t ≤ g.clock old → (image heard : List ℕ) → d.moment new t image heard
@@ -68,7 +66,7 @@ pub record LeavesFormed {S D : Type 0} (g : pages.Ghosts S) (d : disk.Ghosts D) 
 
 -- A run of a script on a store, all of whose pages are committed, whatever they are: one run of its items on these, whose texts are told
 -- in order, how it ends, and what a crash meanwhile leaves.
-pub record RunsAnyOnStore {S : Type 0} (g : pages.Ghosts S) (shape : Shape) (script left : Option (List ℕ)) (old new : S) (result : Result Served SessionStop) : Type 0 where
+pub record RunsAnyOnStore {S : Type 0} (g : pages.Ghosts S) (shape : Shape) (script left : Option (List ℕ)) (old new : S) (result : Result Served Stop) : Type 0 where
   pub held : HeldPages
   pub first : AreHeldFirst (g.state old).base held
   pub items : List Item
@@ -91,10 +89,10 @@ abbrev pub IsLeftSinceAny : (List (List ℕ) → List ℕ → Type 0) → List �
 IsLeftSinceAny Run file left image heard = (StaysFormed file image × (left (Some (pages_in image)) heard ⊎ Run (pages_in image) heard)) ⊎ left None heard
 
 -- Such a run, as the host has it to which the store was closed, which told its file or not as the run began.
-pub record ServesAny {S D : Type 0} (g : pages.Ghosts S) (d : disk.Ghosts D) (file : Option File) (script left : Option (List ℕ)) (old : S) (new : D) (result : Result Served FileStop) : Type 0 where
+pub record ServesAny {S D : Type 0} (g : pages.Ghosts S) (d : disk.Ghosts D) (file : Option File) (script left : Option (List ℕ)) (old : S) (new : D) (result : Result Served Stop) : Type 0 where
   pub run : RunsAnyItems (is_some file) (g.state old).base script left (g.state old).told (d.beside new).tape result
-  pub damage : (damage : Damage) → result ≡ Err (file_stop.Damaged damage) → ForSome file (λ file. (shape : Shape) → StatesExtents file.bytes shape → IsHeldDamage shape run.held run.stages run.in_hand damage)
+  pub damage : (damage : Damage) → result ≡ Err (Damaged damage) → ForSome file (λ file. (shape : Shape) → StatesExtents file.bytes shape → IsHeldDamage shape run.held run.stages run.in_hand damage)
   pub since : (said : List ℕ) → (g.state old).told ≡ Some said → ForSome file (λ file. (t : ℕ) → t ≤ g.clock old → (image heard : List ℕ) → d.moment new t image heard
       → IsLeftSinceAny (λ pages heard. LeftOnAny run.held run.stages run.outcomes run.in_hand said (Some pages) heard) file.bytes (g.left old t) image heard)
-  pub kept : (result ≡ Err file_stop.Device → ⊥) → (said : List ℕ) → (g.state old).told ≡ Some said → ForSome file (λ file. (image heard : List ℕ) → d.moment new (d.clock new) image heard
+  pub kept : (result ≡ Err Device → ⊥) → (said : List ℕ) → (g.state old).told ≡ Some said → ForSome file (λ file. (image heard : List ℕ) → d.moment new (d.clock new) image heard
       → StaysFormed file.bytes image × (pages_in image ≡ (held_last run.held run.stages).base))

@@ -1,5 +1,5 @@
 -- What serving a script on a database file does.
-use Rattle.std.specs.Prelude.{◌≡◌, ◌++◌, ℕ, List, Option, Some, IfSome, Result, Err, false}
+use Rattle.std.specs.Prelude.{◌≡◌, ◌++◌, ℕ, List, Option, Some, IfErr, IfSome, Result, Err, false}
 use Rattle.mdc_ast.specs.declared.reply.Outcome.{Outcome}
 use Rattle.mdc_ast.specs.Reading.{Item}
 use Rattle.mdc_ast.specs.Database.{Database}
@@ -19,12 +19,11 @@ use Rattle.file_verdict.specs.SoundFile.{StatesExtents}
 use Rattle.session.specs.script.Going.{GoesOnPages, Stage}
 use Rattle.session.specs.script.Lists.{GoesOnLists}
 use Rattle.session.specs.script.Serving.{EndsScript, TakesScript}
-use Rattle.session.specs.declared.script.stop.Served.{Served}
-use Rattle.session.specs.declared.script.stop.SessionStop.{SessionStop}
-use Rattle.session.specs.declared.script.stop.SessionStop.TheVariants.{Damaged}
-use Rattle.session.specs.file.Ending.{end_of_session}
+use Rattle.session.specs.declared.script.served.Served.{Served}
+use Rattle.session.specs.Stops.{IsOfScript}
+use Rattle.session.specs.declared.stop.Stop.{Stop}
+use Rattle.session.specs.declared.stop.Stop.TheVariants.{Damaged}
 use Rattle.session.specs.file.Leaving.{LeftByRun}
-use Rattle.session.specs.declared.file.stop.FileStop.{FileStop}
 
 -- what is held of a file that was opened: its pages, all of which are committed, no transaction is open, the settings are the first
 -- ones, and the cleaner's pass is idle
@@ -38,7 +37,7 @@ pub record IsOpened (pages : PageList) (held : HeldPages) : Type 0 where
 
 -- A run of a script on these pages, which are sound: one run of its items on them, and so one over the plain lists of rows that
 -- they stand for, whose texts are said in order, and how it ends.
-pub record RunsItems (shape : Shape) (pages : PageList) (said : List ℕ) (script left tape : Option (List ℕ)) (result : Result Served FileStop) : Type 0 where
+pub record RunsItems (shape : Shape) (pages : PageList) (said : List ℕ) (script left tape : Option (List ℕ)) (result : Result Served Stop) : Type 0 where
   pub held : HeldPages
   pub opened : IsOpened pages held
   pub db : Database
@@ -52,19 +51,17 @@ pub record RunsItems (shape : Shape) (pages : PageList) (said : List ℕ) (scrip
   pub lists : GoesOnLists shape held (session_on db) items outcomes stages sessions
   pub more : List ℕ
   pub tape_is : tape ≡ Some (said ++ more)
-  pub end_ : Result Served SessionStop
-  pub undamaged : (damage : Damage) → end_ ≡ Err (Damaged damage) → ⊥
-  pub result_is : result ≡ end_of_session end_
-  pub ends : IfSome script (λ script. EndsScript script left more items in_hand outcomes end_)
+  pub undamaged : (damage : Damage) → result ≡ Err (Damaged damage) → ⊥
+  pub of_script : IfErr result IsOfScript
+  pub ends : IfSome script (λ script. EndsScript script left more items in_hand outcomes result)
 
--- how much of a script was taken, by the session whose end is that of the run, whatever the file's pages are
-abbrev pub TakesBySession : Option (List ℕ) → Option (List ℕ) → Result Served FileStop → Type 0
-TakesBySession script left result =
-    (end_ : Result Served SessionStop) × (result ≡ end_of_session end_) × IfSome script (λ script. TakesScript script left end_)
+-- the script was begun, and how much of it was taken, whatever the file's pages are
+abbrev pub TakesBySession : Option (List ℕ) → Option (List ℕ) → Result Served Stop → Type 0
+TakesBySession script left result = IfErr result IsOfScript × IfSome script (λ script. TakesScript script left result)
 
 -- A run of a script on a file of these bytes, which is well: such a run on the pages that it stands for, and what a crash leaves at
 -- each moment of it.
-pub record RunsOnFile {D : Type 0} (g : Ghosts D) (before : File) (said : List ℕ) (script left : Option (List ℕ)) (old new : D) (result : Result Served FileStop) : Type 0 where
+pub record RunsOnFile {D : Type 0} (g : Ghosts D) (before : File) (said : List ℕ) (script left : Option (List ℕ)) (old new : D) (result : Result Served Stop) : Type 0 where
   pub shape : Shape
   pub states_extents : StatesExtents before.bytes shape
   pub run : RunsItems shape (pages_in before.bytes) said script left (g.beside new).tape result

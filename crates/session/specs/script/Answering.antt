@@ -18,16 +18,16 @@ use Rattle.script_engine.specs.OnAnyPages.{BaseBeforeOrAfter, IsGoingEngine}
 use Rattle.script_engine.specs.Serving.{IsReadyEngine, MayCall, held_by}
 use Rattle.script_engine.specs.Turns.{LeavesOutside}
 use Rattle.script_engine.specs.declared.engine.Engine.{Engine}
-use Rattle.script_engine.specs.declared.stop.EngineStop.{EngineStop}
-use Rattle.script_engine.specs.declared.stop.EngineStop.TheVariants.{Damaged, Device}
+use Rattle.store_api.specs.declared.fault.StoreFault.{StoreFault}
+use Rattle.store_api.specs.declared.fault.StoreFault.TheVariants.{Damaged, Device}
 use Rattle.session.specs.script.Engines.{IsAnyEngine, IsSoundEngine}
 use Rattle.session.specs.script.Going.{still}
 use Rattle.session.specs.script.Leaving.{AreKept}
-use Rattle.session.specs.script.Stops.{stop_of_engine}
+use Rattle.session.specs.Stops.{stop_of_fault}
 use Rattle.session.specs.script.TheWays.{on_any, on_sound}
 use Rattle.session.specs.script.Ways.{Way}
-use Rattle.session.specs.declared.script.stop.SessionStop.{SessionStop}
-use Rattle.session.specs.declared.script.stop.SessionStop.TheVariants.{Memory, Unsaid}
+use Rattle.session.specs.declared.stop.Stop.{Stop}
+use Rattle.session.specs.declared.stop.Stop.TheVariants.{Memory, Unsaid}
 
 -- ---- an item
 
@@ -50,19 +50,19 @@ abbrev pub LeftInHand : Way → HeldPages → Item → StoreState → Outcomes
 LeftInHand way held item s left told = ((pages : PageList) × (left ≡ Some pages) × MayBeKept way held item pages) × IfSome s.told (λ bytes. told ≡ bytes)
 
 -- the engine stopped at the item, as a stop says
-pub record StopsBy {S : Type 0} (way : Way) (g : Ghosts S) (item : Item) (stop : SessionStop) (old new : Engine S) : Type 0 where
+pub record StopsBy {S : Type 0} (way : Way) (g : Ghosts S) (item : Item) (stop : Stop) (old new : Engine S) : Type 0 where
   pub base : MayBeKept way (held_by g old) item (g.state new.store).base
   pub time : OverTime g.clock g.left (LeftInHand way (held_by g old) item (g.state old.store)) old.store new.store
   pub stops : way.Stops (held_by g old) [] (item ∷ []) stop (g.state new.store).base
 
 -- one or the other
-abbrev pub AnswersSo : {S : Type 0} → Way → (Engine S → Type 0) → Ghosts S → Item → Result Outcome EngineStop → Engine S → Engine S → Type 0
+abbrev pub AnswersSo : {S : Type 0} → Way → (Engine S → Type 0) → Ghosts S → Item → Result Outcome StoreFault → Engine S → Engine S → Type 0
 AnswersSo way Ready g item (Ok outcome) old new = AnswersBy way Ready g item outcome old new
-AnswersSo way Ready g item (Err stop) old new = StopsBy way g item (stop_of_engine stop) old new
+AnswersSo way Ready g item (Err stop) old new = StopsBy way g item (stop_of_fault stop) old new
 
 -- What the answer to an item does, on a sound engine and on any, and whatever the engine is: no damage is named of sound pages, the
 -- store goes on unless the disk failed, and nothing is told.
-pub record AnswersItem {S : Type 0} (g : Ghosts S) (item : Item) (result : Result Outcome EngineStop) (old new : Engine S) : Type 0 where
+pub record AnswersItem {S : Type 0} (g : Ghosts S) (item : Item) (result : Result Outcome StoreFault) (old new : Engine S) : Type 0 where
   pub sound : (shape : Shape) → IsSoundEngine g shape old → AnswersSo (on_sound shape) (IsSoundEngine g shape) g item result old new
   pub any : (told : Bool) (shape : Shape) → IsAnyEngine g told shape old → AnswersSo (on_any told shape) (IsAnyEngine g told shape) g item result old new
   pub may : OnOk result (MayCall g new)
@@ -75,7 +75,7 @@ pub record AnswersItem {S : Type 0} (g : Ghosts S) (item : Item) (result : Resul
 -- ---- its reply
 
 -- An outcome is told on an engine, whole, or at a stop a first part of its text, whatever page is at hand then. Nothing else changes.
-pub record TellsOutcome {S : Type 0} (g : Ghosts S) (outcome : Outcome) (result : Result (Unit {0}) SessionStop) (old new : Engine S) : Type 0 where
+pub record TellsOutcome {S : Type 0} (g : Ghosts S) (outcome : Outcome) (result : Result (Unit {0}) Stop) (old new : Engine S) : Type 0 where
   pub ok : OnOk result (Tells (outcome_text outcome) (g.state old.store) (g.state new.store))
   pub err : OnErr result (TellsPart (outcome_text outcome) (record (g.state old.store) { hand = None }) (record (g.state new.store) { hand = None }))
   pub cause : OnErr result (IsErrOf result Memory ⊎ IsErrOf result Unsaid)

@@ -11,8 +11,8 @@ use Rattle.mdc_sound.specs.Breaks.{IsFirstBreak}
 use Rattle.script_engine.specs.Held.{HeldPages}
 use Rattle.script_engine.specs.OnAnyPages.{judged_pages}
 use Rattle.session.specs.script.Going.{IsHeldIn, Stage, held_last, stage_after, still}
-use Rattle.session.specs.declared.script.stop.SessionStop.{SessionStop}
-use Rattle.session.specs.declared.script.stop.SessionStop.TheVariants.{Damaged, Device}
+use Rattle.session.specs.declared.stop.Stop.{Stop}
+use Rattle.session.specs.declared.stop.Stop.TheVariants.{Damaged, Device}
 
 -- it is held within the last stage, or at first where no item was met
 abbrev pub IsHeldLast : HeldPages → List Stage → HeldPages → Type 0
@@ -43,7 +43,7 @@ FindsBuilt held stages in_hand = (stmt : Stmt) → in_hand ≡ Statement stmt �
 
 -- At a stop the pages of the last commit are those that were held last, unless a call of the disk failed: an item in hand committed
 -- nothing. Damage is that of the pages that were held, where they are told.
-pub record StopsOnAny (told : Bool) (shape : Shape) (held : HeldPages) (stages : List Stage) (in_hand : List Item) (stop : SessionStop) (base : PageList) : Type 0 where
+pub record StopsOnAny (told : Bool) (shape : Shape) (held : HeldPages) (stages : List Stage) (in_hand : List Item) (stop : Stop) (base : PageList) : Type 0 where
   pub kept : (stop ≡ Device → ⊥) → base ≡ (held_last held stages).base
   pub damage : (damage : Damage) → stop ≡ Damaged damage → IsTrue told → IsHeldDamage shape held stages in_hand damage
   pub built : FindsBuilt held stages in_hand

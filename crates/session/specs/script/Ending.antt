@@ -4,10 +4,10 @@ use Rattle.mdc_ast.specs.declared.reply.Outcome.{Outcome}
 use Rattle.mdc_ast.specs.Reading.{Item, Reads, Closes}
 use Rattle.statement_meaning.specs.Session.{has_refusal}
 use Rattle.statement_meaning.specs.Texts.{outcome_text, texts}
-use Rattle.session.specs.declared.script.stop.Served.{Served}
-use Rattle.session.specs.declared.script.stop.Served.TheVariants.{AllDone, SomeRefused}
-use Rattle.session.specs.declared.script.stop.SessionStop.{SessionStop}
-use Rattle.session.specs.declared.script.stop.SessionStop.TheVariants.{TooLong, Unread}
+use Rattle.session.specs.declared.script.served.Served.{Served}
+use Rattle.session.specs.declared.script.served.Served.TheVariants.{AllDone, SomeRefused}
+use Rattle.session.specs.declared.stop.Stop.{Stop}
+use Rattle.session.specs.declared.stop.Stop.TheVariants.{TooLong, Unread}
 
 -- the most bytes of a script
 abbrev pub script_limit : ℕ
@@ -73,7 +73,7 @@ pub record StopsWithin (taken rest said : List ℕ) (items in_hand : List Item) 
   pub fits : length taken ≤ script_limit
 
 -- How a run ends, of which these bytes were taken and those are left.
-abbrev pub EndsSo : List ℕ → List ℕ → List ℕ → List Item → List Item → List Outcome → Result Served SessionStop → Type 0
+abbrev pub EndsSo : List ℕ → List ℕ → List ℕ → List Item → List Item → List Outcome → Result Served Stop → Type 0
 EndsSo taken rest said items in_hand outcomes (Ok AllDone) = IsDone taken rest said items in_hand outcomes × (has_refusal outcomes ≡ false)
 EndsSo taken rest said items in_hand outcomes (Ok SomeRefused) = IsDone taken rest said items in_hand outcomes × (has_refusal outcomes ≡ true)
 -- a read failed

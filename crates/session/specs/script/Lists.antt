@@ -1,5 +1,5 @@
 -- The same run over plain lists of rows, and the database that it keeps.
-use Rattle.std.specs.Prelude.{◌≡◌, ◌≤◌, ◌+◌, ℕ, zero, suc, true, false, List, [], ◌∷◌, length}
+use Rattle.std.specs.Prelude.{◌≡◌, ◌≤◌, ◌+◌, ℕ, zero, suc, false, List, [], ◌∷◌, length}
 use Rattle.mdc_ast.specs.declared.reply.Outcome.{Outcome}
 use Rattle.mdc_ast.specs.declared.reply.Outcome.TheVariants as said
 use Rattle.mdc_ast.specs.declared.statement.Stmt.{Stmt}

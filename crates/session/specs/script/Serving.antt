@@ -13,18 +13,18 @@ use Rattle.session.specs.script.Going.{Goes, Stage, held_last}
 use Rattle.session.specs.script.Leaving.{AreKept, LeftBy}
 use Rattle.session.specs.script.TheWays.{on_any, on_sound}
 use Rattle.session.specs.script.Ways.{Way}
-use Rattle.session.specs.declared.script.stop.Served.{Served}
-use Rattle.session.specs.declared.script.stop.SessionStop.{SessionStop}
-use Rattle.session.specs.declared.script.stop.SessionStop.TheVariants.{TooLong}
+use Rattle.session.specs.declared.script.served.Served.{Served}
+use Rattle.session.specs.declared.stop.Stop.{Stop}
+use Rattle.session.specs.declared.stop.Stop.TheVariants.{TooLong}
 
 -- what was taken of a script by an end of its run: all of it, one byte more than the limit, or some part within it
-abbrev pub IsTakenBy : Result Served SessionStop → List ℕ → List ℕ → Type 0
+abbrev pub IsTakenBy : Result Served Stop → List ℕ → List ℕ → Type 0
 IsTakenBy (Ok served) taken rest = (rest ≡ []) × (length taken ≤ script_limit)
 IsTakenBy (Err TooLong) taken rest = length taken ≡ script_limit + 1
 IsTakenBy (Err stop) taken rest = length taken ≤ script_limit
 
 -- how much of a script was taken, whatever the engine's pages are
-pub record TakesScript (script : List ℕ) (left : Option (List ℕ)) (result : Result Served SessionStop) : Type 0 where
+pub record TakesScript (script : List ℕ) (left : Option (List ℕ)) (result : Result Served Stop) : Type 0 where
   pub taken : List ℕ
   pub rest : List ℕ
   pub script_is : script ≡ taken ++ rest
@@ -32,7 +32,7 @@ pub record TakesScript (script : List ℕ) (left : Option (List ℕ)) (result : 
   pub by_end : IsTakenBy result taken rest
 
 -- how the run of a script whose bytes are told ends
-pub record EndsScript (script : List ℕ) (left : Option (List ℕ)) (said : List ℕ) (items in_hand : List Item) (outcomes : List Outcome) (result : Result Served SessionStop) : Type 0 where
+pub record EndsScript (script : List ℕ) (left : Option (List ℕ)) (said : List ℕ) (items in_hand : List Item) (outcomes : List Outcome) (result : Result Served Stop) : Type 0 where
   pub taken : List ℕ
   pub rest : List ℕ
   pub script_is : script ≡ taken ++ rest
@@ -42,7 +42,7 @@ pub record EndsScript (script : List ℕ) (left : Option (List ℕ)) (said : Lis
 -- A run of a script on an engine: its items go on the pages that were held, their texts are told in order, a crash meanwhile leaves
 -- what is kept after some of them, and at the end the last pages are held, or the run stopped, at the item in hand or behind those
 -- that have outcomes.
-pub record RunsBy {S : Type 0} (way : Way) (Ready : Engine S → Type 0) (g : Ghosts S) (script left : Option (List ℕ)) (old new : Engine S) (result : Result Served SessionStop) : Type 0 where
+pub record RunsBy {S : Type 0} (way : Way) (Ready : Engine S → Type 0) (g : Ghosts S) (script left : Option (List ℕ)) (old new : Engine S) (result : Result Served Stop) : Type 0 where
   pub items : List Item
   pub outcomes : List Outcome
   pub stages : List Stage
@@ -58,10 +58,10 @@ pub record RunsBy {S : Type 0} (way : Way) (Ready : Engine S → Type 0) (g : Gh
       → OverTime g.clock g.left (LeftBy way.Left way.Stopped (held_by g old) stages outcomes in_hand before) old.store new.store
 
 -- such a run on a sound engine
-abbrev pub RunsScript : {S : Type 0} → Ghosts S → Option (List ℕ) → Option (List ℕ) → Engine S → Engine S → Result Served SessionStop → Type 0
+abbrev pub RunsScript : {S : Type 0} → Ghosts S → Option (List ℕ) → Option (List ℕ) → Engine S → Engine S → Result Served Stop → Type 0
 RunsScript g script left old new result = RunsBy (on_sound old.tables.shape) (IsSoundEngine g old.tables.shape) g script left old new result
 
 -- such a run on any engine
-abbrev pub RunsOnAny : {S : Type 0} → Ghosts S → Option (List ℕ) → Option (List ℕ) → Engine S → Engine S → Result Served SessionStop → Type 0
+abbrev pub RunsOnAny : {S : Type 0} → Ghosts S → Option (List ℕ) → Option (List ℕ) → Engine S → Engine S → Result Served Stop → Type 0
 RunsOnAny g script left old new result =
     RunsBy (on_any (g.state old.store).is_told old.tables.shape) (IsAnyEngine g (g.state old.store).is_told old.tables.shape) g script left old new result

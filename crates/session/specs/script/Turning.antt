@@ -21,8 +21,8 @@ use Rattle.session.specs.script.Leaving.{AreKept, LeftBy, ReopensAlways}
 use Rattle.session.specs.script.TheWays.{on_any, on_sound}
 use Rattle.session.specs.script.Told.{TellsMore}
 use Rattle.session.specs.script.Ways.{Way}
-use Rattle.session.specs.declared.script.stop.SessionStop.{SessionStop}
-use Rattle.session.specs.declared.script.stop.SessionStop.TheVariants.{Damaged, Device, TooLong, Unread, Unsaid}
+use Rattle.session.specs.declared.stop.Stop.{Stop}
+use Rattle.session.specs.declared.stop.Stop.TheVariants.{Damaged, Device, NotMdc, TooLong, Unmade, Unread, Unsaid, Version}
 
 -- A run of items on an engine: they go on the pages that were held, these bytes are told, and a crash meanwhile leaves what is kept
 -- after some of them.
@@ -43,7 +43,7 @@ pub record EndsTold {S : Type 0} (way : Way) (Ready : Engine S → Type 0) (g : 
   pub ready : Ready new
 
 -- the item has an outcome, of whose text a first part is told, all of it where the engine stopped at a step after it
-pub record EndsUntold {S : Type 0} (way : Way) (g : Ghosts S) (item : Item) (stop : SessionStop) (old new : Engine S) : Type 0 where
+pub record EndsUntold {S : Type 0} (way : Way) (g : Ghosts S) (item : Item) (stop : Stop) (old new : Engine S) : Type 0 where
   pub outcome : Outcome
   pub stage : Stage
   pub part : List ℕ
@@ -53,28 +53,31 @@ pub record EndsUntold {S : Type 0} (way : Way) (g : Ghosts S) (item : Item) (sto
   pub stops : way.Stops (held_by g old) (stage ∷ []) [] stop (g.state new.store).base
 
 -- the turn stopped at the item in hand
-pub record StopsInHand {S : Type 0} (way : Way) (g : Ghosts S) (item : Item) (stop : SessionStop) (old new : Engine S) : Type 0 where
+pub record StopsInHand {S : Type 0} (way : Way) (g : Ghosts S) (item : Item) (stop : Stop) (old new : Engine S) : Type 0 where
   pub runs : RunsItems way g [] (item ∷ []) [] [] [] old new
   pub stops : way.Stops (held_by g old) [] (item ∷ []) stop (g.state new.store).base
 
 -- a turn stopped: behind an outcome, or at the item in hand
-abbrev pub StopsTurn : {S : Type 0} → Way → Ghosts S → Item → SessionStop → Engine S → Engine S → Type 0
+abbrev pub StopsTurn : {S : Type 0} → Way → Ghosts S → Item → Stop → Engine S → Engine S → Type 0
 StopsTurn way g item stop old new = EndsUntold way g item stop old new ⊎ StopsInHand way g item stop old new
 
 -- a turn ended: its item has an outcome that is told, or it stopped
-abbrev pub TurnsSo : {S : Type 0} → Way → (Engine S → Type 0) → Ghosts S → Item → Result Bool SessionStop → Engine S → Engine S → Type 0
+abbrev pub TurnsSo : {S : Type 0} → Way → (Engine S → Type 0) → Ghosts S → Item → Result Bool Stop → Engine S → Engine S → Type 0
 TurnsSo way Ready g item (Ok refused) old new = EndsTold way Ready g item refused old new
 TurnsSo way Ready g item (Err stop) old new = StopsTurn way g item stop old new
 
--- a stop that is none of the reader of the script alone
-abbrev pub IsTurnStop : SessionStop → Type 0
+-- a stop of a turn: none that refuses the file, and none of the reader of the script alone
+abbrev pub IsTurnStop : Stop → Type 0
+IsTurnStop Unmade = ⊥
+IsTurnStop NotMdc = ⊥
+IsTurnStop (Version version) = ⊥
 IsTurnStop Unread = ⊥
 IsTurnStop TooLong = ⊥
 IsTurnStop stop = Unit {0}
 
 -- What a turn of an item does to an engine, on a sound one and on any. Whatever the engine is, no damage is named of sound pages, and a
 -- crash leaves a file that reopens.
-pub record TurnsItem {S : Type 0} (g : Ghosts S) (item : Item) (result : Result Bool SessionStop) (old new : Engine S) : Type 0 where
+pub record TurnsItem {S : Type 0} (g : Ghosts S) (item : Item) (result : Result Bool Stop) (old new : Engine S) : Type 0 where
   pub sound : (shape : Shape) → IsSoundEngine g shape old → TurnsSo (on_sound shape) (IsSoundEngine g shape) g item result old new
   pub any : (told : Bool) (shape : Shape) → IsAnyEngine g told shape old → TurnsSo (on_any told shape) (IsAnyEngine g told shape) g item result old new
   pub may : OnOk result (MayCall g new)

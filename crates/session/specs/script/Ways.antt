@@ -6,7 +6,7 @@ use Rattle.mdc_ast.specs.Reading.{Item}
 use Rattle.table_trees.specs.ToldPages.{PageList}
 use Rattle.script_engine.specs.Held.{HeldPages}
 use Rattle.session.specs.script.Going.{Stage}
-use Rattle.session.specs.declared.script.stop.SessionStop.{SessionStop}
+use Rattle.session.specs.declared.stop.Stop.{Stop}
 
 -- Which stage an item is met in, which pages a statement may have committed at which a run stopped, which pages those of the last
 -- commit may be, and what a stop says of what was held, of the item in hand, and of the pages of the last commit.
@@ -14,4 +14,4 @@ pub record Way : Type 1 where
   pub Met : HeldPages → Item → Outcome → Stage → Type 0
   pub Stopped : HeldPages → Stmt → PageList → Type 0
   pub Left : PageList → Type 0
-  pub Stops : HeldPages → List Stage → List Item → SessionStop → PageList → Type 0
+  pub Stops : HeldPages → List Stage → List Item → Stop → PageList → Type 0

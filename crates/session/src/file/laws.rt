@@ -15,11 +15,11 @@ ghost use Rattle.script_engine.specs.Held.{HeldPages};
 ghost use Rattle.file_verdict.specs.SoundFile.{StatesExtents};
 ghost use Rattle.session.specs.script.Going.{Stage};
 ghost use Rattle.session.specs.script.Lists.{IsKeptDatabase};
-ghost use Rattle.session.specs.declared.script.stop.Served.{Served};
+ghost use Rattle.session.specs.declared.script.served.Served.{Served};
 ghost use Rattle.session.specs.file.Leaving.{LeftByRun};
 ghost use Rattle.session.specs.file.Serving.{RunsItems, RunsOnFile};
 ghost use Rattle.session.specs.file.Well.{AreWell, IsWell};
-ghost use Rattle.session.specs.declared.file.stop.FileStop.{FileStop};
+ghost use Rattle.session.specs.declared.stop.Stop.{Stop};
 
 use crate::file::made::made_database_is_sound;
 use mdc_outside::Host;
@@ -47,11 +47,11 @@ pub fn left_by_run_is_well()
 /// whose reply was said whole. On what a crash leaves before a run comes to its origin, of a file that was all on the disk, it begins
 /// with the same database.
 pub fn next_run_goes_on()
-    ensures kept { (shape now : Shape) (pages : PageList) (said said_next : List ℕ) (script left tape script_next left_next tape_next : Option (List ℕ)) (result result_next : Result Served FileStop)
+    ensures kept { (shape now : Shape) (pages : PageList) (said said_next : List ℕ) (script left tape script_next left_next tape_next : Option (List ℕ)) (result result_next : Result Served Stop)
         → (run : RunsItems shape pages said script left tape result) (image told : List ℕ) (crash : LeftByRun shape run.held run.stages run.outcomes run.in_hand said image told)
         → StatesExtents image now → (next : RunsItems now (pages_in image) said_next script_next left_next tape_next result_next)
         → IsKeptDatabase shape.extents (session_on run.db) run.sessions run.in_hand crash.left.items next.db }
-    ensures same { (before : File) (shape now : Shape) (said said_next : List ℕ) (script left tape script_next left_next tape_next : Option (List ℕ)) (result result_next : Result Served FileStop)
+    ensures same { (before : File) (shape now : Shape) (said said_next : List ℕ) (script left tape script_next left_next tape_next : Option (List ℕ)) (result result_next : Result Served Stop)
         → before.since ≡ all_synced before.bytes → StatesExtents before.bytes shape → (run : RunsItems shape (pages_in before.bytes) said script left tape result)
         → (image : List ℕ) → IsImage before.since image → StatesExtents image now → (next : RunsItems now (pages_in image) said_next script_next left_next tape_next result_next)
         → next.db ≡ run.db }
@@ -69,7 +69,7 @@ pub fn left_file_is_well()
 /// After a run that ended, each image that could be left of its file, and so the file as it reads, is one that the run leaves with all
 /// that was said. Or the run stopped before its origin, and the image could be left before it.
 pub fn ended_run_is_left<H: Host>()
-    ensures { (old new : H) (before after : File) (said heard : List ℕ) (script left : Option (List ℕ)) (result : Result Served FileStop)
+    ensures { (old new : H) (before after : File) (said heard : List ℕ) (script left : Option (List ℕ)) (result : Result Served Stop)
         → H.file old ≡ Some before → (H.beside old).tape ≡ Some said → H.file new ≡ Some after → (H.beside new).tape ≡ Some heard
         → (runs : RunsOnFile H.Disk before said script left old new result) (image : List ℕ) → IsImage after.since image
         → LeftByRun runs.shape runs.run.held runs.run.stages runs.run.outcomes runs.run.in_hand said image heard ⊎ IsImage before.since image }

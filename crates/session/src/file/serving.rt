@@ -1,5 +1,5 @@
 // A script on the file that is attached to a host.
-ghost use Rattle.std.specs.Prelude.{◌≡◌, ◌≢◌, ◌≤◌, ◌⊎◌, ℕ, List, Some, None, IfSome, Result, Err, IsTrue, false};
+ghost use Rattle.std.specs.Prelude.{◌≡◌, ◌≢◌, ◌≤◌, ◌⊎◌, ℕ, List, Some, None, IfErr, IfSome, Result, Err, IsTrue, false};
 ghost use Rattle.std.specs.Option.{ForSome};
 ghost use Rattle.mdc_words.specs.Faults.{CountsFault};
 ghost use Rattle.mdc_words.specs.Time.{OverTime};
@@ -16,18 +16,19 @@ ghost use Rattle.page_store.specs.Standing.{FrontAgrees, IsFormed};
 ghost use Rattle.script_engine.specs.Opening.{IsSoundStore};
 ghost use Rattle.file_verdict.specs.Resting.{ComesToRest, StaysFormed};
 ghost use Rattle.file_verdict.specs.SoundFile.{StatesExtents};
+ghost use Rattle.session.specs.Stops.{IsOfScript};
 ghost use Rattle.session.specs.script.Leaving.{ReopensAlways};
 ghost use Rattle.session.specs.script.Serving.{TakesScript};
 ghost use Rattle.session.specs.script.Told.{StaysTold, TellsMore};
 ghost use Rattle.session.specs.file.AnyServing.{RunsOnAnyFile, RunsOnServed};
-ghost use Rattle.session.specs.file.Ending.{IsCauseIn, IsRefused, IsUnopened, StopsOpening, end_of_session};
+ghost use Rattle.session.specs.file.Ending.{IsCauseIn, IsRefused, IsUnopened, StopsOpening};
 ghost use Rattle.session.specs.file.Leaving.{AreFormed, StopsUnrested};
 ghost use Rattle.session.specs.file.Running.{LeavesFormed, RunsAnyOnStore, RunsOnStore, ServesAny, ServesStore};
 ghost use Rattle.session.specs.file.Serving.{RunsOnFile, TakesBySession};
 ghost use Rattle.session.specs.file.Well.{AreWell, IsWell};
 
-use crate::file::stop::FileStop;
-use crate::script::{Served, SessionStop, goes_on_lists, serve};
+use crate::script::{Served, goes_on_lists, serve};
+use crate::stop::Stop;
 use mdc_outside::{Host, Source};
 use page_store::{CACHED_PAGES, FileStore, OpenFault, Origin, Unopened};
 use script_engine::{Engine, Stopped, sound_pages_stand};
@@ -37,7 +38,7 @@ use store_api::{Pages, Shape, Store};
 /// How serving a script on a file ended, and the host.
 #[derive(Drop)]
 pub struct Ended<H> {
-    pub end: Result<Served, FileStop>,
+    pub end: Result<Served, Stop>,
     pub host: H,
 }
 
@@ -65,7 +66,7 @@ pub fn serve_file<I: Source, H: Host, O: Origin>(alloc: Global, input: &mut I, h
     ensures unopened { ForSome (H.file host) (λ file. (IsServed file.bytes → ⊥) → IsUnopened result.end × (input.new ≡ input.old) × ((H.beside result.host).tape ≡ (H.beside host).tape)) }
     // A file that isn't served is left alone, also where the disk fails: a crash leaves what it could leave before.
     ensures left_alone { ForSome (H.file host) (λ file. (IsServed file.bytes → ⊥) → LeavesOf H.Disk CouldBeLeft host result.host
-        × ((result.end ≡ Err FileStop.Device → ⊥) → file_bytes (H.file result.host) ≡ file_bytes (H.file host))) }
+        × ((result.end ≡ Err Stop.Device → ⊥) → file_bytes (H.file result.host) ≡ file_bytes (H.file host))) }
     // Whatever its pages are, of a script on a file that is served so much is taken as its end says.
     ensures takes { IsRefused result.end ⊎ TakesBySession (I.left input.old) (I.left input.new) result.end }
     // From the run's origin on a crash leaves a formed image of the extents that a formed file states, whose front is as it was. A run that
@@ -76,11 +77,11 @@ pub fn serve_file<I: Source, H: Host, O: Origin>(alloc: Global, input: &mut I, h
         → (after : File) × (H.file result.host ≡ Some after) × AreFormed after }
     // The front of any file is as it was, and it is no longer than it was, or than its pages and one journal. Where the disk failed, those of
     // a commit that failed; or it may be what a crash could leave.
-    ensures grew { (before after : File) → H.file host ≡ Some before → H.file result.host ≡ Some after → GrewByCalls (result.end ≡ Err FileStop.Device) before after.bytes }
+    ensures grew { (before after : File) → H.file host ≡ Some before → H.file result.host ≡ Some after → GrewByCalls (result.end ≡ Err Stop.Device) before after.bytes }
     ensures refused { IsRefused result.end → (input.new ≡ input.old) × ((H.beside result.host).tape ≡ (H.beside host).tape) }
-    ensures reads { CountsFault (result.end ≡ Err FileStop.Unread) (I.read_faults input.old) (I.read_faults input.new) }
-    ensures unsaid { CountsFault (result.end ≡ Err FileStop.Unsaid) (H.say_faults host) (H.say_faults result.host) }
-    ensures device { CountsFault (result.end ≡ Err FileStop.Device) (H.disk_faults host) (H.disk_faults result.host) }
+    ensures reads { CountsFault (result.end ≡ Err Stop.Unread) (I.read_faults input.old) (I.read_faults input.new) }
+    ensures unsaid { CountsFault (result.end ≡ Err Stop.Unsaid) (H.say_faults host) (H.say_faults result.host) }
+    ensures device { CountsFault (result.end ≡ Err Stop.Device) (H.disk_faults host) (H.disk_faults result.host) }
     ensures attaches { H.attaches result.host ≡ H.attaches host }
     ensures told { StaysTold (H.file host) (H.file result.host) × TellsMore (H.beside host).tape (H.beside result.host).tape }
     ensures later { H.clock host ≤ H.clock result.host }
@@ -100,7 +101,7 @@ pub fn serve_file<I: Source, H: Host, O: Origin>(alloc: Global, input: &mut I, h
 // How a script on a store ended, and the store.
 #[derive(Drop)]
 struct Answered<S: Store> {
-    end: Result<Served, SessionStop>,
+    end: Result<Served, Stop>,
     store: S,
 }
 
@@ -117,18 +118,18 @@ fn serve_store<I: Source, H: Host, O: Origin>(
     ensures runs { (file : File) (said : List ℕ) → H.file store.host ≡ Some file → (H.beside store.host).tape ≡ Some said
         → (shape : Shape) → StatesExtents file.bytes shape → IsSoundStore ⟦<FileStore<H, O> as Pages>⟧ shape store
         → ServesStore ⟦<FileStore<H, O> as Pages>⟧ H.Disk shape said (I.left input.old) (I.left input.new) store result.host result.end }
-    ensures damaged { (damage : Damage) → result.end ≡ Err (FileStop.Damaged damage) → (file : File) → H.file store.host ≡ Some file
+    ensures damaged { (damage : Damage) → result.end ≡ Err (Stop.Damaged damage) → (file : File) → H.file store.host ≡ Some file
         → (shape : Shape) → StatesExtents file.bytes shape → IsSoundStore ⟦<FileStore<H, O> as Pages>⟧ shape store → ⊥ }
     ensures any { (⟦<FileStore<H, O> as Pages>⟧.state store).base ≡ (⟦<FileStore<H, O> as Pages>⟧.state store).work → Rests ⟦<FileStore<H, O> as Pages>⟧ store
         → ServesAny ⟦<FileStore<H, O> as Pages>⟧ H.Disk (H.file store.host) (I.left input.old) (I.left input.new) store result.host result.end }
     ensures takes { TakesBySession (I.left input.old) (I.left input.new) result.end }
     ensures grew { (⟦<FileStore<H, O> as Pages>⟧.state store).base ≡ (⟦<FileStore<H, O> as Pages>⟧.state store).work
-        → IfSome O.first (λ first. ForSome (H.file result.host) (λ file. GrewWhere (result.end ≡ Err FileStop.Device → ⊥) first file.bytes)) }
+        → IfSome O.first (λ first. ForSome (H.file result.host) (λ file. GrewWhere (result.end ≡ Err Stop.Device → ⊥) first file.bytes)) }
     ensures reopens { (file : File) (said : List ℕ) → H.file store.host ≡ Some file → (H.beside store.host).tape ≡ Some said
         → LeavesFormed ⟦<FileStore<H, O> as Pages>⟧ H.Disk file.bytes store result.host }
-    ensures reads { CountsFault (result.end ≡ Err FileStop.Unread) (I.read_faults input.old) (I.read_faults input.new) }
-    ensures unsaid { CountsFault (result.end ≡ Err FileStop.Unsaid) (H.say_faults store.host) (H.say_faults result.host) }
-    ensures device { CountsFault (result.end ≡ Err FileStop.Device) (H.disk_faults store.host) (H.disk_faults result.host) }
+    ensures reads { CountsFault (result.end ≡ Err Stop.Unread) (I.read_faults input.old) (I.read_faults input.new) }
+    ensures unsaid { CountsFault (result.end ≡ Err Stop.Unsaid) (H.say_faults store.host) (H.say_faults result.host) }
+    ensures device { CountsFault (result.end ≡ Err Stop.Device) (H.disk_faults store.host) (H.disk_faults result.host) }
     ensures attaches { H.attaches result.host ≡ H.attaches store.host }
     ensures told { StaysTold (H.file store.host) (H.file result.host) × TellsMore (H.beside store.host).tape (H.beside result.host).tape }
     ensures later { H.clock store.host ≤ H.clock result.host }
@@ -142,7 +143,7 @@ fn serve_store<I: Source, H: Host, O: Origin>(
     };
     let answered = serve_pages(alloc, input, store, shape);
     Ended {
-        end: end_of(answered.end),
+        end: answered.end,
         host: answered.store.close(),
     }
 }
@@ -157,14 +158,15 @@ fn serve_pages<I: Source, S: Store>(
     requires going { (S.state store).ended ≡ false }
     requires unmarked { (S.state store).marked ≡ None }
     ensures runs { IsSoundStore S.Pages shape store → RunsOnStore S.Pages shape (I.left input.old) (I.left input.new) store result.store result.end }
-    ensures damaged { (damage : Damage) → result.end ≡ Err (SessionStop.Damaged damage) → IsSoundStore S.Pages shape store → ⊥ }
+    ensures damaged { (damage : Damage) → result.end ≡ Err (Stop.Damaged damage) → IsSoundStore S.Pages shape store → ⊥ }
     // Whatever the pages are, where all of them are committed: one run of the script's items on them.
     ensures any { (S.state store).base ≡ (S.state store).work → RunsAnyOnStore S.Pages shape (I.left input.old) (I.left input.new) store result.store result.end }
-    ensures going { (S.state store).base ≡ (S.state store).work → (result.end ≡ Err SessionStop.Device → ⊥) → (S.state result.store).ended ≡ false }
+    ensures stop { IfErr result.end IsOfScript }
+    ensures going { (S.state store).base ≡ (S.state store).work → (result.end ≡ Err Stop.Device → ⊥) → (S.state result.store).ended ≡ false }
     ensures rests { Rests S.Pages store → Rests S.Pages result.store }
-    ensures reads { CountsFault (result.end ≡ Err SessionStop.Unread) (I.read_faults input.old) (I.read_faults input.new) }
-    ensures unsaid { CountsFault (result.end ≡ Err SessionStop.Unsaid) (S.say_faults store) (S.say_faults result.store) }
-    ensures device { CountsFault (result.end ≡ Err SessionStop.Device) (S.disk_faults store) (S.disk_faults result.store) }
+    ensures reads { CountsFault (result.end ≡ Err Stop.Unread) (I.read_faults input.old) (I.read_faults input.new) }
+    ensures unsaid { CountsFault (result.end ≡ Err Stop.Unsaid) (S.say_faults store) (S.say_faults result.store) }
+    ensures device { CountsFault (result.end ≡ Err Stop.Device) (S.disk_faults store) (S.disk_faults result.store) }
     ensures beside { (S.state result.store).beside ≡ (S.state store).beside }
     ensures is_told { (S.state result.store).is_told ≡ (S.state store).is_told }
     ensures takes { IfSome (I.left input.old) (λ script. TakesScript script (I.left input.new) result.end) }
@@ -182,34 +184,24 @@ fn serve_pages<I: Source, S: Store>(
             }
         }
         Err(Stopped { stop, store }) => Answered {
-            end: Err(SessionStop::from(stop)),
+            end: Err(Stop::from(stop)),
             store,
         },
     }
 }
 
-// The end of a run, by that of its session.
-fn end_of(served: Result<Served, SessionStop>) -> Result<Served, FileStop>
-    ensures { result ≡ end_of_session served }
-{
-    match served {
-        Ok(served) => Ok(served),
-        Err(stop) => Err(FileStop::from(stop)),
-    }
-}
-
 // Why a file isn't opened, as a stop of the run.
-fn stop_of_opening(fault: OpenFault) -> FileStop
+fn stop_of_opening(fault: OpenFault) -> Stop
     requires { fault ≢ OpenFault.Exists }
     ensures { StopsOpening fault result }
 {
     match fault {
         OpenFault::Exists => unreachable!(),
-        OpenFault::Unmade => FileStop::Unmade,
-        OpenFault::NotMdc => FileStop::NotMdc,
-        OpenFault::Version(version) => FileStop::Version(version),
-        OpenFault::Device => FileStop::Device,
-        OpenFault::Damaged(damage) => FileStop::Damaged(damage),
-        OpenFault::Memory => FileStop::Memory,
+        OpenFault::Unmade => Stop::Unmade,
+        OpenFault::NotMdc => Stop::NotMdc,
+        OpenFault::Version(version) => Stop::Version(version),
+        OpenFault::Device => Stop::Device,
+        OpenFault::Damaged(damage) => Stop::Damaged(damage),
+        OpenFault::Memory => Stop::Memory,
     }
 }

@@ -11,15 +11,15 @@ ghost use Rattle.session.specs.script.Answering.{AnswersItem};
 ghost use Rattle.session.specs.script.Written.{IsReadWritten};
 ghost use Rattle.sql_reader.specs.Item.{item_of};
 
-use crate::script::stop::SessionStop;
+use crate::stop::Stop;
 use answer_text::outcome_bytes;
 use mdc_ast::{Outcome, Reply};
-use script_engine::{Engine, EngineStop};
+use script_engine::Engine;
 use sql_reader::Read;
-use store_api::Store;
+use store_api::{Store, StoreFault};
 
 /// The outcome of an item: a statement is executed, and what can't be read is refused.
-pub fn outcome_of<S: Store>(engine: &mut Engine<S>, read: Read) -> Result<Outcome, EngineStop>
+pub fn outcome_of<S: Store>(engine: &mut Engine<S>, read: Read) -> Result<Outcome, StoreFault>
     requires may { MayCall S.Pages engine.old }
     requires written { IsReadWritten read }
     ensures answers { AnswersItem S.Pages (item_of read) result engine.old engine.new }
@@ -36,16 +36,16 @@ pub fn tell_outcome<S: Store>(
     engine: &mut Engine<S>,
     outcome: &Outcome,
     reply: &mut Vec<u8>,
-) -> Result<(), SessionStop>
+) -> Result<(), Stop>
     requires may { MayCall S.Pages engine.old }
     ensures ok { OnOk result (Tells (outcome_text outcome.now) (S.state engine.old.store) (S.state engine.new.store)) }
     ensures err { OnErr result (TellsPart (outcome_text outcome.now) (record (S.state engine.old.store) { hand = None }) (record (S.state engine.new.store) { hand = None })) }
-    ensures cause { OnErr result (IsErrOf result SessionStop.Memory ⊎ IsErrOf result SessionStop.Unsaid) }
+    ensures cause { OnErr result (IsErrOf result Stop.Memory ⊎ IsErrOf result Stop.Unsaid) }
     ensures stays { engine.new ≡ record engine.old { store = engine.new.store } }
     ensures held { held_by S.Pages engine.new ≡ held_by S.Pages engine.old }
     ensures ready { IsReadyEngine S.Pages engine.old → IsReadyEngine S.Pages engine.new }
     ensures may { OnOk result (MayCall S.Pages engine.new) }
-    ensures unsaid { CountsFault (IsErrOf result SessionStop.Unsaid) (S.say_faults engine.old.store) (S.say_faults engine.new.store) }
+    ensures unsaid { CountsFault (IsErrOf result Stop.Unsaid) (S.say_faults engine.old.store) (S.say_faults engine.new.store) }
     ensures disk_faults { S.disk_faults engine.new.store ≡ S.disk_faults engine.old.store }
     ensures time { OverTime S.clock S.left (BaseWithFront (outcome_text outcome.now) (S.state engine.old.store)) engine.old.store engine.new.store }
     ensures rests { Rests S.Pages engine.old.store → Rests S.Pages engine.new.store }

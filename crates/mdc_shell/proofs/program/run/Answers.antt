@@ -4,7 +4,7 @@ use Rattle.mdc_words.proofs.TimeLemmas.{over_time_none}
 use Rattle.page_file.proofs.LeavesLemmas.{sound_image}
 use Rattle.page_store.specs.Opened.{file_bytes}
 use Rattle.file_verdict.specs.declared.unjudged.Unjudged.TheVariants as unjudged
-use Rattle.session.specs.declared.file.stop.FileStop.TheVariants.{Memory}
+use Rattle.session.specs.declared.stop.Stop.TheVariants.{Memory}
 use Rattle.mdc_shell.specs.Leaving.{LeftByCreate}
 use Rattle.mdc_shell.specs.Words.{CheckFile, CreateFile, RunFile, RunScratch}
 use Rattle.mdc_shell.proofs.AnyRunsLemmas.{runs_any-before}

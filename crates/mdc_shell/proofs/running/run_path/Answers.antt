@@ -3,7 +3,7 @@ use Rattle.std.specs.Option.{option_map}
 use Rattle.page_file.proofs.LeavesLemmas.{sound_image}
 use Rattle.mdc_words.proofs.TimeLemmas.{over_time_wider}
 use Rattle.mdc_outside.specs.Disk.{opened}
-use Rattle.session.specs.declared.file.stop.FileStop.TheVariants.{Device}
+use Rattle.session.specs.declared.stop.Stop.TheVariants.{Device}
 use Rattle.mdc_shell.proofs.AnyRunsLemmas.{runs_any-before, runs_any-opened}
 use Rattle.mdc_shell.proofs.CreateLemmas.{tape_stays}
 use Rattle.mdc_shell.proofs.RunsLemmas.{attach_failed, could_be_left-quiet, refuses_file-before, refuses_file-opened, reopens_file-before, reopens_file-opened, runs_path-before, runs_path-opened, says_end-quiet, serves_path-before, serves_path-opened, takes_none}

@@ -1,5 +1,5 @@
 use Rattle.std.proofs.Common.{◌∙◌, arith, inl, inr, refl, sym}
-use Rattle.session.specs.declared.file.stop.FileStop.TheVariants.{Device}
+use Rattle.session.specs.declared.stop.Stop.TheVariants.{Device}
 use Rattle.page_file.proofs.LeavesLemmas.{sound_image}
 use Rattle.mdc_shell.proofs.CreateLemmas.{left_by_making-told, made_of_nothing, tape_stays}
 use Rattle.mdc_shell.proofs.RunsLemmas.{runs_scratch-ended, takes_none}

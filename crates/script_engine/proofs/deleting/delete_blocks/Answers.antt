@@ -1,6 +1,7 @@
 use Rattle.std.proofs.Common.{◌≡◌, length, refl, rules}
 use Rattle.store_api.proofs.RunsOverPagesLemmas.{runs_exit}
 use Rattle.row_checks.specs.Served.{MayJudge}
+use Rattle.script_engine.proofs.FetchesForStatementLemmas.{fetches_rolled}
 use Rattle.script_engine.proofs.NotedRoomsLemmas.{room_left, room_lent, rooms_beside, table_below}
 use Rattle.script_engine.proofs.ReadRowsLemmas.{may_judge_read}
 use Rattle.script_engine.proofs.ReadyTablesLemmas.{served_def}
@@ -42,3 +43,13 @@ returns-clause-runs g c =
     let low = table_below c.args.tables.now.catalog c.args.tables.now.rooms.by_table c.args.table c.in-Some.def.now c.requires.served c.in-Some.ensures long in
     let lent = room_lent c.args.tables.now.rooms.by_table c.args.table c.index-tables-table.result low in
     runs_rolled g.P.Pages c.args.pages.now c.roll_out.new.pages c.args.tables.now c.args.table c.in-Some.def.now c.requires.served c.in-Some.ensures lent c.in_ok-rolled.ensures.runs
+
+pub returns-in_err-rolled-clause-fetches : goal.returns-in_err-rolled-clause-fetches
+returns-in_err-rolled-clause-fetches g c =
+    fetches_rolled g.P.Pages c.args.tables.now.shape c.args.tables.now.catalog c.args.tables.now.settings c.args.pages.now c.roll_out.new.pages c.args.table c.args.pred.now c.in-Some.def.now c.in-Some.ensures
+    c.in_err-rolled.ensures.runs.brings
+
+pub returns-clause-fetches : goal.returns-clause-fetches
+returns-clause-fetches g c =
+    fetches_rolled g.P.Pages c.args.tables.now.shape c.args.tables.now.catalog c.args.tables.now.settings c.args.pages.now c.roll_out.new.pages c.args.table c.args.pred.now c.in-Some.def.now c.in-Some.ensures
+    c.in_ok-rolled.ensures.runs.brings

@@ -1,7 +1,7 @@
 use Rattle.std.proofs.Common.{refl, rules}
 use Rattle.store_api.proofs.RunsOverPagesLemmas.{runs_none}
 use Rattle.script_engine.proofs.ExecutingLemmas.{IsIdle, does_nothing, leaves_all}
-use Rattle.script_engine.proofs.FetchesForQueryLemmas.{fetches_none}
+use Rattle.script_engine.proofs.FetchesForStatementLemmas.{fetches_none}
 use Rattle.script_engine.proofs.executing.carry_out.Goals as goal
 
 pub returns : goal.returns
@@ -12,7 +12,7 @@ returns g c =
       refused = λ refusal e. cc;
       full = tt;
       reads = λ e. leaves_all g.P.Pages c.args.pages.now c.args.tables.now;
-      fetches = fetches_none g.P.Pages c.args.tables.now.shape c.args.tables.now.catalog c.args.pages.now c.args.bound;
+      fetches = fetches_none g.P.Pages c.args.tables.now.shape c.args.tables.now.catalog c.args.tables.now.settings c.args.pages.now c.args.bound;
       keeps = record { shape = refl; settings = refl; served = c.requires.served; kept = tt };
       runs = runs_none;
     }

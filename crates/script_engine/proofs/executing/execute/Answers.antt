@@ -3,8 +3,8 @@ use Rattle.mdc_ast.specs.declared.bound.Bound.TheVariants as bound
 use Rattle.store_api.proofs.RunsOverPagesLemmas.{runs_exit_as}
 use Rattle.extent_map.specs.Damages.{store_part_of}
 use Rattle.script_engine.proofs.ExecutingLemmas.{executes_step, none_told, form_other, full_as_bound, may_execute, reads_as_bound, runs_wanting, steps_as_bound, steps_other, unbuilt_wanting}
-use Rattle.script_engine.specs.Fetching.{FetchesForQuery}
-use Rattle.script_engine.proofs.FetchesForQueryLemmas.{fetches_none}
+use Rattle.script_engine.specs.Fetching.{FetchesForStatement}
+use Rattle.script_engine.proofs.FetchesForStatementLemmas.{fetches_none}
 use Rattle.script_engine.specs.Roles.{role_of}
 use Rattle.script_engine.proofs.ListingLemmas.{lists_ready}
 use Rattle.script_engine.proofs.executing.execute.Goals as goal
@@ -35,12 +35,12 @@ returns-in-Some-clause-reads g c =
     reads_as_bound c.args.tables.now.catalog c.args.stmt.now (bound.Insert c.in-Some.whole.table c.in-Some.whole.rows) whole (λ e. absurd cc)
 
 pub returns-in_err-whole-clause-fetches : goal.returns-in_err-whole-clause-fetches
-returns-in_err-whole-clause-fetches g c = fetches_none g.P.Pages c.args.tables.now.shape c.args.tables.now.catalog c.args.pages.now _
+returns-in_err-whole-clause-fetches g c = fetches_none g.P.Pages c.args.tables.now.shape c.args.tables.now.catalog c.args.tables.now.settings c.args.pages.now _
 
 pub returns-in-Some-clause-fetches : goal.returns-in-Some-clause-fetches
 returns-in-Some-clause-fetches g c =
     let whole = rw c.in-Some.is at c.in_ok-whole.ensures.bound in
-    subst (FetchesForQuery g.P.Pages c.args.tables.now.shape c.args.pages.now c.insert.new.pages c.args.tables.now.catalog) whole.is tt
+    subst (FetchesForStatement g.P.Pages c.args.tables.now.shape c.args.pages.now c.insert.new.pages c.args.tables.now.catalog c.args.tables.now.settings) whole.is tt
 
 pub returns-in_err-whole-clause-unbuilt : goal.returns-in_err-whole-clause-unbuilt
 returns-in_err-whole-clause-unbuilt g c unbuilt = unbuilt_wanting c.from_residual.result c.in_err-whole.field-0.0 c.from_residual.ensures.1 c.in_err-whole.ensures.memory

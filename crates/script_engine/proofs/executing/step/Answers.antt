@@ -2,8 +2,8 @@ use Rattle.std.proofs.Common.{◌≡◌, ◌∙◌, ap, false, subst, sym, true}
 use Rattle.mdc_ast.specs.declared.reply.Outcome.TheVariants as said
 use Rattle.store_api.proofs.RunsOverPagesLemmas.{runs_memory, runs_none}
 use Rattle.script_engine.proofs.ExecutingLemmas.{full_as_bound, is_bound_on, leaves_all, may_execute, reads_as_bound, steps_as_bound, steps_not_built, steps_refused}
-use Rattle.script_engine.specs.Fetching.{FetchesForQuery}
-use Rattle.script_engine.proofs.FetchesForQueryLemmas.{fetches_none}
+use Rattle.script_engine.specs.Fetching.{FetchesForStatement}
+use Rattle.script_engine.proofs.FetchesForStatementLemmas.{fetches_none}
 use Rattle.script_engine.proofs.executing.step.Goals as goal
 
 pub returns-then-not-built-clause-does : goal.returns-then-not-built-clause-does
@@ -44,17 +44,17 @@ pub returns-in-Err-Memory-clause-runs : goal.returns-in-Err-Memory-clause-runs
 returns-in-Err-Memory-clause-runs g c = runs_memory runs_none
 
 pub returns-then-not-built-clause-fetches : goal.returns-then-not-built-clause-fetches
-returns-then-not-built-clause-fetches g c = fetches_none g.P.Pages c.args.tables.now.shape c.args.tables.now.catalog c.args.pages.now _
+returns-then-not-built-clause-fetches g c = fetches_none g.P.Pages c.args.tables.now.shape c.args.tables.now.catalog c.args.tables.now.settings c.args.pages.now _
 
 pub returns-in-Err-Refused-clause-fetches : goal.returns-in-Err-Refused-clause-fetches
-returns-in-Err-Refused-clause-fetches g c = fetches_none g.P.Pages c.args.tables.now.shape c.args.tables.now.catalog c.args.pages.now _
+returns-in-Err-Refused-clause-fetches g c = fetches_none g.P.Pages c.args.tables.now.shape c.args.tables.now.catalog c.args.tables.now.settings c.args.pages.now _
 
 pub returns-in-Err-Memory-clause-fetches : goal.returns-in-Err-Memory-clause-fetches
-returns-in-Err-Memory-clause-fetches g c = fetches_none g.P.Pages c.args.tables.now.shape c.args.tables.now.catalog c.args.pages.now _
+returns-in-Err-Memory-clause-fetches g c = fetches_none g.P.Pages c.args.tables.now.shape c.args.tables.now.catalog c.args.tables.now.settings c.args.pages.now _
 
 pub returns-in-Ok-clause-fetches : goal.returns-in-Ok-clause-fetches
 returns-in-Ok-clause-fetches g c =
-    subst (FetchesForQuery g.P.Pages c.args.tables.now.shape c.args.pages.now c.carry_out.new.pages c.args.tables.now.catalog) c.in-Ok.ensures.bound.1 c.carry_out.ensures.fetches
+    subst (FetchesForStatement g.P.Pages c.args.tables.now.shape c.args.pages.now c.carry_out.new.pages c.args.tables.now.catalog c.args.tables.now.settings) c.in-Ok.ensures.bound.1 c.carry_out.ensures.fetches
 
 pub returns-then-not-built-clause-unbuilt : goal.returns-then-not-built-clause-unbuilt
 returns-then-not-built-clause-unbuilt g c unbuilt = ap said.Refused c.not_built.ensures

@@ -1,6 +1,8 @@
 use Rattle.store_api.proofs.RunsOverPagesLemmas.{runs_memory, runs_none}
-use Rattle.std.proofs.Common.{refl}
+use Rattle.std.proofs.Common.{refl, subst}
 use Rattle.script_engine.proofs.ExplainLemmas.{bound_serves, explain_refused, explains_ready, is_bound_explain}
+use Rattle.script_engine.proofs.FetchesForStatementLemmas.{fetches_none}
+use Rattle.script_engine.specs.Fetching.{FetchesForStatement}
 use Rattle.script_engine.proofs.explaining.explain.Goals as goal
 
 pub explain_bound-requires-clause-there : goal.explain_bound-requires-clause-there
@@ -24,3 +26,13 @@ returns-in-Err-Refused-clause-runs g c = runs_none
 
 pub returns-in-Err-Memory-clause-runs : goal.returns-in-Err-Memory-clause-runs
 returns-in-Err-Memory-clause-runs g c = runs_memory runs_none
+
+pub returns-in-Ok-clause-fetches : goal.returns-in-Ok-clause-fetches
+returns-in-Ok-clause-fetches g c =
+    subst (FetchesForStatement g.P.Pages c.args.tables.now.shape c.args.pages.now c.explain_bound.new.pages c.args.tables.now.catalog c.args.tables.now.settings) c.in-Ok.ensures.bound.1 c.explain_bound.ensures.fetches
+
+pub returns-in-Err-Refused-clause-fetches : goal.returns-in-Err-Refused-clause-fetches
+returns-in-Err-Refused-clause-fetches g c = fetches_none g.P.Pages c.args.tables.now.shape c.args.tables.now.catalog c.args.tables.now.settings c.args.pages.now _
+
+pub returns-in-Err-Memory-clause-fetches : goal.returns-in-Err-Memory-clause-fetches
+returns-in-Err-Memory-clause-fetches g c = fetches_none g.P.Pages c.args.tables.now.shape c.args.tables.now.catalog c.args.tables.now.settings c.args.pages.now _

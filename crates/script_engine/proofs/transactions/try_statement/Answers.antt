@@ -1,4 +1,4 @@
-use Rattle.std.proofs.Common.{Err, Ok, ap, ◌∙◌}
+use Rattle.std.proofs.Common.{Err, Ok, ap, refl, ◌∙◌}
 use Rattle.script_engine.proofs.TryingLemmas.{try_full, try_kept, try_stops}
 use Rattle.script_engine.proofs.transactions.try_statement.Goals as goal
 
@@ -21,7 +21,7 @@ returns-in-Err-Full g c = record {
 pub returns-in-Err-Store : goal.returns-in-Err-Store
 returns-in-Err-Store g c = record {
   tries = try_stops g.P.Pages c.args.pages.now c.mark.new.self c.execute.new.pages c.args.tables.now c.execute.new.tables c.args.stmt.now c.mark.ensures.marked c.mark.ensures.disk_faults c.mark.ensures.say_faults c.mark.ensures.time
-      c.execute.result c.execute.ensures.runs c.execute.ensures.keeps c.in-Err-Store.fault c.from.result c.undo-in-Err-Store.new.self c.forget-in-Err-Store.new.self (c.in-Err-Store.is ∙ ap Err c.in-Err-Store.field-0-is) c.from.ensures
+      c.execute.result c.execute.ensures.runs c.execute.ensures.keeps c.in-Err-Store.fault c.in-Err-Store.fault c.undo-in-Err-Store.new.self c.forget-in-Err-Store.new.self (c.in-Err-Store.is ∙ ap Err c.in-Err-Store.field-0-is) refl
       c.undo-in-Err-Store.ensures.undone c.undo-in-Err-Store.ensures.disk_faults c.undo-in-Err-Store.ensures.say_faults c.undo-in-Err-Store.ensures.time c.in-Err-Store.ensures.keeps.kept
       c.forget-in-Err-Store.ensures.catalog c.forget-in-Err-Store.ensures.shape c.forget-in-Err-Store.ensures.settings;
 }

@@ -22,7 +22,7 @@ returns-in_err-served g c =
     let new = record c.args.self.now { store = c.go_back.new.store; tables = c.go_back.new.tables } in
     record {
       executes = λ first comes. anew_stops g.S.Pages c.args.stmt.now first c.args.self.now comes c.requires.other c.requires.changing stop new call.reloads.steady refl {X = Bool} c.from_residual.result c.from_residual.ensures.1 call.reloads.shape call.reloads.settings
-          call.reloads.device call.reloads.output call.exact (λ damage e. call.reloads.unmarked) c.requires.going;
+          call.reloads.device call.exact (λ damage e. call.reloads.unmarked) c.requires.going;
       any = λ first comes going. anew_stops_any g.S.Pages c.args.stmt.now first c.args.self.now comes c.requires.other c.requires.changing stop new call.reloads.steady refl {X = Bool} c.from_residual.result c.from_residual.ensures.1
           (λ damage e. (call.reloads.work, call.reloads.unmarked)) call.exact going;
     }

@@ -12,7 +12,7 @@ use Rattle.page_store.specs.Standing.{FrontAgrees, pages_in}
 use Rattle.session.specs.script.Told.{TellsMore}
 use Rattle.session.proofs.ToldLemmas.{same-tells_more, told_behind}
 use Rattle.session.proofs.AnyFileRunsLemmas.{any_refused_on_file, any_run_opened, any_served_on_file, any_unopened, tells_still}
-use Rattle.session.proofs.CausesLemmas.{cause_of_opening, cause_of_session, not_device}
+use Rattle.session.proofs.CausesLemmas.{cause_of_opening, cause_of_script, not_device}
 use Rattle.session.proofs.FirstEndsLemmas.{takes_unopened}
 use Rattle.session.proofs.FileRunsLemmas.{refused_on_file, run_on_file, stays_well}
 use Rattle.session.proofs.FormedRunsLemmas.{formed_after, formed_on_file, formed_refused, rests_or_before}
@@ -61,8 +61,7 @@ returns-in-Ok-clause-cause g c = λ before is.
     let opened = c.in-Ok.ensures in
     let after = opened.opens.told before is in
     let tells = test_by_told (g.H.Disk.file c.args.host) before is in
-    let session = c.serve_store.ensures.takes in
-    cause_of_session before.bytes session.0 c.serve_store.result.end (opened.served before is).0 session.1 (λ damage ends well.
+    cause_of_script before.bytes c.serve_store.result.end (opened.served before is).0 c.serve_store.ensures.takes.0 (λ damage ends well.
     c.serve_store.ensures.damaged damage ends after.0 after.1 well.shape (states_standing before.bytes after.0.bytes (pages_in before.bytes) well.shape (after.2.1 well.formed) well.states)
     (sound_opened _ c.in-Ok.store before.bytes _ (g.H.Host.tape c.args.host) c.in-Ok.store.desk.shape (g.H.Disk.attaches c.args.host) well tells opened.just_opened (opened.served before is).1))
 
@@ -83,7 +82,7 @@ pub returns-in-Err-clause-runs : goal.returns-in-Err-clause-runs
 returns-in-Err-clause-runs g c = λ before said is told well.
     let stop = stop_of_well c.in-Err.field-0.fault c.stop_of_opening.result before.bytes (well_is_served before.bytes well) (c.in-Err.ensures.refused before is) c.stop_of_opening.ensures in
     refused_on_file g.H.Disk (record { stand = c.sound_pages_stand.ensures; lists = c.goes_on_lists.ensures }) before said (g.I.Source.left c.args.input.now) c.args.host c.in-Err.field-0.host
-    (MayComeFirst c.in-Err.field-0.fault) c.stop_of_opening.result stop.0 well stop.1 stop.2 (g.met.H.Disk.only_now c.args.host) is told c.in-Err.ensures.opens_or_leaves
+    (MayComeFirst c.in-Err.field-0.fault) c.stop_of_opening.result well stop (g.met.H.Disk.only_now c.args.host) is told c.in-Err.ensures.opens_or_leaves
 
 pub returns-in-Err-clause-told : goal.returns-in-Err-clause-told
 returns-in-Err-clause-told g c =
@@ -194,7 +193,7 @@ returns-in-Err-clause-runs_any g c = λ before said is told served.
     let refuses = c.in-Err.ensures.refused before is in
     let stop = stop_of_well fault c.stop_of_opening.result before.bytes served refuses c.stop_of_opening.ensures in
     any_refused_on_file g.H.Disk before said (g.I.Source.left c.args.input.now) c.args.host c.in-Err.field-0.host (MayComeFirst fault) fault c.stop_of_opening.result (served_formed before.bytes served) is told
-    stop.0 stop.1 stop.2 refuses c.stop_of_opening.ensures c.in-Err.ensures.opens_or_leaves
+    stop refuses c.stop_of_opening.ensures c.in-Err.ensures.opens_or_leaves
 
 -- ---- what becomes of the file beside its pages
 

@@ -2,15 +2,15 @@
 use Rattle.mdc_words.specs.Time.{OverTime}
 use Rattle.std.proofs.Common.{◌≡◌, Err, false, subst, sym, ◌∙◌}
 use Rattle.store_api.specs.Works.{Rests}
-use Rattle.session.proofs.StopsLemmas.{names_damage}
+use Rattle.session.proofs.StopsLemmas.{fault_of_script, names_damage}
 use Rattle.session.proofs.ToldLemmas.{same-tells_more}
 use Rattle.session.specs.script.Leaving.{ReopensAlways}
-use Rattle.session.specs.declared.script.stop.SessionStop.{SessionStop}
-use Rattle.session.specs.declared.script.stop.SessionStop.TheVariants as session
+use Rattle.session.specs.Stops.{IsOfScript}
+use Rattle.session.specs.declared.stop.Stop.{Stop}
+use Rattle.session.specs.declared.stop.Stop.TheVariants as why
 use Rattle.session.specs.file.Running.{RunsAnyOnStore, RunsOnStore}
 use Rattle.session.proofs.AnyStoreRunsLemmas.{any_served, any_stopped}
-use Rattle.session.proofs.EndOfSessionLemmas.{ends_by}
-use Rattle.session.proofs.StoreRunsLemmas.{reopens_opening, reopens_served, served_on_store, stopped_on_store, takes_stopped}
+use Rattle.session.proofs.StoreRunsLemmas.{ends_by, reopens_opening, reopens_served, served_on_store, stopped_on_store, takes_stopped}
 use Rattle.session.proofs.file.serving.serve_pages.Goals as goal
 
 pub returns-in-Ok-clause-runs : goal.returns-in-Ok-clause-runs
@@ -28,7 +28,7 @@ returns-in-Ok-clause-damaged g c = λ damage is sound. c.serve-end.ensures.damag
 pub returns-in-Err-clause-runs : goal.returns-in-Err-clause-runs
 returns-in-Err-clause-runs g c = λ sound.
     let script = g.I.Source.left c.args.input.now in
-    let Runs : SessionStop → Type 0 = λ stop. RunsOnStore g.S.Pages c.args.shape script script c.args.store c.in-Err.field-0.store (Err stop) in
+    let Runs : Stop → Type 0 = λ stop. RunsOnStore g.S.Pages c.args.shape script script c.args.store c.in-Err.field-0.store (Err stop) in
     subst Runs (sym c.from.ensures) (stopped_on_store g.S.Pages script c.in-Err.field-0.stop c.args.shape c.args.store c.in-Err.field-0.store sound c.in-Err.ensures.pages
     (λ damage is. c.in-Err.ensures.damaged damage is sound.told sound.sound))
 
@@ -48,7 +48,7 @@ returns-in-Err-clause-reopens g c = reopens_opening g.S.Pages c.args.store c.in-
 
 pub returns-in-Err-clause-damaged : goal.returns-in-Err-clause-damaged
 returns-in-Err-clause-damaged g c = λ damage is sound.
-    let named : c.from.result ≡ session.Damaged damage = cc in
+    let named : c.from.result ≡ why.Damaged damage = cc in
     c.in-Err.ensures.damaged damage (names_damage c.in-Err.field-0.stop damage (sym c.from.ensures ∙ named)) sound.told sound.sound
 
 -- ---- whatever the pages are
@@ -65,13 +65,13 @@ returns-in-Ok-clause-any g c = λ committed.
 pub returns-in-Err-clause-any : goal.returns-in-Err-clause-any
 returns-in-Err-clause-any g c = λ committed.
     let script = g.I.Source.left c.args.input.now in
-    let Runs : SessionStop → Type 0 = λ stop. RunsAnyOnStore g.S.Pages c.args.shape script script c.args.store c.in-Err.field-0.store (Err stop) in
+    let Runs : Stop → Type 0 = λ stop. RunsAnyOnStore g.S.Pages c.args.shape script script c.args.store c.in-Err.field-0.store (Err stop) in
     subst Runs (sym c.from.ensures) (any_stopped g.S.Pages script c.in-Err.field-0.stop c.args.shape c.args.store c.in-Err.field-0.store committed c.in-Err.ensures.pages c.in-Err.ensures.breaks)
 
 pub returns-in-Ok-clause-going : goal.returns-in-Ok-clause-going
 returns-in-Ok-clause-going g c = λ committed other.
     let Goes : g.row.S.Denot → Type 0 = λ s. (g.S.Pages.state s).ended ≡ false in
-    subst Goes (sym c.close.ensures) (c.serve-end.ensures.going (c.in-Ok.ensures.opened committed) (λ is. other (ends_by c.serve-end.result session.Device is)))
+    subst Goes (sym c.close.ensures) (c.serve-end.ensures.going (c.in-Ok.ensures.opened committed) (λ is. other (ends_by c.serve-end.result why.Device is)))
 
 pub returns-in-Err-clause-going : goal.returns-in-Err-clause-going
 returns-in-Err-clause-going g c = λ committed other. c.in-Err.ensures.ended ∙ c.requires.going
@@ -81,3 +81,6 @@ returns-in-Ok-clause-rests g c = λ rests. subst (Rests g.S.Pages) (sym c.close.
 
 pub returns-in-Err-clause-rests : goal.returns-in-Err-clause-rests
 returns-in-Err-clause-rests g c = c.in-Err.ensures.rests
+
+pub returns-in-Err-clause-stop : goal.returns-in-Err-clause-stop
+returns-in-Err-clause-stop g c = subst IsOfScript (sym c.from.ensures) (fault_of_script c.in-Err.field-0.stop)

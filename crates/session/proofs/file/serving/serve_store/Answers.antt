@@ -1,12 +1,12 @@
 -- What is said of the store, said of its host.
-use Rattle.std.proofs.Common.{◌≡◌, ◌++◌, ℕ, List, Option, Some, is_some, refl, subst, sym, ◌∙◌, ap}
+use Rattle.std.proofs.Common.{◌≡◌, ◌++◌, ℕ, List, Option, Some, Err, is_some, refl, subst, sym, ◌∙◌, ap}
+use Rattle.mdc_words.specs.Faults.{CountsFault}
 use Rattle.mdc_outside.specs.Disk.{File}
 use Rattle.session.proofs.ToldLemmas.{told_behind}
 use Rattle.page_store.specs.FileStore.{left_of}
 use Rattle.page_store.specs.Standing.{FrontAgrees}
 use Rattle.page_store.proofs.BesideLemmas.{beside_of-attaches, beside_of-shape}
 use Rattle.session.proofs.AnyHostRunsLemmas.{any_on_host, image_left}
-use Rattle.session.proofs.EndOfSessionLemmas.{end_counted, end_counted_as, stop_of_end}
 use Rattle.session.proofs.FormedRunsLemmas.{left_formed}
 use Rattle.session.proofs.GrowingLemmas.{front_grown, grew_by_run, grew_picked}
 use Rattle.session.proofs.HostRunsLemmas.{left_in_shape, run_on_host}
@@ -14,8 +14,7 @@ use Rattle.session.proofs.StoreRunsLemmas.{runs_along, sound_along}
 use Rattle.file_verdict.proofs.JudgingLemmas.{same_shape}
 use Rattle.file_verdict.proofs.ToldLemmas.{stays_by_test, told_by_test}
 use Rattle.session.specs.script.Told.{TellsMore}
-use Rattle.session.specs.declared.script.stop.SessionStop.TheVariants as session
-use Rattle.session.specs.file.Ending.{end_of_session}
+use Rattle.session.specs.declared.stop.Stop.TheVariants as why
 use Rattle.session.proofs.file.serving.serve_store.Given.{Over}
 use Rattle.session.proofs.file.serving.serve_store.Goals as goal
 
@@ -46,27 +45,25 @@ returns-clause-runs g c = λ file said is told shape states sound.
     let left_last = left_of last.desk.shape (g.H.Disk.file last.host) (g.H.Disk.beside last.host).tape (g.H.Disk.moment last.host) in
     let same_cap = ap (λ shape. shape.extents) (kept_shape g c) ∙ (sym (ap (λ parts. parts.0) c.shape-extents.ensures.parts) ∙ extents) in
     let same_size = ap (λ shape. shape.extent_pages) (kept_shape g c) ∙ (sym (ap (λ parts. parts.1) c.shape-extents.ensures.parts) ∙ extent_pages) in
-    run_on_host _ g.H.Disk (record { stand = c.sound_pages_stand.ensures; lists = c.goes_on_lists.ensures }) shape said script left c.args.store last c.close.result c.serve_pages-answered.result.end c.end_of.result
-    (runs_along _ c.in-Some.shape shape script left c.args.store last c.serve_pages-answered.result.end same runs) told (ap (λ host. (g.H.Disk.beside host).tape) c.close.ensures.same) c.end_of.ensures
+    run_on_host _ g.H.Disk (record { stand = c.sound_pages_stand.ensures; lists = c.goes_on_lists.ensures }) shape said script left c.args.store last c.close.result c.serve_pages-answered.result.end
+    (runs_along _ c.in-Some.shape shape script left c.args.store last c.serve_pages-answered.result.end same runs) told (ap (λ host. (g.H.Disk.beside host).tape) c.close.ensures.same) c.serve_pages-answered.ensures.stop
     (λ t image heard_then now. left_in_shape shape last.desk.shape now_told.0.bytes (left_last t) image heard_then same_cap same_size (c.close.ensures.left now_told.0 (said ++ runs.said) now_told.1 heard t image heard_then now))
 
 pub returns-clause-damaged : goal.returns-clause-damaged
 returns-clause-damaged g c = λ damage ends file is shape states sound.
     let stated = c.shape-extents.ensures.stated c.requires.going file is in
     let same = same_shape c.in-Some.shape shape (c.in-Some.ensures.0 ∙ (sym stated.0 ∙ states.extents)) (c.in-Some.ensures.1 ∙ (sym stated.1 ∙ states.extent_pages)) in
-    c.serve_pages-answered.ensures.damaged damage (stop_of_end c.serve_pages-answered.result.end (session.Damaged damage) (sym c.end_of.ensures ∙ ends))
-    (sound_along _ shape c.in-Some.shape c.args.store (sym same) sound)
-
-pub returns-clause-reads : goal.returns-clause-reads
-returns-clause-reads g c = end_counted session.Unread c.serve_pages-answered.result.end c.end_of.result _ _ c.end_of.ensures c.serve_pages-answered.ensures.reads
+    c.serve_pages-answered.ensures.damaged damage ends (sound_along _ shape c.in-Some.shape c.args.store (sym same) sound)
 
 pub returns-clause-unsaid : goal.returns-clause-unsaid
 returns-clause-unsaid g c =
-    end_counted_as session.Unsaid c.serve_pages-answered.result.end c.end_of.result _ _ _ c.end_of.ensures c.close.ensures.say_count c.serve_pages-answered.ensures.unsaid
+    let Counts : ℕ → Type 0 = λ n. CountsFault (c.serve_pages-answered.result.end ≡ Err why.Unsaid) (g.H.Host.say_faults c.args.store.host) n in
+    subst Counts (sym c.close.ensures.say_count) c.serve_pages-answered.ensures.unsaid
 
 pub returns-clause-device : goal.returns-clause-device
 returns-clause-device g c =
-    end_counted_as session.Device c.serve_pages-answered.result.end c.end_of.result _ _ _ c.end_of.ensures c.close.ensures.disk_count c.serve_pages-answered.ensures.device
+    let Counts : ℕ → Type 0 = λ n. CountsFault (c.serve_pages-answered.result.end ≡ Err why.Device) (g.H.Disk.disk_faults c.args.store.host) n in
+    subst Counts (sym c.close.ensures.disk_count) c.serve_pages-answered.ensures.device
 
 pub returns-clause-told : goal.returns-clause-told
 returns-clause-told g c =
@@ -103,9 +100,8 @@ returns-clause-any g c = λ committed rests.
     let last = c.serve_pages-answered.result.store in
     let answered = c.serve_pages-answered.ensures in
     let tells = answered.tells in
-    let ended = c.serve_pages-answered.result.end in
-    any_on_host _ g.H.Disk (g.H.Disk.file c.args.store.host) c.in-Some.shape (g.I.Source.left c.args.input.now) (g.I.Source.left c.serve_pages-answered.new.input) c.args.store last c.close.result ended c.end_of.result
-    (answered.any committed) refl (ap (λ host. (g.H.Disk.beside host).tape) c.close.ensures.same) c.end_of.ensures
+    any_on_host _ g.H.Disk (g.H.Disk.file c.args.store.host) c.in-Some.shape (g.I.Source.left c.args.input.now) (g.I.Source.left c.serve_pages-answered.new.input) c.args.store last c.close.result c.serve_pages-answered.result.end
+    (answered.any committed) refl (ap (λ host. (g.H.Disk.beside host).tape) c.close.ensures.same) answered.stop
     (λ file is given states.
     let stated = c.shape-extents.ensures.stated c.requires.going file is in
     same_shape c.in-Some.shape given (c.in-Some.ensures.0 ∙ (sym stated.0 ∙ states.extents)) (c.in-Some.ensures.1 ∙ (sym stated.1 ∙ states.extent_pages)))
@@ -123,4 +119,4 @@ returns-clause-any g c = λ committed rests.
 
 pub returns-clause-grew : goal.returns-clause-grew
 returns-clause-grew g c = λ committed.
-    grew_by_run g.O.Origin.first (g.H.Disk.file c.close.result) (λ other. c.serve_pages-answered.ensures.going committed (λ ends. other (c.end_of.ensures ∙ ap end_of_session ends))) c.close.ensures.grew
+    grew_by_run g.O.Origin.first (g.H.Disk.file c.close.result) (c.serve_pages-answered.ensures.going committed) c.close.ensures.grew

@@ -21,7 +21,6 @@ returns-in-Stmt g c =
             shape = call.shape;
             outside = record {
               device = call.device;
-              output = call.output;
               say_faults = call.say_faults;
               is_told = call.is_told;
               told = call.told;

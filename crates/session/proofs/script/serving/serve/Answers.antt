@@ -5,14 +5,14 @@ use Rattle.sql_reader.specs.Holding.{Holding}
 use Rattle.sql_reader.specs.Item.{item_of}
 use Rattle.mdc_words.proofs.TimeLemmas.{over_time_none, over_time_then}
 use Rattle.session.specs.script.Engines.{IsAnyEngine, IsSoundEngine}
-use Rattle.session.specs.script.Stops.{stop_of_reader}
+use Rattle.session.specs.Stops.{stop_of_reader}
 use Rattle.session.specs.script.TheWays.{on_any, on_sound}
-use Rattle.session.specs.declared.script.stop.SessionStop.TheVariants.{Damaged, Device, Memory, Unsaid}
+use Rattle.session.specs.declared.stop.Stop.TheVariants.{Damaged, Device, Memory, Unsaid}
 use Rattle.session.proofs.AskedEndsLemmas.{takes_asked_done, takes_asked_reading, takes_asked_turning, takes_unasked}
 use Rattle.session.proofs.AskingLemmas.{IsAsked, asked_next, given_first, given_next}
 use Rattle.session.proofs.HandedLemmas.{handed}
 use Rattle.session.proofs.ServingLemmas.{answered_first, answered_more, exit_done, exit_first, exit_reading, exit_turning}
-use Rattle.session.proofs.StopsLemmas.{reader_names_no_damage}
+use Rattle.session.proofs.StopsLemmas.{reader_names_no_damage, reader_of_script, turn_of_script}
 use Rattle.session.proofs.ToldLemmas.{same-tells_more, tells_more_then}
 use Rattle.session.proofs.WayLemmas.{any_way, sound_way}
 use Rattle.session.proofs.script.serving.serve.Given.{Over}
@@ -120,6 +120,9 @@ returns-in_err-statements-clause-rests g c = λ rests. rests
 pub returns-in_err-statements-clause-takes : goal.returns-in_err-statements-clause-takes
 returns-in_err-statements-clause-takes g c = rw (none_read g c) (takes_unasked (g.I.Source.left c.args.input.now))
 
+pub returns-in_err-statements-clause-stop : goal.returns-in_err-statements-clause-stop
+returns-in_err-statements-clause-stop g c = rw (none_read g c) tt
+
 -- ---- the reader stops
 
 pub returns-in_err-read-clause-runs : goal.returns-in_err-read-clause-runs
@@ -151,6 +154,9 @@ returns-in_err-read-clause-reopens g c = c.loop-reply.invariant.reopens
 pub returns-in_err-read-clause-damaged : goal.returns-in_err-read-clause-damaged
 returns-in_err-read-clause-damaged g c damage e ready =
     reader_names_no_damage c.in_err-read.field-0.0 damage (cc (read_stopped g c))
+
+pub returns-in_err-read-clause-stop : goal.returns-in_err-read-clause-stop
+returns-in_err-read-clause-stop g c = rw (read_stopped g c) (reader_of_script c.in_err-read.field-0.0)
 
 -- ---- the turn of an item stops
 
@@ -200,6 +206,9 @@ pub returns-in_err-refused-clause-damaged : goal.returns-in_err-refused-clause-d
 returns-in_err-refused-clause-damaged g c damage e ready =
     let named : c.in_err-refused.field-0.0 ≡ Damaged damage = cc (turn_stopped g c) in
     c.in_err-refused.ensures.turns.damaged damage (ap Err named) (c.loop-reply.invariant.answered ready).ready.ready
+
+pub returns-in_err-refused-clause-stop : goal.returns-in_err-refused-clause-stop
+returns-in_err-refused-clause-stop g c = rw (turn_stopped g c) (turn_of_script c.in_err-refused.field-0.0 c.in_err-refused.ensures.turns.stop)
 
 -- ---- the script ends
 
