@@ -1,0 +1,2 @@
+pub mod DerivedSpansLemmas
+pub mod MadeNumbersLemmas
