@@ -1,6 +1,6 @@
 -- The changes of space of a row that moves, and when a row that is inserted or moves runs full.
 use Rattle.std.proofs.Common.{List, [], ◌∷◌, ◌++◌, refl, arith}
-use Rattle.std.specs.Prelude.{IfOk, OnOk, Result, Ok, Err, slice_index_or}
+use Rattle.std.specs.Prelude.{IfOk, Result, Ok, Err, slice_index_or}
 use Rattle.mdc_words.specs.ByteOrder.{Entry}
 use Rattle.mdc_values.specs.declared.rid.Rid.{Rid}
 use Rattle.mdc_ast.specs.declared.definition.TableDef.{TableDef}
@@ -24,11 +24,6 @@ use Rattle.row_entries.specs.SoundEntries.{placed_at}
 use Rattle.cell_change.specs.ExpectedTables.{PutRunsFull}
 use Rattle.cell_change.specs.RowChanges.{DeletesRow, InsertsRow, MakesOneChange, TurnsRowBy}
 use Rattle.cell_change.proofs.ChangedRowLemmas.{same_claims}
-
--- what three facts say together where there is a value
-pub on_ok_each : {X E P Q R All : Type 0} (result : Result X E) → (P → Q → R → All) → OnOk result P → OnOk result Q → OnOk result R → OnOk result All
-on_ok_each (Ok x) all p q r = all p q r
-on_ok_each (Err fault) all p q r = tt
 
 -- what two facts say together of a value that there is
 pub if_ok_both : {X E : Type 0} (result : Result X E) (P Q R : X → Type 0) → ((x : X) → P x → Q x → R x) → IfOk result P → IfOk result Q → IfOk result R

@@ -36,6 +36,7 @@ use Rattle.row_entries.proofs.StandingRowsLemmas.{has_entries}
 use Rattle.table_blocks.specs.BlockSteps.{HasThisRow}
 use Rattle.free_space.specs.RoomNotes.{no_note}
 use Rattle.mdc_table.specs.AnyPlace.{TakesOutAnywhere}
+use Rattle.mdc_table.specs.RowSteps.{TakesRowFromTable}
 use Rattle.mdc_table.proofs.KeptBlocksLemmas.{keeps_in_trees}
 use Rattle.mdc_table.proofs.KeptRoomsLemmas.{rooms_forgotten}
 use Rattle.cell_change.specs.ExpectedTables.{WithSoundIndexes}
@@ -118,21 +119,18 @@ module _ {S : Type 0} (g : Ghosts S) (shape : Shape) {before mid : SpaceNotes} (
   pub left_stays : {new : S} {May : ℕ → Type 0} → KeepsBlocksBut g shape middle new def leaves.owners_now May → KeepsBlocksBut g shape old new def owners May
   left_stays stay = keeps_as (keeps_then leaves.table.changes no_block leaves.table.blocks stay) (λ block may. elim may [ inl wrong ↦ absurd wrong | inr is ↦ is ])
 
-  module _ {noted : SpaceNotes} {room_of room_now : Entry → RoomNote} (new : S)
-      (takes : (owners_mid : List Kind) (trees : TableForests) → IsReadyTable g shape mid room_of middle def owners_mid trees → HasThisRow g shape middle def rid row owners_mid trees
-      → TakesRowOut g shape mid noted room_now middle new def owners_mid trees row rid) where
+  module _ {noted : SpaceNotes} {room_of room_now : Entry → RoomNote} (new : S) (taken : TakesRowFromTable g shape mid noted room_of room_now middle new def row rid leaves.owners_now forests_mid) where
     -- where the notes of the rooms were right they are, whatever is taken out
-    right_rooms : HasThisRow g shape old def rid row owners forests → (owners_now : List Kind) (forests_now : TableForests) → StandsTable g shape new def owners_now forests_now
+    right_rooms : (owners_now : List Kind) (forests_now : TableForests) → StandsTable g shape new def owners_now forests_now
         → IsReadyTable g shape before room_of old def owners forests → AreRightRooms def room_now (spots_of g shape new def owners_now forests_now)
-    right_rooms has owners_now forests_now now ready =
-        let out = takes leaves.owners_now forests_mid (ready_left ready) (this_left has) in
+    right_rooms owners_now forests_now now ready =
+        let out = taken.takes (ready_left ready) in
         expected_there g shape new def out.owners_now owners_now out.forests_now forests_now out.changes.stands now (λ owners forests. AreRightRooms def room_now (spots_of g shape new def owners forests)) out.rooms
 
-    pub deletes : HasThisRow g shape old def rid row owners forests → TakesOutAnywhere g shape mid noted middle new def leaves.owners_now forests_mid row rid
-        → MakesChanges shape (pages_of g old) (removed_entries (row_listings def row rid)) (pages_of g middle)
-        → ((slots : List (Option Row)) → IsRowAt spots_mid rid row slots → MakesChanges shape (pages_of g middle) (left_changes def row rid.block (count_rows slots)) (pages_of g new))
+    pub deletes : MakesChanges shape (pages_of g old) (removed_entries (row_listings def row rid)) (pages_of g middle)
         → length (pages_of g old) ≤ length (pages_of g middle) → length (pages_of g middle) ≤ length (pages_of g new) → DeletesRow g shape before noted room_of room_now old new def row rid owners forests
-    deletes has out left made longer still_longer =
+    deletes left longer still_longer =
+        let out = taken.leaves in
         let first = takes_before spots_old spots_mid out.mid rid row leaves.returns out.takes in
         let without = spots_without spots_old rid out.takes.slots in
         let spots_new = spots_of g shape new def out.owners_now out.forests_now in
@@ -142,14 +140,14 @@ module _ {S : Type 0} (g : Ghosts S) (shape : Shape) {before mid : SpaceNotes} (
           forests_now = out.forests_now;
           changes = changes_table_then g shape old middle def owners forests leaves.owners_now forests_mid leaves.table.changes new out.owners_now out.forests_now out.changes no_block longer still_longer;
           entries = subst (λ (after : List Forest). MoveChosen LosesEntry (entry_of def row rid) (all_chosen def) def.indexes forests.indexes after) (sym out.records) leaves.lose;
-          rooms = right_rooms has out.owners_now out.forests_now out.changes.stands;
+          rooms = right_rooms out.owners_now out.forests_now out.changes.stands;
           mid = without;
           takes = first;
           returns = returns_then without out.mid spots_new (returned_behind spots_old spots_mid out.mid rid row leaves.returns out.takes) out.returns;
           rows = subst (λ (were : List PlacedRow). IsPermutation (placed_at rid row ∷ now) were) leaves.table.rows
               (rows_after_taking g shape no_notes middle new def leaves.owners_now forests_mid leaves.table.changes.stands row rid (noted_nowhere g shape middle new def leaves.owners_now forests_mid row rid out));
           makes = λ slots lies.
-              changes_then shape (pages_of g old) (pages_of g middle) (pages_of g new) (removed_entries (row_listings def row rid)) (left_changes def row rid.block (count_rows slots)) left (made slots (row_left slots lies));
+              changes_then shape (pages_of g old) (pages_of g middle) (pages_of g new) (removed_entries (row_listings def row rid)) (left_changes def row rid.block (count_rows slots)) left (taken.makes slots (row_left slots lies));
         }
 
 -- ---- where it couldn't leave the record indexes

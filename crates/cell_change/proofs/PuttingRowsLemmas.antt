@@ -23,13 +23,14 @@ use Rattle.table_trees.proofs.SpaceChainsLemmas.{changes_then, full_before, full
 use Rattle.mdc_sound.specs.Placing.{Spot}
 use Rattle.mdc_sound.specs.Placing.Spot.{OtherBlock}
 use Rattle.mdc_sound.specs.RunningFull.{RowRunsFull, block_changes, row_listings}
-use Rattle.mdc_sound.specs.StandingTable.{BreaksExpected, BreaksTable, IsTableSpace, IsTreeSpaceOfTable, KeepsBlocksBut, PlacesRow, RoomNote, StandsTable, TableForests, pages_of, spots_of}
+use Rattle.mdc_sound.specs.StandingTable.{BreaksExpected, BreaksTable, IsReadyTable, IsTableSpace, IsTreeSpaceOfTable, KeepsBlocksBut, PlacesRow, RoomNote, TableForests, pages_of, spots_of}
 use Rattle.mdc_sound.specs.TableRows.{PlacedRow}
 use Rattle.mdc_sound.proofs.ChangedRowsLemmas.{rows_after_placing}
 use Rattle.row_entries.specs.ChosenIndexes.{HasRecordKeys, MoveChosen, all_chosen, entry_of}
 use Rattle.row_entries.specs.RowEntries.{EntersRow, LacksRowEntries, with_indexes}
 use Rattle.row_entries.specs.SoundEntries.{placed_at}
-use Rattle.mdc_table.specs.AnyPlace.{PlacesAnywhere}
+use Rattle.mdc_table.specs.RowSteps.{PlacesRowInTable}
+use Rattle.mdc_table.specs.WhereStanding.{WhereStands}
 use Rattle.cell_change.specs.ExpectedTables.{HasSoundIndexes, PutRunsFull}
 use Rattle.cell_change.specs.RowChanges.{InsertsRow, rows_now}
 use Rattle.cell_change.proofs.KeptOthersLemmas.{keeps_as, keeps_then}
@@ -37,8 +38,11 @@ use Rattle.cell_change.proofs.BarePlacesLemmas.{lacks_anywhere}
 use Rattle.cell_change.proofs.SpotStepsLemmas.{claims_leave, claims_then, rooms_on}
 use Rattle.cell_change.proofs.TableStepsLemmas.{changes_table_then, puts_no_block, space_before, tree_space}
 
-module _ {S : Type 0} (g : Ghosts S) (shape : Shape) {before mid : SpaceNotes} {room_of : Entry → RoomNote} (old middle : S) (def : TableDef) (row : Row) (rid : Rid) (owners : List Kind) (forests : TableForests)
-    (st : StandsTable g shape old def owners forests) (defined : IsTableDef def.number def) (places : PlacesRow g shape before mid room_of old middle def owners forests row rid) where
+module _ {S : Type 0} (g : Ghosts S) (shape : Shape) {before mid : SpaceNotes} {room_of room_now : Entry → RoomNote} (old middle : S) (def : TableDef) (row : Row) (rid : Rid) (owners : List Kind) (forests : TableForests)
+    (ready : IsReadyTable g shape before room_of old def owners forests) (placed : PlacesRowInTable g shape before mid room_of room_now old middle def row rid owners forests) where
+  abbrev places : PlacesRow g shape before mid room_now old middle def owners forests row rid
+  places = placed.places ready
+
   abbrev spots_old : List Spot
   spots_old = spots_of g shape old def owners forests
 
@@ -49,22 +53,25 @@ module _ {S : Type 0} (g : Ghosts S) (shape : Shape) {before mid : SpaceNotes} {
   abbrev placing : List SpaceChange
   placing = block_changes def row rid.block (slice_index_or spots_old rid.block OtherBlock)
 
-  no_block : (e : ℕ) → table_of_block (owner_of places.owners_now e) ≡ None → table_of_block (owner_of owners e) ≡ None
-  no_block = puts_no_block g shape old middle def owners forests st places.owners_now places.forests_now places.mid row rid places.puts places.claims
-
-  rows_placed : IsPermutation (placed_at rid row ∷ rows_now g shape old def forests) (rows_now g shape middle def places.forests_now)
-  rows_placed = rows_after_placing g shape room_of old middle def owners forests st def.number row rid defined places
+  -- it can't be entered there
+  pub entering_full : RunsFull shape (pages_of g middle) (added_entries (row_listings def row rid)) → PutRunsFull shape (pages_of g old) def spots_old row
+  entering_full full = PutRunsFull.placed rid places.mid places.puts (full_then shape (pages_of g old) (pages_of g middle) placing (added_entries (row_listings def row rid)) (placed.makes ready) full)
 
   -- ---- both together
 
-  module _ {noted : SpaceNotes} (new : S) (enters : EntersRow g shape mid noted middle new def row rid places.owners_now places.forests_now) where
-    put_stays : KeepsBlocksBut g shape old middle def owners (λ block. block ≡ rid.block) → KeepsBlocksBut g shape old new def owners (λ block. block ≡ rid.block)
-    put_stays stay = keeps_as (keeps_then places.changes no_block stay enters.table.blocks) (λ block may. elim may [ inl same ↦ same | inr wrong ↦ absurd wrong ])
+  no_block : (e : ℕ) → table_of_block (owner_of places.owners_now e) ≡ None → table_of_block (owner_of owners e) ≡ None
+  no_block = puts_no_block g shape old middle def owners forests ready.stands places.owners_now places.forests_now places.mid row rid places.puts places.claims
 
-    pub inserts : length (pages_of g old) ≤ length (pages_of g middle) → length (pages_of g middle) ≤ length (pages_of g new) → MakesChanges shape (pages_of g old) placing (pages_of g middle)
-        → MakesChanges shape (pages_of g middle) (added_entries (row_listings def row rid)) (pages_of g new) → KeepsBlocksBut g shape old middle def owners (λ block. block ≡ rid.block)
-        → InsertsRow g shape before noted room_of old new def row rid owners forests
-    inserts longer still_longer placed entered stay =
+  rows_placed : IsTableDef def.number def → IsPermutation (placed_at rid row ∷ rows_now g shape old def forests) (rows_now g shape middle def places.forests_now)
+  rows_placed defined = rows_after_placing g shape room_now old middle def owners forests ready.stands def.number row rid defined places
+
+  module _ {noted : SpaceNotes} (new : S) (enters : EntersRow g shape mid noted middle new def row rid places.owners_now places.forests_now) where
+    put_stays : KeepsBlocksBut g shape old new def owners (λ block. block ≡ rid.block)
+    put_stays = keeps_as (keeps_then places.changes no_block placed.stay enters.table.blocks) (λ block may. elim may [ inl same ↦ same | inr wrong ↦ absurd wrong ])
+
+    pub inserts : IsTableDef def.number def → length (pages_of g old) ≤ length (pages_of g middle) → length (pages_of g middle) ≤ length (pages_of g new)
+        → MakesChanges shape (pages_of g middle) (added_entries (row_listings def row rid)) (pages_of g new) → InsertsRow g shape before noted room_now old new def row rid owners forests
+    inserts defined longer still_longer entered =
         let forests_now = with_indexes places.forests_now enters.indexes_now in
         let spots_new = spots_of g shape new def enters.owners_now forests_now in
         record {
@@ -72,31 +79,20 @@ module _ {S : Type 0} (g : Ghosts S) (shape : Shape) {before mid : SpaceNotes} {
           forests_now = forests_now;
           changes = changes_table_then g shape old middle def owners forests places.owners_now places.forests_now places.changes new enters.owners_now forests_now enters.table.changes no_block longer still_longer;
           entries = subst (λ (trees : List Forest). MoveChosen GainsEntry (entry_of def row rid) (all_chosen def) def.indexes trees enters.indexes_now) places.records enters.gain;
-          rooms = rooms_on claims_leave spots_mid spots_new enters.claims def room_of places.rooms;
+          rooms = rooms_on claims_leave spots_mid spots_new enters.claims def room_now places.rooms;
           mid = places.mid;
           puts = places.puts;
           claims = claims_then places.mid spots_mid spots_new places.claims enters.claims;
-          rows = subst (λ (now : List PlacedRow). IsPermutation (placed_at rid row ∷ rows_now g shape old def forests) now) (sym enters.table.rows) rows_placed;
-          makes = changes_then shape (pages_of g old) (pages_of g middle) (pages_of g new) placing (added_entries (row_listings def row rid)) placed entered;
-          blocks = put_stays stay;
+          rows = subst (λ (now : List PlacedRow). IsPermutation (placed_at rid row ∷ rows_now g shape old def forests) now) (sym enters.table.rows) (rows_placed defined);
+          makes = changes_then shape (pages_of g old) (pages_of g middle) (pages_of g new) placing (added_entries (row_listings def row rid)) (placed.makes ready) entered;
+          blocks = put_stays;
         }
-
--- ---- it runs full
 
 -- where it can't be placed
 pub placing_full : (shape : Shape) (pages : List (List ℕ)) (def : TableDef) (spots : List Spot) (row : Row) → RowRunsFull shape pages def spots row → PutRunsFull shape pages def spots row
 placing_full shape pages def spots row (RowRunsFull.placed rid mid puts full) =
     PutRunsFull.placed rid mid puts (full_before shape pages (block_changes def row rid.block (slice_index_or spots rid.block OtherBlock)) (added_entries (row_listings def row rid)) full)
 placing_full shape pages def spots row (RowRunsFull.stuck no_spot full) = PutRunsFull.stuck no_spot full
-
--- where it is placed and can't be entered
-pub entering_full : {S : Type 0} (g : Ghosts S) (shape : Shape) {before mid : SpaceNotes} {room_of : Entry → RoomNote} (old middle : S) (def : TableDef) (row : Row) (rid : Rid) (owners : List Kind) (forests : TableForests)
-    → PlacesRow g shape before mid room_of old middle def owners forests row rid
-    → MakesChanges shape (pages_of g old) (block_changes def row rid.block (slice_index_or (spots_of g shape old def owners forests) rid.block OtherBlock)) (pages_of g middle)
-    → RunsFull shape (pages_of g middle) (added_entries (row_listings def row rid)) → PutRunsFull shape (pages_of g old) def (spots_of g shape old def owners forests) row
-entering_full g shape old middle def row rid owners forests places makes full =
-    PutRunsFull.placed rid places.mid places.puts
-    (full_then shape (pages_of g old) (pages_of g middle) (block_changes def row rid.block (slice_index_or (spots_of g shape old def owners forests) rid.block OtherBlock)) (added_entries (row_listings def row rid)) makes full)
 
 -- ---- runs
 
@@ -108,8 +104,8 @@ module _ {S : Type 0} (g : Ghosts S) (shape : Shape) (old : S) (def : TableDef) 
       runs_wider run (λ p low mine. mine) (λ p mine. mine) (λ damage is. record { names = is.names; broken = λ owners forests st more. is.broken owners forests st })
 
   -- a row is placed, whatever the notes say, and then it is entered
-  module _ {before mid : SpaceNotes} (middle : S) (row : Row) (rid : Rid) (defined : IsTableDef def.number def) (keys : HasRecordKeys def row.values)
-      (places : (owners : List Kind) (forests : TableForests) → StandsTable g shape old def owners forests → PlacesAnywhere g shape before mid old middle def owners forests row rid) where
+  module _ {before mid : SpaceNotes} {room_of room_now : Entry → RoomNote} (middle : S) (row : Row) (rid : Rid) (defined : IsTableDef def.number def) (keys : HasRecordKeys def row.values)
+      (placed : WhereStands g shape old def (PlacesRowInTable g shape before mid room_of room_now old middle def row rid)) where
     pub runs_entered : {new : S} {fault : Option StoreFault} → RunsOverPages g (IsTableSpace g shape old def) (IsTableSpace g shape old def) (BreaksTable g shape old def) old middle None
         → RunsOverPages g (IsTreeSpaceOfTable g shape middle def) (IsTreeSpaceOfTable g shape middle def) (BreaksExpected g shape middle def (LacksRowEntries def row rid)) middle new fault
         → RunsOverPages g (IsTableSpace g shape old def) (IsTableSpace g shape old def) (BreaksExpected g shape old def (HasSoundIndexes g shape old def)) old new fault
@@ -117,13 +113,13 @@ module _ {S : Type 0} (g : Ghosts S) (shape : Shape) (old : S) (def : TableDef) 
       where
         late : (p : ℕ) → IsTreeSpaceOfTable g shape middle def p → IsTableSpace g shape old def p
         late p mine owners forests st =
-            let any = places owners forests st in
+            let any = (placed owners forests st).anywhere in
             space_before g shape old middle def owners forests any.owners_now any.forests_now any.changes p (tree_space shape def any.owners_now any.forests_now p (mine any.owners_now any.forests_now any.changes.stands))
 
         breaks : (damage : Damage) → BreaksExpected g shape middle def (LacksRowEntries def row rid) damage → BreaksExpected g shape old def (HasSoundIndexes g shape old def) damage
         breaks damage is = record {
           names = is.names;
           broken = λ owners forests st sound.
-              let any = places owners forests st in
+              let any = (placed owners forests st).anywhere in
               is.broken any.owners_now any.forests_now any.changes.stands (lacks_anywhere g shape old def row rid owners forests st defined keys any.mid any.puts sound any.owners_now any.forests_now any.records);
         }

@@ -20,32 +20,16 @@ use Rattle.mdc_sound.specs.Placing.{ChangesRow, IsRowAt, PutsRow, Spot, SpotsAft
 use Rattle.mdc_sound.specs.Placing.Spot.{OtherBlock}
 use Rattle.mdc_sound.specs.RunningFull.{differing_indexes, listings_in, putting_changes, taking_changes}
 use Rattle.mdc_sound.specs.SoundDatabase.{IsSoundBetweenChanges, with_table_page}
-use Rattle.mdc_sound.specs.StandingTable.{AreRightRooms, ChangesTable, IsReadyTable, KeepsBlocksBut, RoomNote, StandsTable, TableForests, pages_of, spots_of}
+use Rattle.mdc_sound.specs.StandingTable.{AreRightRooms, ChangesTable, IsReadyTable, KeepsBlocksBut, RoomNote, TableForests, pages_of, spots_of}
 use Rattle.mdc_sound.specs.StandsForDatabase.{PagesStandFor, with_row, without_row}
 use Rattle.mdc_sound.specs.TableRows.{PlacedRow, rows_in_table}
 use Rattle.row_entries.specs.ChosenIndexes.{MoveChosen, all_chosen, differing_chosen, entry_of}
-use Rattle.table_blocks.specs.BlockSteps.{HasThisRow}
 pub use Rattle.row_entries.specs.SoundEntries.{placed_at}
+pub use Rattle.mdc_table.specs.WhereStanding.{WhereReady, WhereReadyWithRow, WhereStandsWithRow}
 
 -- the rows of a table as a store has them now
 abbrev pub rows_now : {S : Type 0} → Ghosts S → Shape → S → TableDef → TableForests → List PlacedRow
 rows_now g shape s def forests = rows_in_table shape (pages_of g s) def forests.map
-
--- ---- what is so of a table
-
--- this is so of the table wherever it is ready, with these notes of free space and of the rooms
-abbrev pub WhereReady : {S : Type 0} → Ghosts S → Shape → SpaceNotes → (Entry → RoomNote) → S → TableDef → (List Kind → TableForests → Type 0) → Type 0
-WhereReady g shape noted room_of s def Is = (owners : List Kind) (forests : TableForests) → IsReadyTable g shape noted room_of s def owners forests → Is owners forests
-
--- wherever it is ready, and this row lies in its place
-abbrev pub WhereReadyWithRow : {S : Type 0} → Ghosts S → Shape → SpaceNotes → (Entry → RoomNote) → S → TableDef → Rid → Row → (List Kind → TableForests → Type 0) → Type 0
-WhereReadyWithRow g shape noted room_of s def rid row Is =
-    (owners : List Kind) (forests : TableForests) → IsReadyTable g shape noted room_of s def owners forests → HasThisRow g shape s def rid row owners forests → Is owners forests
-
--- wherever it stands, whatever is noted, and this row lies in its place
-abbrev pub WhereStandsWithRow : {S : Type 0} → Ghosts S → Shape → S → TableDef → Rid → Row → (List Kind → TableForests → Type 0) → Type 0
-WhereStandsWithRow g shape s def rid row Is =
-    (owners : List Kind) (forests : TableForests) → StandsTable g shape s def owners forests → HasThisRow g shape s def rid row owners forests → Is owners forests
 
 -- ---- the database
 

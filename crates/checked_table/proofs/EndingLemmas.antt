@@ -30,8 +30,9 @@ use Rattle.table_blocks.specs.BlockSteps.{HasThisRow}
 use Rattle.free_space.specs.RoomNotes.{IsForgotten}
 use Rattle.free_space.specs.declared.rooms.Rooms.{Rooms}
 use Rattle.mdc_table.specs.TableReading.{HasUsedBlock}
+use Rattle.mdc_table.specs.WhereStanding.{WhereStands}
 use Rattle.cell_change.specs.ExpectedTables.{HasSoundIndexes, WithSoundIndexes}
-use Rattle.checked_table.specs.ExactDamage.{AnswersExactly, CountsAnswer, HasRowIfStanding, HasUsedIfStanding, IfStanding, JudgesFault}
+use Rattle.checked_table.specs.ExactDamage.{AnswersExactly, CountsAnswer, HasRowIfStanding, HasUsedIfStanding, JudgesFault}
 use Rattle.checked_table.specs.LeftPages.{LeavesPages, ReadsExactly}
 use Rattle.checked_table.specs.WholeChanges.{BeginsChange, ForgetsNotes, HasSamePages, IsWholeChange, UndoesChange}
 use Rattle.checked_table.proofs.ExactDamageLemmas.{answers_exactly, answers_none, full_handed_on}
@@ -139,7 +140,7 @@ module _ {S : Type 0} {g : Ghosts S} {Mine : ℕ → Type 0} {old marked mid new
   pub end_expected_change : {shape : Shape} {def : TableDef} (Expected Marked : List Kind → TableForests → Type 0) {met : Option StoreFault} → ((owners : List Kind) (forests : TableForests) → Expected owners forests → Marked owners forests)
       → BeginsChange g old marked → RunsOverPages g Mine Mine (BreaksExpected g shape marked def (WithSoundIndexes g shape marked def Marked)) marked mid met → UndoesChange g mid new
       → CountsAnswer g mid new met answered → ForgetsNotes noted rooms → JudgesFault g shape def new met answered → IsTableDef def.number def → def.number < 16
-      → GoesBack g (IfStanding g shape old def Expected → AnswersExactly g shape def old answered) noted rooms old new answered
+      → GoesBack g (WhereStands g shape old def Expected → AnswersExactly g shape def old answered) noted rooms old new answered
   end_expected_change {shape} {def} Expected Marked {met} there begins runs undoes counts forgets judges defined low =
       went_back begins runs undoes forgets (counts (g.disk_faults old) (counts_fault_then begins.disk_faults runs.cause.device))
       (λ pages is_so. answers_exactly g shape old new def met answered defined low pages

@@ -21,11 +21,12 @@ use Rattle.table_trees.specs.ToldPages.{PageList}
 use Rattle.table_trees.specs.TreesBeside.{GrowsPages}
 use Rattle.mdc_sound.specs.Placing.{ChangesRow, IsRowAt, PutsRow, SpotsAfterClaims, SpotsAfterReturns, TakesRow, block_slot_count, table_spots}
 use Rattle.mdc_sound.specs.Placing.Spot.{OtherBlock}
-use Rattle.mdc_sound.specs.RunningFull.{putting_changes, taking_changes}
+use Rattle.mdc_sound.specs.RunningFull.{block_changes, left_changes, putting_changes, taking_changes}
 use Rattle.mdc_sound.specs.StandingTable.{AreRightRooms, ChangesTable, IsReadyTable, KeepsBlocksBut, PlacesRow, RoomNote, StandsTable, TableForests, TakesRowOut}
 use Rattle.mdc_sound.specs.TableRows.{rows_in_table}
 use Rattle.mdc_sound.proofs.StandingTableLemmas.{stands_same}
-use Rattle.mdc_table.specs.AnyPlace.{TakesOutAnywhere}
+use Rattle.mdc_table.specs.AnyPlace.{PlacesAnywhere, PutsAnywhere, TakesOutAnywhere}
+use Rattle.mdc_table.specs.RowSteps.{PlacesRowInTable, TakesRowFromTable}
 use Rattle.mdc_table.proofs.PlacingRowsLemmas.{changes_along}
 use Rattle.cell_change.specs.RowChanges.{ChangesDatabase, ChangesInDatabase, ChangesOneRow, DeletesFromDatabase, DeletesRow, InsertsIntoDatabase, InsertsRow, TurnsRowBy, placed_at}
 use Rattle.checked_table.specs.WholeChanges.{HasSamePages}
@@ -34,7 +35,7 @@ module _ {S : Type 0} {g : Ghosts S} {old new : S} where
   pub pages_back : HasSamePages g old new → HasSamePages g new old
   pages_back pages = record { told = sym pages.told; same = sym pages.same }
 
-  pub lies_there : {rid : Rid} {row : Row} {slots : List (Option Row)} (shape : Shape) (def : TableDef) (owners : List Kind) (forests : TableForests) → HasSamePages g old new → IsRowAt (table_spots shape (g.state old).work def owners forests.map) rid row slots
+  lies_there : {rid : Rid} {row : Row} {slots : List (Option Row)} (shape : Shape) (def : TableDef) (owners : List Kind) (forests : TableForests) → HasSamePages g old new → IsRowAt (table_spots shape (g.state old).work def owners forests.map) rid row slots
       → IsRowAt (table_spots shape (g.state new).work def owners forests.map) rid row slots
   lies_there {rid} {row} {slots} shape def owners forests pages lies = subst (λ (work : PageList). IsRowAt (table_spots shape work def owners forests.map) rid row slots) (sym pages.same) lies
 
@@ -69,7 +70,7 @@ module _ {S : Type 0} {g : Ghosts S} {old new : S} where
 
 module _ {S : Type 0} {g : Ghosts S} {old marked mid new : S} (first : HasSamePages g old marked) (last : HasSamePages g mid new) where
   -- what is said of the pages before and after
-  pub said_between : (P : PageList → PageList → Type 0) → P (g.state marked).work (g.state mid).work → P (g.state old).work (g.state new).work
+  said_between : (P : PageList → PageList → Type 0) → P (g.state marked).work (g.state mid).work → P (g.state old).work (g.state new).work
   said_between P is = subst (λ (work : PageList). P (g.state old).work work) (sym last.same) (subst (λ (work : PageList). P work (g.state mid).work) first.same is)
 
   grows_between : {shape : Shape} → GrowsPages g shape old mid → GrowsPages g shape old new
@@ -112,8 +113,20 @@ module _ {S : Type 0} {g : Ghosts S} {old marked mid new : S} (first : HasSamePa
       → AreRightRooms def rooms (table_spots shape (g.state new).work def owners forests.map)
   rooms_kept shape def rooms owners forests right = said_between (λ was is. AreRightRooms def rooms (table_spots shape is def owners forests.map)) right
 
-  -- a row that was taken out, whatever the notes say
-  pub out_between : {shape : Shape} {before noted : SpaceNotes} {def : TableDef} {row : Row} {rid : Rid} {owners : List Kind} {forests : TableForests} → TakesOutAnywhere g shape before noted marked mid def owners forests row rid
+  -- a row that was put, and one that was taken out, whatever the notes say
+  anywhere_between : {shape : Shape} {before noted : SpaceNotes} {def : TableDef} {row : Row} {rid : Rid} {owners : List Kind} {forests : TableForests} → PlacesAnywhere g shape before noted marked mid def owners forests row rid
+      → PlacesAnywhere g shape before noted old new def owners forests row rid
+  anywhere_between {shape} {def = def} {row = row} {rid = rid} {owners = owners} {forests = forests} made = record {
+    owners_now = made.owners_now;
+    forests_now = made.forests_now;
+    changes = changes_between made.changes;
+    records = made.records;
+    mid = made.mid;
+    puts = said_between (λ was is. PutsAnywhere def (block_slot_count shape def) (table_spots shape was def owners forests.map) row made.mid rid) made.puts;
+    claims = said_between (λ was is. SpotsAfterClaims made.mid (table_spots shape is def made.owners_now made.forests_now.map)) made.claims;
+  }
+
+  out_between : {shape : Shape} {before noted : SpaceNotes} {def : TableDef} {row : Row} {rid : Rid} {owners : List Kind} {forests : TableForests} → TakesOutAnywhere g shape before noted marked mid def owners forests row rid
       → TakesOutAnywhere g shape before noted old new def owners forests row rid
   out_between {shape} {def = def} {row = row} {rid = rid} {owners = owners} {forests = forests} made = record {
     owners_now = made.owners_now;
@@ -125,8 +138,9 @@ module _ {S : Type 0} {g : Ghosts S} {old marked mid new : S} (first : HasSamePa
     returns = said_between (λ was is. SpotsAfterReturns made.mid (table_spots shape is def made.owners_now made.forests_now.map)) made.returns;
   }
 
+  -- the same by right notes
   module _ {shape : Shape} {before noted : SpaceNotes} {rooms : Entry → RoomNote} {def : TableDef} {row : Row} {rid : Rid} {owners : List Kind} {forests : TableForests} where
-    pub places_between : PlacesRow g shape before noted rooms marked mid def owners forests row rid → PlacesRow g shape before noted rooms old new def owners forests row rid
+    places_between : PlacesRow g shape before noted rooms marked mid def owners forests row rid → PlacesRow g shape before noted rooms old new def owners forests row rid
     places_between made = record {
       owners_now = made.owners_now;
       forests_now = made.forests_now;
@@ -138,7 +152,7 @@ module _ {S : Type 0} {g : Ghosts S} {old marked mid new : S} (first : HasSamePa
       claims = said_between (λ was is. SpotsAfterClaims made.mid (table_spots shape is def made.owners_now made.forests_now.map)) made.claims;
     }
 
-    pub takes_between : TakesRowOut g shape before noted rooms marked mid def owners forests row rid → TakesRowOut g shape before noted rooms old new def owners forests row rid
+    takes_between : TakesRowOut g shape before noted rooms marked mid def owners forests row rid → TakesRowOut g shape before noted rooms old new def owners forests row rid
     takes_between made = record {
       owners_now = made.owners_now;
       forests_now = made.forests_now;
@@ -148,6 +162,24 @@ module _ {S : Type 0} {g : Ghosts S} {old marked mid new : S} (first : HasSamePa
       mid = made.mid;
       takes = said_between (λ was is. TakesRow (table_spots shape was def owners forests.map) rid row made.mid) made.takes;
       returns = said_between (λ was is. SpotsAfterReturns made.mid (table_spots shape is def made.owners_now made.forests_now.map)) made.returns;
+    }
+
+  module _ {shape : Shape} {before noted : SpaceNotes} {rooms : Entry → RoomNote} {def : TableDef} {row : Row} {rid : Rid} {owners : List Kind} {forests : TableForests} where
+    -- all that is said of them
+    pub placed_between : {now : Entry → RoomNote} → PlacesRowInTable g shape before noted rooms now marked mid def row rid owners forests → PlacesRowInTable g shape before noted rooms now old new def row rid owners forests
+    placed_between made = record {
+      anywhere = anywhere_between made.anywhere;
+      stay = stays_between made.stay;
+      places = λ ready. places_between (made.places (ready_there first ready));
+      makes = λ ready.
+          said_between (λ was is. MakesChanges shape was (block_changes def row rid.block (slice_index_or (table_spots shape was def owners forests.map) rid.block OtherBlock)) is) (made.makes (ready_there first ready));
+    }
+
+    pub taken_between : {now : Entry → RoomNote} → TakesRowFromTable g shape before noted rooms now marked mid def row rid owners forests → TakesRowFromTable g shape before noted rooms now old new def row rid owners forests
+    taken_between made = record {
+      leaves = out_between made.leaves;
+      makes = λ slots lies. said_between (λ was is. MakesChanges shape was (left_changes def row rid.block (count_rows slots)) is) (made.makes slots (lies_there shape def owners forests first lies));
+      takes = λ ready. takes_between (made.takes (ready_there first ready));
     }
 
     -- a row more, a row less, and one that became another

@@ -1,5 +1,5 @@
 -- Damage that is exact by the definition in hand.
-use Rattle.std.specs.Prelude.{◌≡◌, ℕ, IsTrue, List, Option, Some}
+use Rattle.std.specs.Prelude.{◌≡◌, ℕ, IsTrue, Option, Some}
 use Rattle.mdc_words.specs.Faults.{CountsFault}
 use Rattle.mdc_values.specs.declared.rid.Rid.{Rid}
 use Rattle.mdc_ast.specs.declared.definition.TableDef.{TableDef}
@@ -9,12 +9,12 @@ use Rattle.store_api.specs.declared.fault.StoreFault.{StoreFault}
 use Rattle.store_api.specs.declared.fault.StoreFault.TheVariants.{Damaged, Device}
 use Rattle.store_api.specs.declared.pages.Pages.{Ghosts}
 use Rattle.store_api.specs.declared.shape.Shape.{Shape}
-use Rattle.extent_map.specs.declared.kind.Kind.{Kind}
 use Rattle.mdc_sound.specs.Breaks.{IsFirstBreak}
 use Rattle.mdc_sound.specs.SoundDatabase.{IsSoundDatabase, with_table_page}
-use Rattle.mdc_sound.specs.StandingTable.{StandsTable, TableForests, pages_of}
+use Rattle.mdc_sound.specs.StandingTable.{pages_of}
 use Rattle.table_blocks.specs.BlockSteps.{HasThisRow}
 use Rattle.mdc_table.specs.TableReading.{HasUsedBlock}
+use Rattle.mdc_table.specs.WhereStanding.{WhereStands}
 
 -- Where the store tells its pages, they break this rule at this page with the definition in the place of its table page: the first
 -- rule that they break, and the lowest page that breaks it.
@@ -27,17 +27,13 @@ AnswersExactly g shape def s fault = (damage : Damage) → fault ≡ Some (Damag
 
 -- ---- what a call expects
 
--- this is so of the table wherever it stands
-abbrev pub IfStanding : {S : Type 0} → Ghosts S → Shape → S → TableDef → (List Kind → TableForests → Type 0) → Type 0
-IfStanding g shape s def Expected = (owners : List Kind) (forests : TableForests) → StandsTable g shape s def owners forests → Expected owners forests
-
 -- this row lies in its place, where the table stands
 abbrev pub HasRowIfStanding : {S : Type 0} → Ghosts S → Shape → S → TableDef → Rid → Row → Type 0
-HasRowIfStanding g shape s def rid row = IfStanding g shape s def (HasThisRow g shape s def rid row)
+HasRowIfStanding g shape s def rid row = WhereStands g shape s def (HasThisRow g shape s def rid row)
 
 -- the block is a Used one of the table, where that stands
 abbrev pub HasUsedIfStanding : {S : Type 0} → Ghosts S → Shape → S → TableDef → ℕ → Type 0
-HasUsedIfStanding g shape s def block = IfStanding g shape s def (HasUsedBlock block)
+HasUsedIfStanding g shape s def block = WhereStands g shape s def (HasUsedBlock block)
 
 -- ---- a fault that is judged
 

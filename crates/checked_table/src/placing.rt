@@ -1,15 +1,13 @@
 // A row is put where placing says.
-ghost use Rattle.std.specs.Prelude.{◌≡◌, ◌<◌, None, false, slice_index_or, IfErr, IfOk};
+ghost use Rattle.std.specs.Prelude.{◌≡◌, ◌<◌, None, false, IfErr, IfOk};
 ghost use Rattle.store_api.specs.Causes.{store_fault_in};
 ghost use Rattle.extent_map.specs.Damages.{IfFull, store_part_of};
 ghost use Rattle.mdc_ast.specs.TableLimits.{IsTableDef};
-ghost use Rattle.table_trees.specs.SpaceChanges.{MakesChanges};
 ghost use Rattle.mdc_ast.specs.FittingRows.{RowFits};
-ghost use Rattle.mdc_sound.specs.Placing.Spot.{OtherBlock};
-ghost use Rattle.mdc_sound.specs.RunningFull.{block_changes};
-ghost use Rattle.mdc_sound.specs.StandingTable.{IsTableSpace, KeepsBlocksBut, PlacesRow, pages_of, spots_of};
+ghost use Rattle.mdc_sound.specs.StandingTable.{IsTableSpace};
 ghost use Rattle.free_space.specs.RoomNotes.{room_of};
-ghost use Rattle.cell_change.specs.RowChanges.{WhereReady};
+ghost use Rattle.mdc_table.specs.RowSteps.{PlacesRowInTable};
+ghost use Rattle.mdc_table.specs.WhereStanding.{WhereReady, WhereStands};
 ghost use Rattle.checked_table.specs.ExactDamage.{AnswersExactly};
 ghost use Rattle.checked_table.specs.MissingPlaces.{LacksPlace};
 ghost use Rattle.checked_table.specs.WholeChanges.{IsWholeChange};
@@ -39,12 +37,9 @@ pub fn place_row<P: Pages>(
     requires fits { RowFits def.now row.now }
     requires going { (P.state pages.old).ended ≡ false }
     requires unmarked { (P.state pages.old).marked ≡ None }
-    ensures places { IfOk result (λ rid. WhereReady P.Pages shape notes.old (room_of rooms.old) pages.old def.now
-        (λ owners forests. PlacesRow P.Pages shape notes.old notes.new (room_of rooms.new) pages.old pages.new def.now owners forests row.now rid)) }
+    ensures places { IfOk result (λ rid. WhereStands P.Pages shape pages.old def.now
+        (PlacesRowInTable P.Pages shape notes.old notes.new (room_of rooms.old) (room_of rooms.new) pages.old pages.new def.now row.now rid)) }
     ensures full { IfErr result (λ fault. IfFull fault (λ cap. (cap ≡ shape.extents) × WhereReady P.Pages shape notes.old (room_of rooms.old) pages.old def.now (LacksPlace P.Pages shape pages.old def.now row.now))) }
-    ensures makes { IfOk result (λ rid. WhereReady P.Pages shape notes.old (room_of rooms.old) pages.old def.now
-        (λ owners forests. MakesChanges shape (pages_of P.Pages pages.old) (block_changes def.now row.now rid.block (slice_index_or (spots_of P.Pages shape pages.old def.now owners forests) rid.block OtherBlock)) (pages_of P.Pages pages.new))) }
-    ensures stay { IfOk result (λ rid. WhereReady P.Pages shape notes.old (room_of rooms.old) pages.old def.now (λ owners forests. KeepsBlocksBut P.Pages shape pages.old pages.new def.now owners (λ block. block ≡ rid.block))) }
     ensures exact { AnswersExactly P.Pages shape def.now pages.old (store_fault_in store_part_of result) }
     ensures whole { IsWholeChange P.Pages (IsTableSpace P.Pages shape pages.old def.now) notes.new rooms.new pages.old pages.new result (store_fault_in store_part_of result) }
 {

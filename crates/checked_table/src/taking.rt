@@ -1,17 +1,12 @@
 // A row is taken out.
-ghost use Rattle.std.specs.Prelude.{◌≡◌, ◌<◌, List, Option, None, false, length, OnOk};
+ghost use Rattle.std.specs.Prelude.{◌≡◌, ◌<◌, None, false, length, OnOk};
 ghost use Rattle.store_api.specs.Causes.{fault_of};
-ghost use Rattle.mdc_ast.specs.declared.row.Row.{Row};
-ghost use Rattle.row_page.specs.RowPage.{count_rows};
 ghost use Rattle.mdc_ast.specs.TableLimits.{IsTableDef};
-ghost use Rattle.table_trees.specs.SpaceChanges.{MakesChanges};
-ghost use Rattle.mdc_sound.specs.Placing.{IsRowAt};
-ghost use Rattle.mdc_sound.specs.RunningFull.{left_changes};
-ghost use Rattle.mdc_sound.specs.StandingTable.{IsTableOrMapPage, KeepsBlocksBut, TakesRowOut, pages_of, spots_of};
+ghost use Rattle.mdc_sound.specs.StandingTable.{IsTableOrMapPage, KeepsBlocksBut};
 ghost use Rattle.block_rows.specs.HeldRows.{HasReadValues};
 ghost use Rattle.free_space.specs.RoomNotes.{room_of};
-ghost use Rattle.mdc_table.specs.AnyPlace.{TakesOutAnywhere};
-ghost use Rattle.cell_change.specs.RowChanges.{WhereReady, WhereReadyWithRow, WhereStandsWithRow};
+ghost use Rattle.mdc_table.specs.RowSteps.{TakesRowFromTable};
+ghost use Rattle.mdc_table.specs.WhereStanding.{WhereStands, WhereStandsWithRow};
 ghost use Rattle.checked_table.specs.ExactDamage.{AnswersExactly, HasRowIfStanding};
 ghost use Rattle.checked_table.specs.WholeChanges.{IsWholeChange};
 
@@ -40,14 +35,9 @@ pub fn take_row<P: Pages>(
     requires keyed { HasReadValues def.now.columns row.now }
     requires going { (P.state pages.old).ended ≡ false }
     requires unmarked { (P.state pages.old).marked ≡ None }
-    ensures takes { OnOk result (WhereReadyWithRow P.Pages shape notes.old (room_of rooms.old) pages.old def.now rid row.now
-        (λ owners forests. TakesRowOut P.Pages shape notes.old notes.new (room_of rooms.new) pages.old pages.new def.now owners forests row.now rid)) }
-    ensures leaves { OnOk result (WhereStandsWithRow P.Pages shape pages.old def.now rid row.now
-        (λ owners forests. TakesOutAnywhere P.Pages shape notes.old notes.new pages.old pages.new def.now owners forests row.now rid)) }
-    ensures makes { OnOk result (WhereReady P.Pages shape notes.old (room_of rooms.old) pages.old def.now (λ owners forests.
-        (slots : List (Option Row)) → IsRowAt (spots_of P.Pages shape pages.old def.now owners forests) rid row.now slots
-        → MakesChanges shape (pages_of P.Pages pages.old) (left_changes def.now row.now rid.block (count_rows slots)) (pages_of P.Pages pages.new))) }
-    ensures stay { WhereReady P.Pages shape notes.old (room_of rooms.old) pages.old def.now (λ owners forests. KeepsBlocksBut P.Pages shape pages.old pages.new def.now owners (λ block. block ≡ rid.block)) }
+    ensures takes { OnOk result (WhereStandsWithRow P.Pages shape pages.old def.now rid row.now
+        (TakesRowFromTable P.Pages shape notes.old notes.new (room_of rooms.old) (room_of rooms.new) pages.old pages.new def.now row.now rid)) }
+    ensures stay { WhereStands P.Pages shape pages.old def.now (λ owners forests. KeepsBlocksBut P.Pages shape pages.old pages.new def.now owners (λ block. block ≡ rid.block)) }
     ensures count { length (P.state pages.new).work ≡ length (P.state pages.old).work }
     ensures exact { HasRowIfStanding P.Pages shape pages.old def.now rid row.now → AnswersExactly P.Pages shape def.now pages.old (fault_of result) }
     ensures whole { IsWholeChange P.Pages (IsTableOrMapPage P.Pages shape pages.old def.now) notes.new rooms.new pages.old pages.new result (fault_of result) }

@@ -1,5 +1,5 @@
 -- What placing a row says of a table, behind a call that left the work as it was.
-use Rattle.std.proofs.Common.{◌≡◌, List, sym, subst}
+use Rattle.std.proofs.Common.{◌≡◌, List, refl, sym, subst}
 use Rattle.std.specs.Prelude.{IfErr, Result, Ok, Err}
 use Rattle.mdc_words.specs.ByteOrder.{Entry}
 use Rattle.mdc_values.specs.declared.rid.Rid.{Rid}
@@ -18,20 +18,24 @@ use Rattle.mdc_sound.specs.RunningFull.{RowRunsFull}
 use Rattle.mdc_sound.specs.StandingTable.{AreRightRooms, IsReadyTable, PlacesRow, RoomNote, TableForests}
 use Rattle.mdc_sound.proofs.StandingTableLemmas.{stands_same}
 use Rattle.mdc_table.specs.NextBlock.{FindsNoPlace}
+use Rattle.mdc_table.specs.RowSteps.{PlacesRowInTable}
+use Rattle.mdc_table.proofs.AnyPlaceLemmas.{anywhere_along}
+use Rattle.mdc_table.proofs.KeptBlocksLemmas.{keeps_along}
 use Rattle.mdc_table.proofs.PlacingRowsLemmas.{changes_along}
+use Rattle.mdc_table.proofs.RowSpaceLemmas.{block_makes_along}
 
 module _ {S : Type 0} (g : Ghosts S) (shape : Shape) (before noted : SpaceNotes) (old mid new : S) (def : TableDef) (told : (g.state mid).is_told ≡ (g.state old).is_told) (same : (g.state mid).work ≡ (g.state old).work)
     (from : Entry → RoomNote) where
   -- the table is ready there as well
-  pub ready_along : (owners : List Kind) (forests : TableForests) → IsReadyTable g shape before from old def owners forests → IsReadyTable g shape before from mid def owners forests
+  ready_along : (owners : List Kind) (forests : TableForests) → IsReadyTable g shape before from old def owners forests → IsReadyTable g shape before from mid def owners forests
   ready_along owners forests ready = record {
     stands = stands_same shape old mid def owners forests told same ready.stands;
     notes = ready.notes;
     rooms = subst (λ (pages : PageList). AreRightRooms def from (table_spots shape pages def owners forests.map)) (sym same) ready.rooms;
   }
 
-  -- the row was placed
-  pub placed_along : (now : Entry → RoomNote) (row : Row) (rid : Rid) (owners : List Kind) (forests : TableForests) → PlacesRow g shape before noted now mid new def owners forests row rid
+  -- the row was placed by placing
+  placed_along : (now : Entry → RoomNote) (row : Row) (rid : Rid) (owners : List Kind) (forests : TableForests) → PlacesRow g shape before noted now mid new def owners forests row rid
       → PlacesRow g shape before noted now old new def owners forests row rid
   placed_along now row rid owners forests places = record {
     owners_now = places.owners_now;
@@ -42,6 +46,16 @@ module _ {S : Type 0} (g : Ghosts S) (shape : Shape) (before noted : SpaceNotes)
     mid = places.mid;
     puts = subst (λ (pages : PageList). PutsRow def (block_slot_count shape def) (table_spots shape pages def owners forests.map) row places.mid rid) same places.puts;
     claims = places.claims;
+  }
+
+  -- and so all holds that is said of it
+  pub in_table_along : (now : Entry → RoomNote) (row : Row) (rid : Rid) (owners : List Kind) (forests : TableForests) → PlacesRowInTable g shape before noted from now mid new def row rid owners forests
+      → PlacesRowInTable g shape before noted from now old new def row rid owners forests
+  in_table_along now row rid owners forests placed = record {
+    anywhere = anywhere_along shape def row before noted old mid new told same owners forests rid placed.anywhere;
+    stay = keeps_along shape old mid new def owners forests told same (λ block. block ≡ rid.block) placed.stay;
+    places = λ ready. placed_along now row rid owners forests (placed.places (ready_along owners forests ready));
+    makes = λ ready. block_makes_along g shape old mid new def row told same owners forests rid.block rid.block refl (placed.makes (ready_along owners forests ready));
   }
 
   -- or there is no place for it

@@ -2,6 +2,8 @@ pub mod AnyPlace
 pub mod KnownBlocks
 pub mod LoweredNotes
 pub mod NextBlock
+pub mod RowSteps
 pub mod SeenBlocks
 pub mod SeenPlaces
 pub mod TableReading
+pub mod WhereStanding

@@ -12,12 +12,14 @@ ghost use Rattle.mdc_ast.specs.FittingRows.{RowFits};
 ghost use Rattle.mdc_sound.specs.Placing.{HasRoomFor};
 ghost use Rattle.mdc_sound.specs.Placing.Spot.{OtherBlock};
 ghost use Rattle.mdc_sound.specs.RunningFull.{block_changes};
-ghost use Rattle.mdc_sound.specs.StandingTable.{BreaksTable, IsBlockOrMapPage, IsReadyTable, IsTableSpace, KeepsBlocksBut, MeetsNoFree, PlacesRow, StandsTable, TableForests, pages_of, spots_of};
+ghost use Rattle.mdc_sound.specs.StandingTable.{BreaksTable, IsBlockOrMapPage, IsTableSpace, KeepsBlocksBut, MeetsNoFree, StandsTable, TableForests, pages_of, spots_of};
 ghost use Rattle.table_blocks.specs.BlockSteps.{FillsSlot};
 ghost use Rattle.free_space.specs.FoundRoom.{cell_key_of};
 ghost use Rattle.free_space.specs.RoomNotes.{room_of};
-ghost use Rattle.mdc_table.specs.AnyPlace.{IsFreeSpot, PlacesAnywhere};
+ghost use Rattle.mdc_table.specs.AnyPlace.{IsFreeSpot};
 ghost use Rattle.mdc_table.specs.NextBlock.{BeginsNext, FindsNoPlace, NextBlockRunsFull};
+ghost use Rattle.mdc_table.specs.RowSteps.{PlacesRowInTable};
+ghost use Rattle.mdc_table.specs.WhereStanding.{WhereReady, WhereStands};
 
 use crate::faults::unmapped;
 use block_index::cell_key;
@@ -48,16 +50,10 @@ pub fn place_row<P: Pages>(
     requires defined { IsTableDef def.now.number def.now }
     requires fits { RowFits def.now row.now }
     requires going { (P.state pages.old).ended ≡ false }
-    ensures places { IfOk result (λ rid. (owners : List Kind) (forests : TableForests) → IsReadyTable P.Pages shape notes.old (room_of rooms.old) pages.old def.now owners forests
-        → PlacesRow P.Pages shape notes.old notes.new (room_of rooms.new) pages.old pages.new def.now owners forests row.now rid) }
-    ensures anywhere { IfOk result (λ rid. (owners : List Kind) (forests : TableForests) → StandsTable P.Pages shape pages.old def.now owners forests
-        → PlacesAnywhere P.Pages shape notes.old notes.new pages.old pages.new def.now owners forests row.now rid) }
-    ensures full { IfErr result (λ fault. IfFull fault (λ cap. (cap ≡ shape.extents) × ((owners : List Kind) (forests : TableForests) → IsReadyTable P.Pages shape notes.old (room_of rooms.old) pages.old def.now owners forests
-        → FindsNoPlace P.Pages shape pages.old pages.new def.now row.now owners forests))) }
-    ensures makes { IfOk result (λ rid. (owners : List Kind) (forests : TableForests) → IsReadyTable P.Pages shape notes.old (room_of rooms.old) pages.old def.now owners forests
-        → MakesChanges shape (pages_of P.Pages pages.old) (block_changes def.now row.now rid.block (slice_index_or (spots_of P.Pages shape pages.old def.now owners forests) rid.block OtherBlock)) (pages_of P.Pages pages.new)) }
-    ensures stay { IfOk result (λ rid. (owners : List Kind) (forests : TableForests) → StandsTable P.Pages shape pages.old def.now owners forests
-        → KeepsBlocksBut P.Pages shape pages.old pages.new def.now owners (λ block. block ≡ rid.block)) }
+    ensures places { IfOk result (λ rid. WhereStands P.Pages shape pages.old def.now
+        (PlacesRowInTable P.Pages shape notes.old notes.new (room_of rooms.old) (room_of rooms.new) pages.old pages.new def.now row.now rid)) }
+    ensures full { IfErr result (λ fault. IfFull fault (λ cap. (cap ≡ shape.extents) × WhereReady P.Pages shape notes.old (room_of rooms.old) pages.old def.now
+        (FindsNoPlace P.Pages shape pages.old pages.new def.now row.now))) }
     ensures runs { RunsOverPages P.Pages (IsTableSpace P.Pages shape pages.old def.now) (IsTableSpace P.Pages shape pages.old def.now)
         (BreaksTable P.Pages shape pages.old def.now) pages.old pages.new (store_fault_in store_part_of result) }
 {
@@ -116,16 +112,10 @@ fn place_by_search<P: Pages>(
     requires fits { RowFits def.now row.now }
     requires going { (P.state pages.old).ended ≡ false }
     requires key { key.now ≡ cell_key_of def.now row.now.values }
-    ensures places { IfOk result (λ rid. (owners : List Kind) (forests : TableForests) → IsReadyTable P.Pages shape notes.old (room_of rooms.old) pages.old def.now owners forests
-        → PlacesRow P.Pages shape notes.old notes.new (room_of rooms.new) pages.old pages.new def.now owners forests row.now rid) }
-    ensures anywhere { IfOk result (λ rid. (owners : List Kind) (forests : TableForests) → StandsTable P.Pages shape pages.old def.now owners forests
-        → PlacesAnywhere P.Pages shape notes.old notes.new pages.old pages.new def.now owners forests row.now rid) }
-    ensures full { IfErr result (λ fault. IfFull fault (λ cap. (cap ≡ shape.extents) × ((owners : List Kind) (forests : TableForests) → IsReadyTable P.Pages shape notes.old (room_of rooms.old) pages.old def.now owners forests
-        → FindsNoPlace P.Pages shape pages.old pages.new def.now row.now owners forests))) }
-    ensures makes { IfOk result (λ rid. (owners : List Kind) (forests : TableForests) → IsReadyTable P.Pages shape notes.old (room_of rooms.old) pages.old def.now owners forests
-        → MakesChanges shape (pages_of P.Pages pages.old) (block_changes def.now row.now rid.block (slice_index_or (spots_of P.Pages shape pages.old def.now owners forests) rid.block OtherBlock)) (pages_of P.Pages pages.new)) }
-    ensures stay { IfOk result (λ rid. (owners : List Kind) (forests : TableForests) → StandsTable P.Pages shape pages.old def.now owners forests
-        → KeepsBlocksBut P.Pages shape pages.old pages.new def.now owners (λ block. block ≡ rid.block)) }
+    ensures places { IfOk result (λ rid. WhereStands P.Pages shape pages.old def.now
+        (PlacesRowInTable P.Pages shape notes.old notes.new (room_of rooms.old) (room_of rooms.new) pages.old pages.new def.now row.now rid)) }
+    ensures full { IfErr result (λ fault. IfFull fault (λ cap. (cap ≡ shape.extents) × WhereReady P.Pages shape notes.old (room_of rooms.old) pages.old def.now
+        (FindsNoPlace P.Pages shape pages.old pages.new def.now row.now))) }
     ensures runs { RunsOverPages P.Pages (IsTableSpace P.Pages shape pages.old def.now) (IsTableSpace P.Pages shape pages.old def.now)
         (BreaksTable P.Pages shape pages.old def.now) pages.old pages.new (store_fault_in store_part_of result) }
 {

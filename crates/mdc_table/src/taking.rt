@@ -1,22 +1,17 @@
 // A row is taken out.
-ghost use Rattle.std.specs.Prelude.{◌≡◌, List, Option, false, length, IsTrue, OnOk};
+ghost use Rattle.std.specs.Prelude.{◌≡◌, false, length, IsTrue, OnOk};
 ghost use Rattle.store_api.specs.Causes.{fault_of};
 ghost use Rattle.store_api.specs.RunsOverPages.{RunsOverPages};
-ghost use Rattle.extent_map.specs.declared.kind.Kind.{Kind};
-ghost use Rattle.mdc_ast.specs.declared.row.Row.{Row};
-ghost use Rattle.row_page.specs.RowPage.{count_rows};
 ghost use Rattle.mdc_ast.specs.TableLimits.{IsTableDef};
-ghost use Rattle.table_trees.specs.SpaceChanges.{MakesChanges};
-ghost use Rattle.mdc_sound.specs.Placing.{IsRowAt};
-ghost use Rattle.mdc_sound.specs.RunningFull.{left_changes};
-ghost use Rattle.mdc_sound.specs.StandingTable.{BreaksExpected, IsReadyTable, IsTableOrMapPage, KeepsBlocksBut, StandsTable, TableForests, TakesRowOut, pages_of, spots_of};
+ghost use Rattle.mdc_sound.specs.StandingTable.{BreaksExpected, IsTableOrMapPage, KeepsBlocksBut};
 ghost use Rattle.block_rows.specs.HeldRows.{HasReadValues};
 ghost use Rattle.block_rows.specs.SeenRows.{SeesSomeRow};
 ghost use Rattle.table_blocks.specs.BlockSteps.{HasThisRow};
 ghost use Rattle.table_blocks.specs.SeenSlots.{IsMapApart, SeesUsedSlot};
 ghost use Rattle.free_space.specs.RoomNotes.{room_of};
-ghost use Rattle.mdc_table.specs.AnyPlace.{TakesOutAnywhere};
 ghost use Rattle.mdc_table.specs.LoweredNotes.{LowersNoteOf};
+ghost use Rattle.mdc_table.specs.RowSteps.{TakesRowFromTable};
+ghost use Rattle.mdc_table.specs.WhereStanding.{WhereStands, WhereStandsWithRow};
 
 use crate::faults::unmapped;
 use crate::reading::block_slots;
@@ -45,16 +40,10 @@ pub fn take_row<P: Pages>(
     requires defined { IsTableDef def.now.number def.now }
     requires keyed { HasReadValues def.now.columns row.now }
     requires going { (P.state pages.old).ended ≡ false }
-    ensures takes { OnOk result ((owners : List Kind) (forests : TableForests) → IsReadyTable P.Pages shape notes.old (room_of rooms.old) pages.old def.now owners forests
-        → HasThisRow P.Pages shape pages.old def.now rid row.now owners forests
-        → TakesRowOut P.Pages shape notes.old notes.new (room_of rooms.new) pages.old pages.new def.now owners forests row.now rid) }
-    ensures leaves { OnOk result ((owners : List Kind) (forests : TableForests) → StandsTable P.Pages shape pages.old def.now owners forests
-        → HasThisRow P.Pages shape pages.old def.now rid row.now owners forests → TakesOutAnywhere P.Pages shape notes.old notes.new pages.old pages.new def.now owners forests row.now rid) }
-    ensures makes { OnOk result ((owners : List Kind) (forests : TableForests) → StandsTable P.Pages shape pages.old def.now owners forests
-        → (slots : List (Option Row)) → IsRowAt (spots_of P.Pages shape pages.old def.now owners forests) rid row.now slots
-        → MakesChanges shape (pages_of P.Pages pages.old) (left_changes def.now row.now rid.block (count_rows slots)) (pages_of P.Pages pages.new)) }
+    ensures takes { OnOk result (WhereStandsWithRow P.Pages shape pages.old def.now rid row.now
+        (TakesRowFromTable P.Pages shape notes.old notes.new (room_of rooms.old) (room_of rooms.new) pages.old pages.new def.now row.now rid)) }
     ensures seen { OnOk result (IsTrue (P.state pages.old).is_told → IsMapApart P.Pages shape pages.old def.now rid.block → SeesSomeRow (SeesUsedSlot P.Pages shape pages.old def.now rid)) }
-    ensures stay { (owners : List Kind) (forests : TableForests) → StandsTable P.Pages shape pages.old def.now owners forests → KeepsBlocksBut P.Pages shape pages.old pages.new def.now owners (λ block. block ≡ rid.block) }
+    ensures stay { WhereStands P.Pages shape pages.old def.now (λ owners forests. KeepsBlocksBut P.Pages shape pages.old pages.new def.now owners (λ block. block ≡ rid.block)) }
     ensures count { length (P.state pages.new).work ≡ length (P.state pages.old).work }
     ensures runs { RunsOverPages P.Pages (IsTableOrMapPage P.Pages shape pages.old def.now) (IsTableOrMapPage P.Pages shape pages.old def.now)
         (BreaksExpected P.Pages shape pages.old def.now (HasThisRow P.Pages shape pages.old def.now rid row.now)) pages.old pages.new (fault_of result) }

@@ -6,7 +6,6 @@ use Rattle.row_entries.specs.RowEntries.{with_indexes}
 use Rattle.block_rows.specs.SeenRows.{SeesSomeRow}
 use Rattle.table_blocks.specs.SeenSlots.{IsMapApart, SeesUsedSlot}
 use Rattle.cell_change.proofs.ChangeRunsLemmas.{in_space}
-use Rattle.cell_change.proofs.ChangedSpaceLemmas.{on_ok_each}
 use Rattle.cell_change.proofs.DeletingRowsLemmas.{blocks_left, deletes, left_stays, runs_leaving, runs_left, this_left}
 use Rattle.cell_change.proofs.SeenRowsLemmas.{apart_beside, apart_left, row_seen, seen_beside}
 use Rattle.cell_change.proofs.StandsForRowLemmas.{database_deleted}
@@ -32,7 +31,7 @@ returns-clause-runs g c =
 
 pub returns-clause-deletes : goal.returns-clause-deletes
 returns-clause-deletes g c =
-    on_ok_each c.take_row.result (λ takes anywhere makes owners forests st has.
+    on_ok_weaker c.take_row.result (λ takes owners forests st has.
     let shape = c.args.shape in
     let old = c.args.pages.now in
     let new = c.take_row.new.pages in
@@ -40,17 +39,14 @@ returns-clause-deletes g c =
     let row = c.args.row.now in
     let left = c.in_ok-leave_entries.ensures in
     let leaves = left.leaves owners forests st in
-    let now = leaves.owners_now in
-    let trees = with_indexes forests leaves.indexes_now in
+    let taken = takes leaves.owners_now (with_indexes forests leaves.indexes_now) leaves.table.changes.stands (this_left g.P.Pages shape old c.leave_entries.new.pages def row c.args.rid owners forests leaves has) in
     let runs = returns-clause-runs g c in
-    let table = deletes g.P.Pages shape old c.leave_entries.new.pages def row c.args.rid owners forests leaves new takes has
-    (anywhere now trees leaves.table.changes.stands (this_left g.P.Pages shape old c.leave_entries.new.pages def row c.args.rid owners forests leaves has))
-    (left.makes owners forests st) (makes now trees leaves.table.changes.stands) left.runs.works.no_shorter c.take_row.ensures.runs.works.no_shorter in
+    let table = deletes g.P.Pages shape old c.leave_entries.new.pages def row c.args.rid owners forests leaves new taken (left.makes owners forests st) left.runs.works.no_shorter c.take_row.ensures.runs.works.no_shorter in
     record {
       table = table;
       database = database_deleted g.P.Pages shape old new def owners forests st (touches_wider runs.touches (in_space g.P.Pages shape old def)) runs.works.no_shorter row c.args.rid table;
     })
-    c.take_row.ensures.takes c.take_row.ensures.leaves c.take_row.ensures.makes
+    c.take_row.ensures.takes
 
 pub returns-clause-seen_standing : goal.returns-clause-seen_standing
 returns-clause-seen_standing g c =

@@ -37,8 +37,9 @@ returns-in_err-enter_row-clause-full g c =
     (full_as fault _ _ (λ cap is. (
       is.0,
       λ owners forests ready.
-          let places = c.in_ok-rid.ensures.places owners forests ready in
-          entering_full g.P.Pages shape old middle def c.args.row.now c.in_ok-rid.rid owners forests places (c.in_ok-rid.ensures.makes owners forests ready)
+          let placed = c.in_ok-rid.ensures.places owners forests ready.stands in
+          let places = placed.places ready in
+          entering_full g.P.Pages shape old middle def c.args.row.now c.in_ok-rid.rid owners forests ready placed
           (is.1 places.owners_now places.forests_now places.changes.stands (places.changes.notes ready.notes)),
     ))
     c.in_err-enter_row.ensures.full)
@@ -47,18 +48,18 @@ pub returns-in_err-enter_row-clause-runs : goal.returns-in_err-enter_row-clause-
 returns-in_err-enter_row-clause-runs g c =
     runs_exit_as store_part_of c.from_residual-in_err-enter_row.result c.from_residual-in_err-enter_row.ensures.1
     (runs_entered g.P.Pages c.args.shape c.args.pages.now c.args.def.now c.place_row.new.pages c.args.row.now c.in_ok-rid.rid c.requires.defined
-    (keys_of_fitting_row c.args.def.now c.args.row.now c.requires.defined c.requires.fits) c.in_ok-rid.ensures.anywhere c.in_ok-rid.ensures.runs c.in_err-enter_row.ensures.runs)
+    (keys_of_fitting_row c.args.def.now c.args.row.now c.requires.defined c.requires.fits) c.in_ok-rid.ensures.places c.in_ok-rid.ensures.runs c.in_err-enter_row.ensures.runs)
 
 pub returns-clause-inserts : goal.returns-clause-inserts
 returns-clause-inserts g c owners forests ready =
-    let placed = c.in_ok-rid.ensures in
+    let placed = c.in_ok-rid.ensures.places owners forests ready.stands in
+    let places = placed.places ready in
     let entered = c.in_ok-enter_row.ensures in
-    let places = placed.places owners forests ready in
-    inserts g.P.Pages c.args.shape c.args.pages.now c.place_row.new.pages c.args.def.now c.args.row.now c.in_ok-rid.rid owners forests ready.stands c.requires.defined places c.enter_row.new.pages
-    (entered.enters places.owners_now places.forests_now places.changes.stands) placed.runs.works.no_shorter entered.runs.works.no_shorter
-    (placed.makes owners forests ready) (entered.makes places.owners_now places.forests_now places.changes.stands (places.changes.notes ready.notes)) (placed.stay owners forests ready.stands)
+    inserts g.P.Pages c.args.shape c.args.pages.now c.place_row.new.pages c.args.def.now c.args.row.now c.in_ok-rid.rid owners forests ready placed c.enter_row.new.pages
+    (entered.enters places.owners_now places.forests_now places.changes.stands) c.requires.defined c.in_ok-rid.ensures.runs.works.no_shorter entered.runs.works.no_shorter
+    (entered.makes places.owners_now places.forests_now places.changes.stands (places.changes.notes ready.notes))
 
 pub returns-clause-runs : goal.returns-clause-runs
 returns-clause-runs g c =
     runs_entered g.P.Pages c.args.shape c.args.pages.now c.args.def.now c.place_row.new.pages c.args.row.now c.in_ok-rid.rid c.requires.defined
-    (keys_of_fitting_row c.args.def.now c.args.row.now c.requires.defined c.requires.fits) c.in_ok-rid.ensures.anywhere c.in_ok-rid.ensures.runs c.in_ok-enter_row.ensures.runs
+    (keys_of_fitting_row c.args.def.now c.args.row.now c.requires.defined c.requires.fits) c.in_ok-rid.ensures.places c.in_ok-rid.ensures.runs c.in_ok-enter_row.ensures.runs

@@ -1,15 +1,10 @@
-use Rattle.std.proofs.Common.{slice_index_or}
-use Rattle.table_trees.specs.SpaceChanges.{MakesChanges}
-use Rattle.mdc_sound.specs.Placing.{table_spots}
-use Rattle.mdc_sound.specs.Placing.Spot.{OtherBlock}
-use Rattle.mdc_sound.specs.RunningFull.{block_changes}
 use Rattle.free_space.specs.RoomNotes.{room_of}
 use Rattle.mdc_table.specs.NextBlock.{FindsNoPlace}
 use Rattle.checked_table.specs.MissingPlaces.{LacksPlace}
 use Rattle.checked_table.proofs.EndingLemmas.{end_change, end_unkept, full_back, whole_back}
 use Rattle.checked_table.proofs.ExactDamageLemmas.{answers_none, lacks_place}
 use Rattle.checked_table.proofs.MarkedChangesLemmas.{whole_kept}
-use Rattle.checked_table.proofs.SamePagesLemmas.{if_stood, places_between, ready_there, said_between, stands_there, stays_between}
+use Rattle.checked_table.proofs.SamePagesLemmas.{if_stood, placed_between, stands_there}
 use Rattle.checked_table.proofs.placing.place_row.Goals as goal
 
 pub returns-in-Ok-keep_or_undo : goal.returns-in-Ok-keep_or_undo
@@ -18,14 +13,9 @@ returns-in-Ok-keep_or_undo g c =
     let def = c.args.def.now in
     let first = c.begin_change.ensures.pages in
     let keeps = c.in-Ok-keep_or_undo.ensures.keeps in
-    let rid = c.in-Ok.rid in
     record {
-      places = λ owners forests ready. places_between first keeps.pages (c.in-Ok.ensures.places owners forests (ready_there first ready));
+      places = λ owners forests st. placed_between first keeps.pages (c.in-Ok.ensures.places owners forests (stands_there first st));
       full = tt;
-      makes = λ owners forests ready.
-          said_between first keeps.pages (λ was is. MakesChanges shape was (block_changes def c.args.row.now rid.block (slice_index_or (table_spots shape was def owners forests.map) rid.block OtherBlock)) is)
-          (c.in-Ok.ensures.makes owners forests (ready_there first ready));
-      stay = λ owners forests ready. stays_between first keeps.pages (c.in-Ok.ensures.stay owners forests (stands_there first ready.stands));
       exact = answers_none g.P.Pages shape def c.args.pages.now;
       whole = whole_kept c.begin_change.ensures c.in-Ok.ensures.runs (λ p. if_stood first) keeps c.in-Ok-keep_or_undo.ensures.device;
     }
@@ -34,7 +24,7 @@ pub returns-in-Err-keep_or_undo : goal.returns-in-Err-keep_or_undo
 returns-in-Err-keep_or_undo g c =
     let undone = c.in-Err-keep_or_undo.ensures in
     let ends = end_unkept c.args.shape c.args.def.now c.begin_change.ensures c.in-Ok.ensures.runs undone.undoes undone.device undone.damaged c.forget_notes.ensures in
-    record { places = tt; full = tt; makes = tt; stay = tt; exact = ends.left.exact; whole = whole_back ends }
+    record { places = tt; full = tt; exact = ends.left.exact; whole = whole_back ends }
 
 pub returns-in-Err : goal.returns-in-Err
 returns-in-Err g c =
@@ -47,8 +37,6 @@ returns-in-Err g c =
       places = tt;
       full = full_back shape c.args.notes.now def (room_of c.args.rooms.now) (FindsNoPlace g.P.Pages shape c.begin_change.new.pages c.place_row.new.pages def c.args.row.now) (LacksPlace g.P.Pages shape c.args.pages.now def c.args.row.now)
           c.in-Err.fault c.undo_space_change.result first (λ owners forests. lacks_place first) undone.full c.in-Err.ensures.full;
-      makes = tt;
-      stay = tt;
       exact = ends.left.exact;
       whole = whole_back ends;
     }

@@ -47,20 +47,19 @@ returns-in_err-block-clause-runs g c =
     (next_run (searched g (goal.at.returns-in_err-block-clause-runs g c).In_ok-line) {fault = store_part_of c.in_err-block.field-0.0} c.in_err-block.ensures.runs)
 
 pub returns-in_default-clause-places : goal.returns-in_default-clause-places
-returns-in_default-clause-places g c =
-    next_placed (searched g (goal.at.returns-in_default-clause-places g c).In_ok-line) c.in_default.is c.args.notes.now c.begin_block.new.notes c.begin_block.new.pages c.note.new.self c.in_ok-block.block c.in_ok-block.ensures.begins c.note.ensures
-
-pub returns-in_default-clause-anywhere : goal.returns-in_default-clause-anywhere
-returns-in_default-clause-anywhere g c =
-    next_anywhere (searched g (goal.at.returns-in_default-clause-anywhere g c).In_ok-line) c.args.notes.now c.begin_block.new.notes c.begin_block.new.pages c.in_ok-block.block c.in_ok-block.ensures.begins c.in_ok-block.ensures.free
-
-pub returns-in_default-clause-makes : goal.returns-in_default-clause-makes
-returns-in_default-clause-makes g c =
-    next_makes (searched g (goal.at.returns-in_default-clause-makes g c).In_ok-line) c.args.notes.now c.begin_block.new.pages c.in_ok-block.block c.in_ok-block.ensures.makes
-
-pub returns-in_default-clause-stay : goal.returns-in_default-clause-stay
-returns-in_default-clause-stay g c =
-    next_stays (searched g (goal.at.returns-in_default-clause-stay g c).In_ok-line) c.begin_block.new.pages c.in_ok-block.block c.in_ok-block.ensures.stay
+returns-in_default-clause-places g c owners forests st =
+    let search = searched g (goal.at.returns-in_default-clause-places g c).In_ok-line in
+    let before = c.args.notes.now in
+    let noted = c.begin_block.new.notes in
+    let new = c.begin_block.new.pages in
+    let block = c.in_ok-block.block in
+    let begun = c.in_ok-block.ensures in
+    record {
+      anywhere = next_anywhere search before noted new block begun.begins begun.free owners forests st;
+      stay = next_stays search new block begun.stay owners forests st;
+      places = next_placed search c.in_default.is before noted new c.note.new.self block begun.begins c.note.ensures owners forests;
+      makes = next_makes search before new block begun.makes owners forests;
+    }
 
 pub returns-in_default-clause-runs : goal.returns-in_default-clause-runs
 returns-in_default-clause-runs g c = next_run (searched g (goal.at.returns-in_default-clause-runs g c).In_ok-line) c.in_ok-block.ensures.runs
@@ -73,24 +72,19 @@ returns-in_err-put_in_block-clause-runs g c =
     (block_run (searched g (goal.at.returns-in_err-put_in_block-clause-runs g c).In_ok-line) c.in-Some.line c.in-Some.is {fault = Some c.in_err-put_in_block.field-0.0} c.in_err-put_in_block.ensures.runs)
 
 pub returns-clause-places : goal.returns-clause-places
-returns-clause-places g c =
+returns-clause-places g c owners forests st =
+    let search = searched g (goal.at.returns-clause-places g c).In_ok-line in
+    let line = c.in-Some.line in
+    let notes = c.args.notes.now in
+    let new = c.put_in_block.new.pages in
+    let rid = c.in_ok-put_in_block.field-0 in
     let put = c.in_ok-put_in_block.ensures in
-    block_placed (searched g (goal.at.returns-clause-places g c).In_ok-line) c.in-Some.line c.in-Some.is c.args.notes.now c.put_in_block.new.pages c.note-2.new.self c.in_ok-put_in_block.field-0 put.block (put.fills c.args.notes.now) c.note-2.ensures
-
-pub returns-clause-anywhere : goal.returns-clause-anywhere
-returns-clause-anywhere g c =
-    let put = c.in_ok-put_in_block.ensures in
-    block_anywhere (searched g (goal.at.returns-clause-anywhere g c).In_ok-line) c.in-Some.line c.in-Some.is c.args.notes.now c.put_in_block.new.pages c.in_ok-put_in_block.field-0 put.block (put.fills c.args.notes.now)
-
-pub returns-clause-makes : goal.returns-clause-makes
-returns-clause-makes g c =
-    let put = c.in_ok-put_in_block.ensures in
-    block_makes (searched g (goal.at.returns-clause-makes g c).In_ok-line) c.in-Some.line c.in-Some.is c.args.notes.now c.put_in_block.new.pages c.in_ok-put_in_block.field-0.block put.block put.makes
-
-pub returns-clause-stay : goal.returns-clause-stay
-returns-clause-stay g c =
-    let put = c.in_ok-put_in_block.ensures in
-    block_stays (searched g (goal.at.returns-clause-stay g c).In_ok-line) c.in-Some.line c.in-Some.is c.put_in_block.new.pages c.in_ok-put_in_block.field-0.block put.block put.runs.touches
+    record {
+      anywhere = block_anywhere search line c.in-Some.is notes new rid put.block (put.fills notes) owners forests st;
+      stay = block_stays search line c.in-Some.is new rid.block put.block put.runs.touches owners forests st;
+      places = block_placed search line c.in-Some.is notes new c.note-2.new.self rid put.block (put.fills notes) c.note-2.ensures owners forests;
+      makes = block_makes search line c.in-Some.is notes new rid.block put.block put.makes owners forests;
+    }
 
 pub returns-clause-runs : goal.returns-clause-runs
 returns-clause-runs g c = block_run (searched g (goal.at.returns-clause-runs g c).In_ok-line) c.in-Some.line c.in-Some.is c.in_ok-put_in_block.ensures.runs

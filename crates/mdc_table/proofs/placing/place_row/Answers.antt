@@ -9,9 +9,9 @@ use Rattle.mdc_sound.specs.StandingTable.{BreaksTable, IsTableSpace, KeepsBlocks
 use Rattle.mdc_sound.proofs.DefinitionTreesLemmas.{has_block_indexes}
 use Rattle.mdc_sound.proofs.StandingTableLemmas.{stands_same}
 use Rattle.free_space.specs.RoomNotes.{note_of, room_of}
-use Rattle.mdc_table.proofs.AnyPlaceLemmas.{anywhere_along, filled_anywhere}
-use Rattle.mdc_table.proofs.KeptBlocksLemmas.{if_some_at, keeps_along, keeps_in_block}
-use Rattle.mdc_table.proofs.LaterPlacesLemmas.{no_place_result_along, placed_along, ready_along}
+use Rattle.mdc_table.proofs.AnyPlaceLemmas.{filled_anywhere}
+use Rattle.mdc_table.proofs.KeptBlocksLemmas.{if_some_at, keeps_in_block}
+use Rattle.mdc_table.proofs.LaterPlacesLemmas.{in_table_along, no_place_result_along}
 use Rattle.mdc_table.proofs.NextBlocksLemmas.{runs_of_place, runs_space_behind}
 use Rattle.mdc_table.proofs.PlacingRowsLemmas.{placed_where_noted}
 use Rattle.mdc_table.proofs.RowSpaceLemmas.{block_makes_along}
@@ -40,47 +40,26 @@ returns-in_err-rid-clause-runs g c =
     (runs_of_place c.args.shape c.args.def.now {fault = Some c.in_err-rid.field-0.0} c.of-room.result.first c.in_err-rid.ensures.runs)
 
 pub returns-in-Some-clause-places : goal.returns-in-Some-clause-places
-returns-in-Some-clause-places g c owners forests ready =
+returns-in-Some-clause-places g c owners forests st =
     let shape = c.args.shape in
     let s = c.args.pages.now in
+    let new = c.put_where_noted.new.pages in
+    let notes = c.args.notes.now in
     let def = c.args.def.now in
     let row = c.args.row.now in
-    let from = room_of c.args.rooms.now in
-    let key = c.deref.result.now in
     let is = c.deref.ensures.value ∙ c.in_ok-key.ensures.key in
     let note = note_of c.of-room.result in
     let rid = c.in-Some.rid in
-    let known = if_some_at _ c.in_ok-rid.field-0 rid c.in-Some.is c.in_ok-rid.ensures.known in
-    let fills = if_some_at _ c.in_ok-rid.field-0 rid c.in-Some.is c.in_ok-rid.ensures.fills c.args.notes.now owners forests ready.stands in
-    placed_where_noted shape c.args.notes.now s def owners forests row from c.requires.defined c.requires.fits ready key is note c.of-room.ensures known c.put_where_noted.new.pages rid
-    (if_some_at _ c.in_ok-rid.field-0 rid c.in-Some.is c.in_ok-rid.ensures.block) fills.0 fills.1
-
-pub returns-in-Some-clause-anywhere : goal.returns-in-Some-clause-anywhere
-returns-in-Some-clause-anywhere g c owners forests st =
-    let s = c.args.pages.now in
-    let rid = c.in-Some.rid in
-    let fills = if_some_at _ c.in_ok-rid.field-0 rid c.in-Some.is c.in_ok-rid.ensures.fills c.args.notes.now owners forests st in
-    filled_anywhere c.args.shape c.args.def.now c.args.row.now c.args.notes.now s s c.put_where_noted.new.pages refl refl owners forests c.of-room.result.first rid
-    (if_some_at _ c.in_ok-rid.field-0 rid c.in-Some.is c.in_ok-rid.ensures.block) fills.0 fills.1
-
-pub returns-in-Some-clause-makes : goal.returns-in-Some-clause-makes
-returns-in-Some-clause-makes g c owners forests ready =
-    let shape = c.args.shape in
-    let s = c.args.pages.now in
-    let def = c.args.def.now in
-    let row = c.args.row.now in
-    let note = note_of c.of-room.result in
-    let rid = c.in-Some.rid in
-    block_makes_along g.P.Pages shape s s c.put_where_noted.new.pages def row refl refl owners forests note.from rid.block (if_some_at _ c.in_ok-rid.field-0 rid c.in-Some.is c.in_ok-rid.ensures.block)
-    (if_some_at _ c.in_ok-rid.field-0 rid c.in-Some.is c.in_ok-rid.ensures.makes owners forests ready.stands)
-
-pub returns-in-Some-clause-stay : goal.returns-in-Some-clause-stay
-returns-in-Some-clause-stay g c owners forests st =
-    let shape = c.args.shape in
-    let s = c.args.pages.now in
-    let def = c.args.def.now in
-    subst (λ block. KeepsBlocksBut g.P.Pages shape s c.put_where_noted.new.pages def owners (λ other. other ≡ block)) (sym (if_some_at _ c.in_ok-rid.field-0 c.in-Some.rid c.in-Some.is c.in_ok-rid.ensures.block))
-    (keeps_in_block shape s s c.put_where_noted.new.pages def owners forests refl refl st c.of-room.result.first c.in_ok-rid.ensures.runs.touches)
+    let at = if_some_at _ c.in_ok-rid.field-0 rid c.in-Some.is c.in_ok-rid.ensures.block in
+    let fills = if_some_at _ c.in_ok-rid.field-0 rid c.in-Some.is c.in_ok-rid.ensures.fills notes owners forests st in
+    record {
+      anywhere = filled_anywhere shape def row notes s s new refl refl owners forests note.from rid at fills.0 fills.1;
+      stay = subst (λ block. KeepsBlocksBut g.P.Pages shape s new def owners (λ other. other ≡ block)) (sym at) (keeps_in_block shape s s new def owners forests refl refl st note.from c.in_ok-rid.ensures.runs.touches);
+      places = λ ready.
+          placed_where_noted shape notes s def owners forests row (room_of c.args.rooms.now) c.requires.defined c.requires.fits ready c.deref.result.now is note c.of-room.ensures
+          (if_some_at _ c.in_ok-rid.field-0 rid c.in-Some.is c.in_ok-rid.ensures.known) new rid at fills.0 fills.1;
+      makes = λ ready. block_makes_along g.P.Pages shape s s new def row refl refl owners forests note.from rid.block at (if_some_at _ c.in_ok-rid.field-0 rid c.in-Some.is c.in_ok-rid.ensures.makes owners forests st);
+    }
 
 pub returns-in-Some-clause-runs : goal.returns-in-Some-clause-runs
 returns-in-Some-clause-runs g c =
@@ -88,19 +67,6 @@ returns-in-Some-clause-runs g c =
 
 pub returns-clause-places : goal.returns-clause-places
 returns-clause-places g c =
-    let s = c.args.pages.now in
-    let mid = c.put_where_noted.new.pages in
-    let told = c.in_ok-rid.ensures.runs.works.steady.is_told in
-    let same = c.in_ok-rid.ensures.kept c.in_default.is in
-    let from = room_of c.args.rooms.now in
-    IfOk-weaker c.place_by_search.result _ _
-    (λ rid places owners forests ready.
-    placed_along g.P.Pages c.args.shape c.args.notes.now c.place_by_search.new.notes s mid c.place_by_search.new.pages c.args.def.now told same from (room_of c.place_by_search.new.rooms) c.args.row.now rid owners forests
-    (places owners forests (ready_along g.P.Pages c.args.shape c.args.notes.now c.place_by_search.new.notes s mid c.place_by_search.new.pages c.args.def.now told same from owners forests ready)))
-    c.place_by_search.ensures.places
-
-pub returns-clause-anywhere : goal.returns-clause-anywhere
-returns-clause-anywhere g c =
     let shape = c.args.shape in
     let s = c.args.pages.now in
     let mid = c.put_where_noted.new.pages in
@@ -108,43 +74,15 @@ returns-clause-anywhere g c =
     let told = c.in_ok-rid.ensures.runs.works.steady.is_told in
     let same = c.in_ok-rid.ensures.kept c.in_default.is in
     IfOk-weaker c.place_by_search.result _ _
-    (λ rid places owners forests st.
-    anywhere_along shape def c.args.row.now c.args.notes.now c.place_by_search.new.notes s mid c.place_by_search.new.pages told same owners forests rid (places owners forests (stands_same shape s mid def owners forests told same st)))
-    c.place_by_search.ensures.anywhere
+    (λ rid placed owners forests st.
+    in_table_along g.P.Pages shape c.args.notes.now c.place_by_search.new.notes s mid c.place_by_search.new.pages def told same (room_of c.args.rooms.now) (room_of c.place_by_search.new.rooms) c.args.row.now rid owners forests
+    (placed owners forests (stands_same shape s mid def owners forests told same st)))
+    c.place_by_search.ensures.places
 
 pub returns-clause-full : goal.returns-clause-full
 returns-clause-full g c =
     no_place_result_along g.P.Pages c.args.shape c.args.notes.now c.place_by_search.new.notes c.args.pages.now c.put_where_noted.new.pages c.place_by_search.new.pages c.args.def.now c.in_ok-rid.ensures.runs.works.steady.is_told
     (c.in_ok-rid.ensures.kept c.in_default.is) (room_of c.args.rooms.now) c.args.row.now c.place_by_search.result c.place_by_search.ensures.full
-
-pub returns-clause-makes : goal.returns-clause-makes
-returns-clause-makes g c =
-    let shape = c.args.shape in
-    let s = c.args.pages.now in
-    let mid = c.put_where_noted.new.pages in
-    let new = c.place_by_search.new.pages in
-    let def = c.args.def.now in
-    let told = c.in_ok-rid.ensures.runs.works.steady.is_told in
-    let same = c.in_ok-rid.ensures.kept c.in_default.is in
-    IfOk-weaker c.place_by_search.result _ _
-    (λ rid makes owners forests ready.
-    block_makes_along g.P.Pages shape s mid new def c.args.row.now told same owners forests rid.block rid.block refl
-    (makes owners forests (ready_along g.P.Pages shape c.args.notes.now c.place_by_search.new.notes s mid new def told same (room_of c.args.rooms.now) owners forests ready)))
-    c.place_by_search.ensures.makes
-
-pub returns-clause-stay : goal.returns-clause-stay
-returns-clause-stay g c =
-    let shape = c.args.shape in
-    let s = c.args.pages.now in
-    let mid = c.put_where_noted.new.pages in
-    let new = c.place_by_search.new.pages in
-    let def = c.args.def.now in
-    let told = c.in_ok-rid.ensures.runs.works.steady.is_told in
-    let same = c.in_ok-rid.ensures.kept c.in_default.is in
-    IfOk-weaker c.place_by_search.result _ _
-    (λ rid stay owners forests st.
-    keeps_along shape s mid new def owners forests told same (λ block. block ≡ rid.block) (stay owners forests (stands_same shape s mid def owners forests told same st)))
-    c.place_by_search.ensures.stay
 
 pub returns-clause-runs : goal.returns-clause-runs
 returns-clause-runs g c =

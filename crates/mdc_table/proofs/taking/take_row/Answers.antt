@@ -24,29 +24,38 @@ returns-in_err-take_row-clause-runs g c =
     runs_exit c.from_residual.result c.from_residual.ensures.1 (runs_of_block c.args.shape c.args.def.now {fault = Some c.in_err-take_row.field-0.0} c.args.rid.block c.in_err-take_row.ensures.runs)
 
 pub returns-then-left-slots-clause-takes : goal.returns-then-left-slots-clause-takes
-returns-then-left-slots-clause-takes g c owners forests ready has =
-    let left = c.in_ok-take_row.field-0 in
-    row_taken_of_several c.args.shape c.args.notes.now c.take_row.new.notes c.args.pages.now c.take_row.new.pages c.args.def.now c.args.rid c.args.row.now owners forests (room_of c.args.rooms.now) left ready
-    (c.in_ok-take_row.ensures.takes owners forests ready.stands has) (c.in_ok-take_row.ensures.left owners forests ready.stands) (omega arith) (omega (arith, c.block_slots-slots.ensures))
+returns-then-left-slots-clause-takes g c owners forests st has =
+    let shape = c.args.shape in
+    let old = c.args.pages.now in
+    let new = c.take_row.new.pages in
+    let before = c.args.notes.now in
+    let noted = c.take_row.new.notes in
+    let def = c.args.def.now in
+    let taken = c.in_ok-take_row.ensures in
+    let empties = taken.takes owners forests st has in
+    record {
+      leaves = taken_anywhere shape before noted old new def c.args.rid c.args.row.now owners forests empties;
+      makes = taken.makes owners forests st;
+      takes = λ ready.
+          row_taken_of_several shape before noted old new def c.args.rid c.args.row.now owners forests (room_of c.args.rooms.now) c.in_ok-take_row.field-0 ready empties (taken.left owners forests st)
+          (omega arith) (omega (arith, c.block_slots-slots.ensures));
+    }
 
 pub returns-clause-takes : goal.returns-clause-takes
-returns-clause-takes g c owners forests ready has =
-    row_taken c.args.shape c.args.notes.now c.take_row.new.notes c.args.pages.now c.take_row.new.pages c.args.def.now c.args.rid c.args.row.now owners forests (room_of c.args.rooms.now) (room_of c.lower_note.new.rooms) ready
-    (c.in_ok-take_row.ensures.takes owners forests ready.stands has) c.lower_note.ensures.lowers
-
-pub returns-then-left-slots-clause-leaves : goal.returns-then-left-slots-clause-leaves
-returns-then-left-slots-clause-leaves g c owners forests st has =
-    taken_anywhere c.args.shape c.args.notes.now c.take_row.new.notes c.args.pages.now c.take_row.new.pages c.args.def.now c.args.rid c.args.row.now owners forests (c.in_ok-take_row.ensures.takes owners forests st has)
-
-pub returns-clause-leaves : goal.returns-clause-leaves
-returns-clause-leaves g c owners forests st has =
-    taken_anywhere c.args.shape c.args.notes.now c.take_row.new.notes c.args.pages.now c.take_row.new.pages c.args.def.now c.args.rid c.args.row.now owners forests (c.in_ok-take_row.ensures.takes owners forests st has)
-
-pub returns-then-left-slots-clause-makes : goal.returns-then-left-slots-clause-makes
-returns-then-left-slots-clause-makes g c = c.in_ok-take_row.ensures.makes
-
-pub returns-clause-makes : goal.returns-clause-makes
-returns-clause-makes g c = c.in_ok-take_row.ensures.makes
+returns-clause-takes g c owners forests st has =
+    let shape = c.args.shape in
+    let old = c.args.pages.now in
+    let new = c.take_row.new.pages in
+    let before = c.args.notes.now in
+    let noted = c.take_row.new.notes in
+    let def = c.args.def.now in
+    let taken = c.in_ok-take_row.ensures in
+    let empties = taken.takes owners forests st has in
+    record {
+      leaves = taken_anywhere shape before noted old new def c.args.rid c.args.row.now owners forests empties;
+      makes = taken.makes owners forests st;
+      takes = λ ready. row_taken shape before noted old new def c.args.rid c.args.row.now owners forests (room_of c.args.rooms.now) (room_of c.lower_note.new.rooms) ready empties c.lower_note.ensures.lowers;
+    }
 
 pub returns-then-left-slots-clause-stay : goal.returns-then-left-slots-clause-stay
 returns-then-left-slots-clause-stay g c owners forests st =
