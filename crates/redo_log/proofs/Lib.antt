@@ -1,0 +1,17 @@
+pub mod Adding
+pub mod Appends
+pub mod Calls
+pub mod Checkpoints
+pub mod Finds
+pub mod Homing
+pub mod Keeps
+pub mod Laying
+pub mod Leading
+pub mod Overlays
+pub mod Puts
+pub mod Reaches
+pub mod ReadRecords
+pub mod Records
+pub mod Steps
+pub mod Stored
+pub mod Strays
