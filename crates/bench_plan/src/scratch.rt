@@ -4,7 +4,7 @@ ghost use Rattle.store_api.specs.Extents.{is_shape};
 
 use crate::Stop;
 use mdc_outside::Host;
-use page_store::{FileStore, make};
+use page_store::{FileStore, Untold, make};
 use std::alloc::Global;
 use std::marker::Brand;
 use store_api::Pages;
@@ -30,7 +30,7 @@ pub fn opened<H: Host + Drop>(alloc: Global, mut host: H) -> Result<FileStore<H>
     ensures unmarked { IfOk result (λ store. (⟦<FileStore<H> as Pages>⟧.state store).marked ≡ None) }
 {
     host.attach(FILE, false)?;
-    match FileStore::<H, Brand>::open(alloc, host, CACHE) {
+    match FileStore::<H, Brand, Untold>::open(alloc, host, Untold, CACHE) {
         Ok(store) => Ok(store),
         Err(unopened) => Err(Stop::Unopened(unopened.fault)),
     }

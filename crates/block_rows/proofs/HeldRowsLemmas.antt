@@ -200,12 +200,19 @@ module _ {S : Type 0} (g : Ghosts S) (shape : Shape) (def : TableDef) (block : �
   })
 
   -- a call on one page, behind a run that changed nothing
+  pub runs_on_page : {columns : List ColumnDef} {First Mine Kind : ℕ → Type 0} {fault : Option StoreFault} {old mid new : S} (p j : ℕ) → columns ≡ def.columns → p ≡ first shape block + j → block < shape.extents → j < shape.extent_pages
+      → ((q : ℕ) → First q → Mine q) → ((q : ℕ) → q ≡ p → Kind q)
+      → RunsOverPages g Mine Kind (BreaksRows g shape old def block) old mid None → (g.state mid).work ≡ (g.state old).work
+      → RunsOverPages g First (OnlyPage p) (RefusesPage g columns mid p) mid new fault → RunsOverPages g Mine Kind (BreaksRows g shape old def block) old new fault
+  runs_on_page {mid = mid} p j of at below less mine kind so_far same call =
+      runs_then so_far call (λ q there is. mine q is) kind
+      (λ damage refuses. breaks_of_page p j at below less so_far.works.steady.is_told same damage (subst (λ k. RefusesPage g k mid p damage) of refuses))
+
   pub runs_page : {columns : List ColumnDef} {First Mine : ℕ → Type 0} {fault : Option StoreFault} {old mid new : S} (p j : ℕ) → columns ≡ def.columns → p ≡ first shape block + j → block < shape.extents → j < shape.extent_pages → ((q : ℕ) → First q → Mine q)
       → RunsOverPages g Mine (IsPageOfBlock shape block) (BreaksRows g shape old def block) old mid None → (g.state mid).work ≡ (g.state old).work
       → RunsOverPages g First (OnlyPage p) (RefusesPage g columns mid p) mid new fault → RunsOverPages g Mine (IsPageOfBlock shape block) (BreaksRows g shape old def block) old new fault
-  runs_page {mid = mid} p j of at below less mine so_far same call =
-      runs_then so_far call (λ q there is. mine q is) (λ q is. only_page_of_block shape block q j below less (is ∙ at))
-      (λ damage refuses. breaks_of_page p j at below less so_far.works.steady.is_told same damage (subst (λ k. RefusesPage g k mid p damage) of refuses))
+  runs_page p j of at below less mine so_far same call =
+      runs_on_page p j of at below less mine (λ q is. only_page_of_block shape block q j below less (is ∙ at)) so_far same call
 
   -- each page of it that was brought so far, and the next
   pub once_more : {Kind : ℕ → Type 0} {old mid new : S} (p j : ℕ) → p ≡ first shape block + j → BringsOnce g (PagesBetween (first shape block) (first shape block + j)) old mid → BringsOnce g (OnlyPage p) mid new

@@ -1,6 +1,7 @@
 pub mod GivingLemmas
 pub mod HeldRowsLemmas
 pub mod CellColumnsLemmas
+pub mod CountedRowsLemmas
 pub mod HitStepsLemmas
 pub mod KeptRowsLemmas
 pub mod ListedSlotsLemmas

@@ -1,9 +1,9 @@
 -- Rows in some slots: those of slots below a bound and of slots from it on, and one slot more.
-use Rattle.std.proofs.Common.{◌≡◌, ◌∙◌, ◌<◌, ◌≤◌, ◌+◌, ℕ, zero, suc, Bool, true, false, cond, List, [], ◌∷◌, ◌++◌, Option, Some, None, drop, get_or, length, take, refl, ap, sym, inl, inr, arith, subst}
-use Rattle.std.specs.Prelude.{◌==◌, ◌||◌, nat_lt, Contains}
+use Rattle.std.proofs.Common.{◌≡◌, ◌∙◌, ◌<◌, ◌≤◌, ◌+◌, ℕ, zero, suc, Bool, true, false, cond, List, [], ◌∷◌, ◌++◌, Option, Some, None, drop, get_or, length, length-append, take, refl, ap, sym, inl, inr, arith, subst}
+use Rattle.std.specs.Prelude.{◌==◌, ◌||◌, Contains}
 use Rattle.std.specs.List.{AllByRecursion, list_any}
 use Rattle.std.specs.List.Sorted.{IsNonDecreasingBy}
-use Rattle.std.proofs.lemmas.Bool.{cases_lt, eq-eqb, lt-ltb, ne_eqb}
+use Rattle.std.proofs.lemmas.Bool.{cases_lt, eq-eqb, ne_eqb}
 use Rattle.std.proofs.lemmas.List.{append-nil, append_assoc, take_more}
 use Rattle.std.proofs.lemmas.List.Elements.{Contains-append_cases, Contains-append_left, Contains-append_right}
 use Rattle.std.proofs.lemmas.List.Folds.{list_any-append}
@@ -168,11 +168,48 @@ rows_one_more slots i slot block base k xs rise low at is =
     ∙ (rows_of_both (take i slots) (slot ∷ []) block base slot xs here (omega arith, tt)
     ∙ ap (λ l. rows_in_slots (take i slots) rows ++ l) (rows_of_one block base k slot xs is))
 
--- whether there is a row among more
-pub some_of_both : (rows more : List PlacedRow) → (nat_lt 0 (length rows) || nat_lt 0 (length more)) ≡ nat_lt 0 (length (rows ++ more))
-some_of_both [] more = refl
-some_of_both (row ∷ rows) more =
-    ap (λ b. b || nat_lt 0 (length more)) (lt-ltb 0 (suc (length rows)) (omega arith)) ∙ sym (lt-ltb 0 (suc (length (rows ++ more))) (omega arith))
+-- ---- slots with a row
+
+-- one of some rows lies in the slot
+abbrev pub HasRowInSlot : List PlacedRow → ℕ → Type 0
+HasRowInSlot rows slot = (placed : PlacedRow) × Contains rows placed × (placed.rid.slot ≡ slot)
+
+-- it is among those in the slot
+is_in_slot : (slot : ℕ) (rows : List PlacedRow) → HasRowInSlot rows slot → 0 < length (rows_in_slots (slot ∷ []) rows)
+is_in_slot slot [] (placed, (k, low, is), at) = absurd (omega (arith, low))
+is_in_slot slot (row ∷ rows) (placed, (zero, low, is), at) =
+    let rest = rows_in_slots (slot ∷ []) rows in
+    let here : slot ≡ row.rid.slot = sym (ap (λ (r : PlacedRow). r.rid.slot) is ∙ at) in
+    subst (λ l. 0 < length l) (sym (ap (λ b. cond (b || false) (row ∷ rest) rest) (eq-eqb slot row.rid.slot here))) (omega arith)
+is_in_slot slot (row ∷ rows) (placed, (suc k, low, is), at) =
+    let rest = rows_in_slots (slot ∷ []) rows in
+    more ((slot == row.rid.slot) || false) row rest (is_in_slot slot rows (placed, (k, omega (arith, low), is), at))
+  where
+    more : (passes : Bool) (first : PlacedRow) (rest : List PlacedRow) → 0 < length rest → 0 < length (cond passes (first ∷ rest) rest)
+    more true first rest some = omega arith
+    more false first rest some = some
+
+no_more_than_one : (block slot : ℕ) (row : Option Row) → length (row_at block slot row) ≤ 1
+no_more_than_one block slot None = omega arith
+no_more_than_one block slot (Some row) = omega arith
+
+-- Rising slots that have a row each have as many rows as there are slots.
+pub each_has_row : (block : ℕ) (xs : List (Option Row)) (slots : List ℕ) → IsRising IsLower slots → ((slot : ℕ) → Contains slots slot → HasRowInSlot (rows_from_slot block 0 xs) slot)
+    → length (rows_in_slots slots (rows_from_slot block 0 xs)) ≡ length slots
+each_has_row block xs [] rise each = ap length (rows_of_none (rows_from_slot block 0 xs))
+each_has_row block xs (slot ∷ slots) rise each =
+    let rows = rows_from_slot block 0 xs in
+    let rest = each_has_row block xs slots (rise_tail slot slots rise) (λ other (k, low, is). each other (suc k, omega (arith, low), is)) in
+    let both = rows_of_both (slot ∷ []) slots block 0 (slot + 1) xs (omega arith, tt) (above_first slot slots rise) in
+    omega (
+      arith,
+      ap length both,
+      length-append (rows_in_slots (slot ∷ []) rows) (rows_in_slots slots rows),
+      is_in_slot slot rows (each slot (0, omega arith, refl)),
+      ap length (rows_of_one block 0 slot slot xs (omega arith)),
+      no_more_than_one block slot (get_or xs slot None),
+      rest,
+    )
 
 -- ---- the slots of a page
 

@@ -1,4 +1,5 @@
 pub mod CellColumns
+pub mod CountedRows
 pub mod Giving
 pub mod HeldRows
 pub mod ListedSlots

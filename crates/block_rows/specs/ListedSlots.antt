@@ -1,5 +1,5 @@
 -- The rows in some slots of a block, and the pages in which these slots lie.
-use Rattle.std.specs.Prelude.{◌≡◌, ◌≤◌, ◌<◌, ◌+◌, ◌/◌, ◌==◌, ℕ, Bool, List, Option, filter, length, nat_lt, Contains}
+use Rattle.std.specs.Prelude.{◌≡◌, ◌≤◌, ◌<◌, ◌+◌, ◌/◌, ◌==◌, ℕ, List, Option, filter, length, Contains}
 use Rattle.std.specs.List.{AllByRecursion, list_any}
 use Rattle.mdc_values.specs.Rising.{IsLower, IsRising}
 use Rattle.mdc_ast.specs.declared.definition.ColumnDef.{ColumnDef}
@@ -39,12 +39,12 @@ pub record AreOnPage (first count : ℕ) (slots : List ℕ) : Type 0 where
   pub behind : AllByRecursion (λ slot. first ≤ slot) slots
   pub before : AllByRecursion (λ slot. slot < first + count) slots
 
--- Where some slots are listed the page begins as a row page does. A sink was given its rows in them that qualify, and whether there is
--- one is known.
-pub record SeesSlotsOfPage {K : Type 0} (sinks : Ghosts K) (columns : List ColumnDef) (page : List ℕ) (block first : ℕ) (slots : List ℕ) (pred : Option Pred) (old new : K) (some : Bool) : Type 0 where
+-- Where some slots are listed the page begins as a row page does. A sink was given its rows in them that qualify, and how many of them
+-- have a row is known.
+pub record SeesSlotsOfPage {K : Type 0} (sinks : Ghosts K) (columns : List ColumnDef) (page : List ℕ) (block first : ℕ) (slots : List ℕ) (pred : Option Pred) (old new : K) (count : ℕ) : Type 0 where
   pub starts : 0 < length slots → StartsAsRowPage columns page
   pub given_rows : WasGiven sinks old new (qualifying pred (rows_in_slots slots (rows_from_slot block first (rows_of columns page))))
-  pub some_is : some ≡ nat_lt 0 (length (rows_in_slots slots (rows_from_slot block first (rows_of columns page))))
+  pub counted : count ≡ length (rows_in_slots slots (rows_from_slot block first (rows_of columns page)))
 
 -- this page, where some slots are listed
 abbrev pub IsPageForSlots : List ℕ → ℕ → ℕ → Type 0

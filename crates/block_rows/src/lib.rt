@@ -12,6 +12,7 @@
 
 mod cell_columns;
 mod changing;
+mod counted;
 mod hit;
 mod met_rows;
 mod page_changing;
@@ -25,6 +26,7 @@ mod slot_reading;
 
 pub use cell_columns::CellColumns;
 pub use changing::{clear_slot, put_first, put_slot, wipe_block};
+pub use counted::scan_counted;
 pub use hit::Hit;
 pub use reading::{row_in_slot, rows_of_block, scan_block};
 pub use row_sink::RowSink;

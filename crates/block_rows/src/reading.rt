@@ -15,9 +15,9 @@ ghost use Rattle.block_rows.specs.Giving.{WasGiven};
 ghost use Rattle.block_rows.specs.HeldRows.{BreaksRows, HasReadValues, HaveReadValues, HoldsRows, placed_row, qualifying};
 ghost use Rattle.block_rows.specs.SeenRows.{AreInCell, HasSeenRows, SeesSlot};
 
-use crate::met_rows::MetRows;
-use crate::page_reading::{row_in_page, scan_page};
-use crate::places::{first_page, first_slot, place_of_slot};
+use crate::counted::scan_counted;
+use crate::page_reading::row_in_page;
+use crate::places::place_of_slot;
 use crate::{CellColumns, Hit, RowSink, SeenRows};
 use mdc_ast::{Cell, Row, TableDef};
 use mdc_values::Rid;
@@ -25,6 +25,9 @@ use row_filter::RowFilter;
 use row_page::RowShape;
 use std::alloc::Global;
 use store_api::{Pages, Shape, StoreFault};
+
+/// More rows than a block has.
+const UNBOUNDED: u16 = u16::MAX;
 
 /// Gives a sink the rows of a block that a filter takes, by rising slot, and tells how many rows there are, and whether they are of a
 /// cell, or of one cell where none is given. They are compared by the columns of the cell that are given. Each page of the block comes
@@ -60,29 +63,9 @@ pub fn scan_block<P: Pages, K: RowSink>(
     ensures once { BringsOnce P.Pages (IsPageOfBlock shape block) pages.old pages.new }
     ensures runs { RunsOverPages P.Pages NoPage (IsPageOfBlock shape block) (BreaksRows P.Pages shape pages.old def.now block) pages.old pages.new (fault_of result) }
 {
-    let first = first_page(shape, pages, block)?;
-    let row_shape = RowShape::of(&def.columns);
-    let mut met = MetRows::none();
-    for j in 0..shape.extent_pages {
-        let slot = first_slot(&row_shape, shape, j);
-        let rid = Rid { block, slot };
-        scan_page(
-            alloc,
-            &row_shape,
-            cells,
-            cell,
-            pages,
-            first + j,
-            rid,
-            filter,
-            &mut met,
-            sink,
-        )?;
-    }
-    Ok(SeenRows {
-        rows: met.rows,
-        in_cell: met.in_cell,
-    })
+    scan_counted(
+        alloc, def, shape, pages, block, UNBOUNDED, cells, cell, filter, sink,
+    )
 }
 
 /// Copies of the rows of a block, by rising slot, each with its place. Each page of the block comes to hand once. Damaged where a page

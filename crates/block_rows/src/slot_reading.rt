@@ -1,5 +1,5 @@
 // The rows in some slots of a block.
-ghost use Rattle.std.specs.Prelude.{◌≡◌, ◌≤◌, ◌<◌, false, drop, length, nat_lt, take, IsTrue, IfErr, IfOk, OnOk};
+ghost use Rattle.std.specs.Prelude.{◌≡◌, ◌≤◌, ◌<◌, false, drop, length, take, IsTrue, IfErr, IfOk, OnOk};
 ghost use Rattle.std.specs.List.{AllByRecursion};
 ghost use Rattle.mdc_values.specs.Rising.{IsLower, IsRising};
 ghost use Rattle.mdc_ast.specs.declared.row.Row.{Row};
@@ -28,7 +28,7 @@ use row_page::RowShape;
 use std::alloc::Global;
 use store_api::{Page, Pages, Shape, StoreFault, bring};
 
-/// Gives a sink the rows in some slots of a block that a filter takes, by rising slot, and says whether there is a row in one of them.
+/// Gives a sink the rows in some slots of a block that a filter takes, by rising slot, and says how many of the slots have a row.
 /// Of the block's pages those in which one of the slots lies come to hand, each once, and a row is judged where it lies. A slot past
 /// the last of the block is passed over. Damaged where such a page isn't a row page.
 pub fn scan_slots<P: Pages, K: RowSink>(
@@ -40,7 +40,7 @@ pub fn scan_slots<P: Pages, K: RowSink>(
     slots: &[u16],
     filter: &mut RowFilter,
     sink: &mut K,
-) -> Result<bool, StoreFault>
+) -> Result<usize, StoreFault>
     requires columns { AreRowColumns def.now.columns }
     requires below { block < shape.extents }
     requires rise { IsRising IsLower slots.now }
@@ -50,8 +50,8 @@ pub fn scan_slots<P: Pages, K: RowSink>(
     requires going { (P.state pages.old).ended ≡ false }
     ensures given { OnOk result (IsTrue (P.state pages.old).is_told
         → WasGiven K.RowSink sink.old sink.new (qualifying filter.old.pred.now (rows_in_slots slots.now (rows_in_block shape (pages_of P.Pages pages.old) def.now block)))) }
-    ensures some { IfOk result (λ some. IsTrue (P.state pages.old).is_told
-        → some ≡ nat_lt 0 (length (rows_in_slots slots.now (rows_in_block shape (pages_of P.Pages pages.old) def.now block)))) }
+    ensures counted { IfOk result (λ count. IsTrue (P.state pages.old).is_told
+        → count ≡ length (rows_in_slots slots.now (rows_in_block shape (pages_of P.Pages pages.old) def.now block))) }
     ensures seen { OnOk result (IsTrue (P.state pages.old).is_told → HasSeenSlots shape (pages_of P.Pages pages.old) def.now block slots.now) }
     ensures fits { OnOk result (K.RowSink.is_for def.now.columns sink.new) }
     ensures pred { filter.new.pred.now ≡ filter.old.pred.now }
@@ -63,15 +63,25 @@ pub fn scan_slots<P: Pages, K: RowSink>(
     let first = first_page(shape, pages, block)?;
     let row_shape = RowShape::of(&def.columns);
     let mut left = slots;
-    let mut some = false;
+    let mut count: usize = 0;
     for j in 0..shape.extent_pages {
         let slot = first_slot(&row_shape, shape, j);
         let (here, behind) = left.split_at(count_below(left, slot + row_shape.slots()));
         let rid = Rid { block, slot };
         left = behind;
-        some |= scan_slots_of_page(alloc, &row_shape, pages, first + j, rid, here, filter, sink)?;
+        let more = scan_slots_of_page(
+            alloc,
+            &row_shape,
+            pages,
+            first + j,
+            rid,
+            here,
+            filter,
+            sink,
+        )?;
+        count += more;
     }
-    Ok(some)
+    Ok(count)
 }
 
 /// How many of some slots lie below a bound.
@@ -84,8 +94,8 @@ fn count_below(slots: &[u16], bound: u16) -> usize
     slots.partition_point(|slot| *slot < bound)
 }
 
-/// Gives a sink the rows in some slots that lie in page p, those that a filter takes, and says whether there is one. The first slot of
-/// the page is that of the block which is given. Where no slot is listed the page doesn't come to hand.
+/// Gives a sink the rows in some slots that lie in page p, those that a filter takes, and says how many of the slots have a row. The
+/// first slot of the page is that of the block which is given. Where no slot is listed the page doesn't come to hand.
 fn scan_slots_of_page<P: Pages, K: RowSink>(
     alloc: Global,
     shape: &RowShape<'_>,
@@ -95,15 +105,16 @@ fn scan_slots_of_page<P: Pages, K: RowSink>(
     slots: &[u16],
     filter: &mut RowFilter,
     sink: &mut K,
-) -> Result<bool, StoreFault>
+) -> Result<usize, StoreFault>
     requires on_page { AreOnPage first.slot (slot_count shape.now.columns.now) slots.now }
     requires wide { length shape.now.columns.now ≡ length filter.old.values }
     requires judged { (row : Row) → HasReadValues shape.now.columns.now row → IsTrue (may_filter filter.old.pred.now row.values) }
     requires fits { K.RowSink.is_for shape.now.columns.now sink.old }
     requires going { (P.state pages.old).ended ≡ false }
     requires within { p < length (P.state pages.old).work }
-    ensures sees { IfOk result (λ some. IsTrue (P.state pages.old).is_told → SeesSlotsOfPage K.RowSink shape.now.columns.now (page_at (P.state pages.old).work p) first.block first.slot slots.now filter.old.pred.now
-        sink.old sink.new some) }
+    ensures sees { IfOk result (λ count. IsTrue (P.state pages.old).is_told → SeesSlotsOfPage K.RowSink shape.now.columns.now (page_at (P.state pages.old).work p) first.block first.slot slots.now filter.old.pred.now
+        sink.old sink.new count) }
+    ensures within { IfOk result (λ count. count ≤ length slots.now) }
     ensures fits { OnOk result (K.RowSink.is_for shape.now.columns.now sink.new) }
     ensures pred { filter.new.pred.now ≡ filter.old.pred.now }
     ensures width { length filter.new.values ≡ length filter.old.values }
@@ -112,11 +123,11 @@ fn scan_slots_of_page<P: Pages, K: RowSink>(
     ensures runs { RunsOverPages P.Pages NoPage (OnlyPage p) (RefusesPage P.Pages shape.now.columns.now pages.old p) pages.old pages.new (fault_of result) }
 {
     if slots.is_empty() {
-        return Ok(false);
+        return Ok(0);
     }
     bring(pages, p)?;
     match scan_slots_in(alloc, shape, pages.page(), p, first, slots, filter, sink) {
-        Ok(some) => Ok(some),
+        Ok(count) => Ok(count),
         Err(fault) => Err(fault),
     }
 }
@@ -131,12 +142,13 @@ fn scan_slots_in<K: RowSink>(
     slots: &[u16],
     filter: &mut RowFilter,
     sink: &mut K,
-) -> Result<bool, StoreFault>
+) -> Result<usize, StoreFault>
     requires on_page { AreOnPage first.slot (slot_count shape.now.columns.now) slots.now }
     requires wide { length shape.now.columns.now ≡ length filter.old.values }
     requires judged { (row : Row) → HasReadValues shape.now.columns.now row → IsTrue (may_filter filter.old.pred.now row.values) }
     requires fits { K.RowSink.is_for shape.now.columns.now sink.old }
     ensures sees { IfOk result (SeesSlotsOfPage K.RowSink shape.now.columns.now page.now first.block first.slot slots.now filter.old.pred.now sink.old sink.new) }
+    ensures within { IfOk result (λ count. count ≤ length slots.now) }
     ensures fits { OnOk result (K.RowSink.is_for shape.now.columns.now sink.new) }
     ensures pred { filter.new.pred.now ≡ filter.old.pred.now }
     ensures width { length filter.new.values ≡ length filter.old.values }
@@ -145,17 +157,17 @@ fn scan_slots_in<K: RowSink>(
     let Some(view) = shape.look(page) else {
         return Err(no_row_page(p));
     };
-    let mut some = false;
+    let mut count: usize = 0;
     for slot in slots {
         let Some(row) = view.row(*slot - first.slot) else {
             continue;
         };
-        some = true;
+        count += 1;
         let rid = Rid {
             block: first.block,
             slot: *slot,
         };
         give_if_taken(alloc, &row, rid, filter, sink)?;
     }
-    Ok(some)
+    Ok(count)
 }

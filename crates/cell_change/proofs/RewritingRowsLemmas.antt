@@ -15,12 +15,12 @@ use Rattle.store_api.proofs.RunsOverPagesLemmas.{runs_as, runs_wider}
 use Rattle.extent_map.specs.declared.kind.Kind.{Kind}
 use Rattle.extent_map.specs.declared.space_notes.SpaceNotes.{SpaceNotes}
 use Rattle.table_trees.specs.RowCells.{AreOfOneCell}
-use Rattle.table_trees.specs.SpaceChanges.{IsSameSpace, MakesChanges, RunsFull, SpaceChange, added_entries, removed_entries}
+use Rattle.table_trees.specs.SpaceChanges.{MakesChanges, RunsFull, SpaceChange, added_entries, removed_entries}
 use Rattle.table_trees.proofs.SpaceChainsLemmas.{changes_then, full_before, full_then, no_changes}
 use Rattle.mdc_sound.specs.Placing.{ChangesRow, Spot, SpotsAfterReturns, block_slot_count}
 use Rattle.mdc_sound.specs.Placing.Spot.{UsedBlock}
 use Rattle.mdc_sound.specs.RunningFull.{UpdateRunsFull, UpdatingChanges, differing_indexes, listings_in}
-use Rattle.mdc_sound.specs.StandingTable.{BreaksExpected, ChangesTable, HasRowAt, IsReadyTable, IsTreeSpaceOfTable, KeepsBlocksBut, OverwritesRow, RoomNote, StandsTable, TableForests, pages_of, spots_of}
+use Rattle.mdc_sound.specs.StandingTable.{BreaksExpected, HasRowAt, IsReadyTable, IsTreeSpaceOfTable, KeepsBlocksBut, OverwritesRow, RoomNote, StandsTable, TableForests, pages_of, spots_of}
 use Rattle.mdc_sound.specs.TableRows.{PlacedRow}
 use Rattle.mdc_sound.proofs.ChangedRowsLemmas.{rows_after_overwriting}
 use Rattle.row_entries.specs.ChosenIndexes.{HasRecordKeys}
@@ -29,7 +29,8 @@ use Rattle.row_entries.specs.SoundEntries.{placed_at}
 use Rattle.row_entries.proofs.StandingRowsLemmas.{has_only}
 use Rattle.table_blocks.specs.BlockSteps.{HasThisRow}
 use Rattle.mdc_table.specs.KnownBlocks.{IsExpectedPlace, IsExpectedSpace, IsUsedIfKnown}
-use Rattle.mdc_table.specs.TableReading.{HasRowOfCell}
+use Rattle.mdc_table.specs.RowSteps.{OverwritesRowInTable}
+use Rattle.mdc_table.specs.WhereStanding.{WhereStandsWithRow}
 use Rattle.mdc_table.proofs.KnownBlocksLemmas.{used_with_row}
 use Rattle.cell_change.specs.ExpectedTables.{WithSoundIndexes}
 use Rattle.cell_change.specs.RowChanges.{ChangesOneRow, TurnsEntries, TurnsRowBy}
@@ -41,7 +42,11 @@ use Rattle.cell_change.proofs.SpotStepsLemmas.{claims_leave, returns_leave, room
 use Rattle.cell_change.proofs.TableStepsLemmas.{changes_table_then, tree_space}
 
 module _ {S : Type 0} (g : Ghosts S) (shape : Shape) {noted : SpaceNotes} {room_of : Entry → RoomNote} (old middle : S) (def : TableDef) (row other : Row) (rid : Rid) (owners : List Kind) (forests : TableForests)
-    (st : StandsTable g shape old def owners forests) (cell : AreOfOneCell def row.values other.values) (over : OverwritesRow g shape noted noted room_of old middle def owners forests row other rid) where
+    (ready : IsReadyTable g shape noted room_of old def owners forests) (cell : AreOfOneCell def row.values other.values) (wrote : OverwritesRowInTable g shape room_of old middle def row other rid owners forests) where
+  -- the other row lies in the place
+  abbrev over : OverwritesRow g shape noted noted room_of old middle def owners forests row other rid
+  over = wrote.overwrites cell noted ready
+
   abbrev spots_old : List Spot
   spots_old = spots_of g shape old def owners forests
 
@@ -65,11 +70,11 @@ module _ {S : Type 0} (g : Ghosts S) (shape : Shape) {noted : SpaceNotes} {room_
     abbrev turns : ChangesRow def (block_slot_count shape def) spots_old rid row other renews.mid rid
     turns = ChangesRow.stays over.slots cell over.lay (subst (λ (spots : List Spot). SpotsAfterReturns spots renews.mid) over.spots renews.returns)
 
-    pub rewrites : length (pages_of g old) ≤ length (pages_of g middle) → length (pages_of g middle) ≤ length (pages_of g new) → IsSameSpace shape (pages_of g old) (pages_of g middle)
+    pub rewrites : length (pages_of g old) ≤ length (pages_of g middle) → length (pages_of g middle) ≤ length (pages_of g new)
         → MakesChanges shape (pages_of g middle) asked (pages_of g new) → KeepsBlocksBut g shape old middle def owners (λ block. block ≡ rid.block)
         → ChangesOneRow g shape noted now room_of old new def row other rid rid owners forests
-    rewrites longer still_longer same makes stay =
-        let rows = rows_after_overwriting g shape room_of old middle def owners forests st row other rid over in
+    rewrites longer still_longer makes stay =
+        let rows = rows_after_overwriting g shape room_of old middle def owners forests ready.stands row other rid over in
         let forests_now = with_indexes forests renews.indexes_now in
         record {
           owners_now = renews.owners_now;
@@ -85,7 +90,7 @@ module _ {S : Type 0} (g : Ghosts S) (shape : Shape) {noted : SpaceNotes} {room_
           are = subst (λ (now : List PlacedRow). IsPermutation (placed_at rid other ∷ rows.0) now) (sym renews.table.rows) rows.2;
           space = record {
             changes = asked;
-            makes = changes_then shape (pages_of g old) (pages_of g middle) (pages_of g new) [] asked (no_changes shape (pages_of g old) (pages_of g middle) same) makes;
+            makes = changes_then shape (pages_of g old) (pages_of g middle) (pages_of g new) [] asked (no_changes shape (pages_of g old) (pages_of g middle) wrote.makes) makes;
             turns = TurnsRowBy.stays cell turns renews.claims;
           };
           blocks = keeps_as (keeps_then over.changes (λ e none. none) stay renews.table.blocks) (λ block may. elim may [ inl same ↦ inl same | inr wrong ↦ absurd wrong ]);
@@ -93,31 +98,16 @@ module _ {S : Type 0} (g : Ghosts S) (shape : Shape) {noted : SpaceNotes} {room_
 
   -- ---- they run full
 
-  pub rewriting_full : IsSameSpace shape (pages_of g old) (pages_of g middle) → RunsFull shape (pages_of g middle) asked → UpdateRunsFull shape (pages_of g old) def ((placed_at rid row, other) ∷ [])
-  rewriting_full same full =
+  pub rewriting_full : RunsFull shape (pages_of g middle) asked → UpdateRunsFull shape (pages_of g old) def ((placed_at rid row, other) ∷ [])
+  rewriting_full full =
       record {
         spots = spots_old;
         changes = asked ++ [];
-        shows = shows_spots g shape old def owners forests st;
+        shows = shows_spots g shape old def owners forests ready.stands;
         rising = λ i j d low high. absurd (omega (arith, low, high));
         updating = UpdatingChanges.stays cell (ChangesRow.stays over.slots cell over.lay (same_returns spots_with)) (same_claims spots_with) UpdatingChanges.none;
-        full = full_before shape (pages_of g old) asked [] (full_then shape (pages_of g old) (pages_of g middle) [] asked (no_changes shape (pages_of g old) (pages_of g middle) same) full);
+        full = full_before shape (pages_of g old) asked [] (full_then shape (pages_of g old) (pages_of g middle) [] asked (no_changes shape (pages_of g old) (pages_of g middle) wrote.makes) full);
       }
-
--- ---- what the call that puts the other row into the place says where the table is ready
-
-module _ {S : Type 0} (g : Ghosts S) (shape : Shape) (noted : SpaceNotes) (room_of : Entry → RoomNote) (old middle : S) (def : TableDef) (row : Row) where
-  pub overwrites_ready : (other : Row) (rid : Rid) → AreOfOneCell def row.values other.values
-      → ((noted : SpaceNotes) (owners : List Kind) (forests : TableForests) (was : Row) → IsReadyTable g shape noted room_of old def owners forests → HasRowOfCell g shape old def rid was other owners forests
-      → OverwritesRow g shape noted noted room_of old middle def owners forests was other rid)
-      → (owners : List Kind) (forests : TableForests) → IsReadyTable g shape noted room_of old def owners forests → HasThisRow g shape old def rid row owners forests
-      → OverwritesRow g shape noted noted room_of old middle def owners forests row other rid
-  overwrites_ready other rid cell overwrites owners forests ready has = overwrites noted owners forests row ready (record { slots = has.slots; lies = has.lies; one_cell = cell })
-
-  pub same_space : (rid : Rid)
-      → ((noted : SpaceNotes) (owners : List Kind) (forests : TableForests) → IsReadyTable g shape noted room_of old def owners forests → HasRowAt g shape old def rid owners forests → IsSameSpace shape (pages_of g old) (pages_of g middle))
-      → (owners : List Kind) (forests : TableForests) → IsReadyTable g shape noted room_of old def owners forests → HasThisRow g shape old def rid row owners forests → IsSameSpace shape (pages_of g old) (pages_of g middle)
-  same_space rid makes owners forests ready has = makes noted owners forests ready (has_row g shape old def rid row owners forests has)
 
 -- ---- runs
 
@@ -143,21 +133,21 @@ module _ {S : Type 0} (g : Ghosts S) (shape : Shape) (old : S) (def : TableDef) 
     broken = λ owners forests st expected. is.broken owners forests st (has_row g shape old def rid row owners forests expected.0);
   })
 
-  pub runs_rewritten : {known : Option ℕ} {noted : SpaceNotes} (middle : S) (other : Row) → IsTableDef def.number def → HasRecordKeys def row.values → HasRecordKeys def other.values
-      → ((owners : List Kind) (forests : TableForests) → StandsTable g shape old def owners forests → This owners forests → ChangesTable g shape noted noted old middle def owners forests owners forests)
+  pub runs_rewritten : {known : Option ℕ} (middle : S) (other : Row) → IsTableDef def.number def → HasRecordKeys def row.values → HasRecordKeys def other.values
+      → WhereStandsWithRow g shape old def rid row (StandsTable g shape middle def)
       → {new : S} {fault : Option StoreFault}
       → RunsOverPages g (IsExpectedPlace g shape old def (IsUsedIfKnown known rid.block)) (IsExpectedPlace g shape old def (IsUsedIfKnown known rid.block)) (BreaksExpected g shape old def (HasRowAt g shape old def rid)) old middle None
       → RunsOverPages g (IsTreeSpaceOfTable g shape middle def) (IsTreeSpaceOfTable g shape middle def) (BreaksExpected g shape middle def (HasRowEntriesOnly def row other rid)) middle new fault
       → RunsOverPages g (IsExpectedSpace g shape old def This) (IsExpectedSpace g shape old def This) Breaks old new fault
-  runs_rewritten {known} middle other defined keys other_keys leaves first second = runs_as first second (λ p low is. known_place known p is) (λ p low mine. late p mine) (known_place known) late breaks
+  runs_rewritten {known} middle other defined keys other_keys stands first second = runs_as first second (λ p low is. known_place known p is) (λ p low mine. late p mine) (known_place known) late breaks
     where
       late : (p : ℕ) → IsTreeSpaceOfTable g shape middle def p → IsExpectedSpace g shape old def This p
-      late p mine owners forests st this = tree_space shape def owners forests p (mine owners forests (leaves owners forests st this).stands)
+      late p mine owners forests st this = tree_space shape def owners forests p (mine owners forests (stands owners forests st this))
 
       breaks : (damage : Damage) → BreaksExpected g shape middle def (HasRowEntriesOnly def row other rid) damage → Breaks damage
       breaks damage is = record {
         names = is.names;
         broken = λ owners forests st expected.
-            is.broken owners forests (leaves owners forests st expected.0).stands
+            is.broken owners forests (stands owners forests st expected.0)
             (has_only g shape old def owners forests st expected.1 defined row other rid expected.0.slots keys other_keys expected.0.lies);
       }

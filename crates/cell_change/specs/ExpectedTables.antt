@@ -9,17 +9,13 @@ use Rattle.extent_map.specs.declared.kind.Kind.{Kind}
 use Rattle.table_trees.specs.SpaceChanges.{RunsFull}
 use Rattle.table_trees.specs.SpaceChanges.SpaceChange.{ClaimBlock}
 use Rattle.table_trees.specs.ToldPages.{PageList}
-use Rattle.mdc_sound.specs.BlockRules.{AreTableIndexesSound}
 use Rattle.mdc_sound.specs.Placing.{PutsRow, Spot, block_slot_count}
 use Rattle.mdc_sound.specs.Placing.Spot.{OtherBlock}
 use Rattle.mdc_sound.specs.RunningFull.{HasNoSpot, putting_changes}
-use Rattle.mdc_sound.specs.StandingTable.{TableForests, pages_of, view_of}
+use Rattle.mdc_sound.specs.StandingTable.{TableForests}
+pub use Rattle.row_entries.specs.SoundEntries.{HasSoundIndexes}
 
 -- ---- what is expected
-
--- each record index of the table has the entries of its rows, and no other but of Pending blocks
-abbrev pub HasSoundIndexes : {S : Type 0} → Ghosts S → Shape → S → TableDef → List Kind → TableForests → Type 0
-HasSoundIndexes g shape s def owners forests = AreTableIndexesSound shape (pages_of g s) (view_of def forests)
 
 -- so it is of a table which is as it is expected
 abbrev pub WithSoundIndexes : {S : Type 0} → Ghosts S → Shape → S → TableDef → (List Kind → TableForests → Type 0) → List Kind → TableForests → Type 0

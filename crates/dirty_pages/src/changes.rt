@@ -1,6 +1,7 @@
 // What has changed of the pages of a store since its last commit, with a mark to go back to.
 ghost use Rattle.std.specs.Prelude.{◌≡◌, ◌<◌, ◌≤◌, ◌+◌, ◌++◌, ℕ, [], nat_eq, nat_le, if◌then◌else◌, length, replicate, slice_set, slice_index_or, Some, None, IsSome, IfOk, IsErrOf, OnOk, OnErr};
 ghost use Rattle.std.specs.Option.{option_copied};
+ghost use Rattle.store_api.specs.Calls.{noted};
 ghost use Rattle.store_api.specs.StoreState.{zero_page};
 ghost use Rattle.dirty_pages.specs.Changes.{nothing, changed_in};
 ghost use Rattle.dirty_pages.specs.Table.{AreRising, LiesAt, unboxed};
@@ -11,6 +12,7 @@ ghost use Rattle.std.specs.Borrow.{sem};
 mod filling;
 mod going_back;
 
+use crate::fetch_log::FetchLog;
 use crate::spares::Spares;
 use crate::table::PageTable;
 use filling::fill;
@@ -160,11 +162,14 @@ impl Changes {
         Ok(())
     }
 
-    /// Lends a page with a change, to be changed in place. After `Memory` all is as before.
-    pub fn edit(&mut self, p: u32) -> Result<&mut Page, PageFault>
+    /// Lends a page with a change, to be changed in place, and notes it. After `Memory` all is as before.
+    pub fn edit<L: FetchLog>(&mut self, p: u32, log: &mut L) -> Result<&mut Page, PageFault>
         requires within { p < length self.old.now }
+        requires room { L.has_room log.old }
         requires changed { IsSome (slice_index_or self.old.now p None) }
         ensures* lends { sem 𝓛 (LendsChange p self.entry result) }
+        ensures noted { OnOk result (L.told log.new ≡ noted p (L.told log.old)) }
+        ensures unnoted { OnErr result (L.told log.new ≡ L.told log.old) }
         ensures page { IfOk result (λ page. slice_index_or self.old.now p None ≡ Some page.now) }
         ensures memory { IsErrOf result PageFault.Device → ⊥ }
     {
@@ -179,7 +184,10 @@ impl Changes {
             p,
             place,
         ) {
-            Ok(()) => Ok(self.table.at_mut(place)),
+            Ok(()) => {
+                log.note(p);
+                Ok(self.table.at_mut(place))
+            }
             Err(Memory) => Err(PageFault::Memory),
         }
     }

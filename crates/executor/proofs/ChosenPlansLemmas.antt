@@ -8,7 +8,6 @@ use Rattle.mdc_ast.specs.declared.row.Row.{Row}
 use Rattle.mdc_ast.specs.declared.statement.PlanMode.{PlanMode}
 use Rattle.store_api.specs.declared.pages.Pages.{Ghosts}
 use Rattle.store_api.specs.declared.shape.Shape.{Shape}
-use Rattle.row_filter.specs.Filtering.{may_filter}
 use Rattle.block_map.specs.MapLines.{used_blocks}
 use Rattle.block_rows.specs.HeldRows.{HasReadValues}
 use Rattle.mdc_sound.specs.StandingTable.{pages_of}
@@ -24,6 +23,7 @@ use Rattle.plan_chooser.proofs.FitLemmas.{plan_of_fits}
 use Rattle.plan_chooser.proofs.KindsLemmas.{judged_kinds, samples_have_keys}
 use Rattle.plan_chooser.proofs.PlanLemmas.{fits_plan-Scan, plan_row-Scan}
 use Rattle.plan_chooser.proofs.PlannedLemmas.{plan_of_true}
+use Rattle.executor.specs.Judging.{IsJudged}
 use Rattle.executor.specs.Planned.{CoversIfAny, IsChosenPageIfSound, IsPlannedRowPage}
 
 -- a table's dimensions and indexes have numbers of 8 bits
@@ -32,10 +32,6 @@ few_dims def limits = omega (arith, limits.dims.few)
 
 pub few_indexes : (def : TableDef) → IsTableDef def.number def → length def.indexes < 256
 few_indexes def limits = omega (arith, limits.indexes.few)
-
--- a predicate may be judged on each row that was read
-abbrev IsJudged : TableDef → Option Pred → Type 0
-IsJudged def pred = (row : Row) → HasReadValues def.columns row → IsTrue (may_filter pred row.values)
 
 pub chosen_fits : (def : TableDef) (mode : PlanMode) (pred : Option Pred) → IsJudged def pred → IsTrue (fits_plan def (plan_of def mode pred))
 chosen_fits def mode None judged = fits_plan-Scan def

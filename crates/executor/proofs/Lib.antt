@@ -1,5 +1,7 @@
 pub mod ChosenPlansLemmas
+pub mod LastRowsLemmas
 pub mod ListedPartsLemmas
+pub mod ListedRowsLemmas
 pub mod MatchingLemmas
 pub mod MovedPlacesLemmas
 pub mod PartRowsLemmas
@@ -8,4 +10,6 @@ pub mod PartsLemmas
 pub mod PassingLemmas
 pub mod PlanPagesLemmas
 pub mod SeenPartsLemmas
+pub mod SettledSinksLemmas
+pub mod SettlingLemmas
 pub mod StandingPartsLemmas

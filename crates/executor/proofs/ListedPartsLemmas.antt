@@ -1,15 +1,20 @@
 -- What a part of lists says of them.
-use Rattle.std.proofs.Common.{◌≡◌, ◌∙◌, ◌⊎◌, inl, inr, ℕ, List, [], ◌∷◌, true, ap, arith, refl, subst, sym}
+use Rattle.std.proofs.Common.{◌≡◌, ◌∙◌, ◌⊎◌, inl, inr, ℕ, List, [], ◌∷◌, false, true, ap, arith, refl, subst, sym}
 use Rattle.std.specs.Prelude.{◌==◌, Contains, None, Option, Some}
 use Rattle.std.specs.List.{list_any}
 use Rattle.std.specs.Option.{option_map}
-use Rattle.std.proofs.lemmas.Bool.{and_from, cases_eq, eq-eqb, or_left, or_right}
+use Rattle.std.proofs.lemmas.Bool.{and_from, cases_eq, eq-eqb, false≢true, ne_eqb, or_from, or_left, or_right}
 use Rattle.block_map.proofs.MapLinesLemmas.{contains_cases, contains_more}
 use Rattle.mdc_values.specs.declared.rid.Rid.{Rid}
-use Rattle.block_lists.specs.Parts.{AreSlots, in_part, in_slots, parts_of, parts_of_rids, rid_at, some_slots, whole_block, with_block, with_slot}
-use Rattle.block_lists.specs.Places.{has_number}
+use Rattle.block_lists.specs.Lists.{AreLists}
+use Rattle.block_lists.specs.Parts.{AreSlots, blocks_of, in_part, in_slots, parts_of, parts_of_rids, rid_at, some_slots, whole_block, with_block, with_slot}
+use Rattle.block_lists.specs.Places.{has_number, in_block}
 use Rattle.block_lists.specs.declared.part.Part.{Part}
-use Rattle.block_lists.proofs.PartLemmas.{grown, lower_or_not, with_block-behind, with_block-lower, with_slot-other, with_slot-same}
+use Rattle.block_lists.proofs.NumberLemmas.{numbers_order}
+use Rattle.block_lists.proofs.PartLemmas.{grown, lists_rest, lower_or_not, named-parts_of, none_in_block, with_block-behind, with_block-lower, with_slot-other, with_slot-same}
+use Rattle.block_lists.proofs.WalkLemmas.{not_in_rest}
+use Rattle.mdc_sound.proofs.ElementsLemmas.{in_map}
+use Rattle.plan_lists.proofs.ListedLemmas.{in_numbers}
 
 -- none of these parts is a whole block
 abbrev NoneIsWhole : List Part → Type 0
@@ -61,6 +66,22 @@ whole_is_listed [] rids part there is = absurd (none_of_rids rids part there is)
 whole_is_listed (block ∷ blocks) rids part there is = elim (in_with_block block (parts_of blocks rids) part there) [
   | inl it ↦ or_left (block == part.block) (has_number blocks part.block) (eq-eqb block part.block (ap (λ (p : Part). p.block) it))
   | inr more ↦ or_right (block == part.block) (has_number blocks part.block) (whole_is_listed blocks rids part more is)
+]
+
+-- a part with some slots is of a block that they don't name whole
+pub listed_not_whole : (blocks : List ℕ) (rids : List Rid) → AreLists blocks rids → (part : Part) (slots : List ℕ) → Contains (parts_of blocks rids) part → part.slots ≡ Some slots → has_number blocks part.block ≡ false
+listed_not_whole [] rids are part slots there some = refl
+listed_not_whole (block ∷ blocks) rids are part slots there some = elim (in_with_block block (parts_of blocks rids) part there) [
+  | inl whole ↦ let wrong : None ≡ Some slots = ap (λ (p : Part). p.slots) whole ∙ some in absurd cc
+  | inr more ↦
+      let rest = lists_rest block blocks rids are in
+      let new : has_number (blocks_of (parts_of blocks rids)) block ≡ false =
+      named-parts_of blocks rids block
+      ∙ or_from (has_number blocks block) (in_block rids block) (not_in_rest numbers_order block blocks are.blocks_rise)
+      (none_in_block (block ∷ blocks) rids block are.apart (or_left (block == block) (has_number blocks block) (eq-eqb block block refl))) in
+      let other : block ≡ part.block → ⊥ = λ same.
+      false≢true (sym new ∙ (ap (has_number (blocks_of (parts_of blocks rids))) same ∙ in_numbers (blocks_of (parts_of blocks rids)) part.block (in_map (λ (p : Part). p.block) (parts_of blocks rids) part more))) in
+      or_from (block == part.block) (has_number blocks part.block) (ne_eqb block part.block other) (listed_not_whole blocks rids rest part slots more some)
 ]
 
 -- a place of a part

@@ -24,11 +24,12 @@ use Rattle.block_rows.specs.HeldRows.{HasReadValues, qualifying}
 use Rattle.block_rows.specs.declared.row_sink.RowSink
 use Rattle.table_trees.specs.TableTrees.{map_place}
 use Rattle.mdc_sound.specs.BlockRules.{AreTableIndexesSound}
-use Rattle.mdc_sound.specs.StandingTable.{BreaksTable, StandsTable, TableForests, pages_of, view_of}
+use Rattle.mdc_sound.specs.StandingTable.{BreaksExpected, BreaksTable, StandsTable, TableForests, pages_of, view_of}
 use Rattle.mdc_sound.specs.TableRows.{PlacedRow, rows_in_block, rows_in_table}
 use Rattle.mdc_sound.proofs.ElementsLemmas.{contains_flat, flat_contains}
 use Rattle.mdc_sound.proofs.StandingTableLemmas.{stands_same}
 use Rattle.mdc_table.proofs.ReadValuesLemmas.{read_of_fitting}
+use Rattle.row_entries.specs.SoundEntries.{HasSoundIndexes}
 use Rattle.row_entries.proofs.StandingRowsLemmas.{lie_apart}
 use Rattle.live_rows.proofs.LookRunsLemmas.{at_still}
 use Rattle.live_rows.proofs.StandingTwinsLemmas.{lies_in_used}
@@ -50,6 +51,7 @@ use Rattle.executor.proofs.ListedPartsLemmas.{place_in, whole_is_listed}
 use Rattle.executor.proofs.MovedPlacesLemmas.{apart_moved}
 use Rattle.executor.proofs.PartRowsLemmas.{in_parts_of, rows_part_by_part}
 use Rattle.executor.proofs.PassingLemmas.{is_kept, kept_anyway, of_kept}
+use Rattle.executor.proofs.PlanPagesLemmas.{indexes_still, used_page_before}
 use Rattle.executor.proofs.StandingPartsLemmas.{counts_parts, in_own_block, own, used_has_row}
 
 -- rows of parts are rows of all
@@ -176,20 +178,25 @@ module _ {S : Type 0} {g : Ghosts S} (shape : Shape) (s : S) (def : TableDef) (p
 -- ---- the pages that come to hand
 
 pub tree_runs : {S : Type 0} {g : Ghosts S} (shape : Shape) (def : TableDef) (plan : Plan) {old new : S} {fault : Option StoreFault}
-    → RunsOverPages g NoPage (IsListPage g old def plan) (BreaksTable g shape old def) old new fault → RunsOverPages g NoPage (IsFoundPage g shape old def plan) (BreaksTable g shape old def) old new fault
-tree_runs shape def plan run = runs_wider run (λ p there none. none) (λ p is. inl is) (λ damage b. b)
+    → RunsOverPages g NoPage (IsListPage g old def plan) (BreaksTable g shape old def) old new fault
+    → RunsOverPages g NoPage (IsFoundPage g shape old def plan) (BreaksExpected g shape old def (HasSoundIndexes g shape old def)) old new fault
+tree_runs shape def plan run =
+    runs_wider run (λ p there none. none) (λ p is. inl is) (λ damage b. record { names = b.names; broken = λ owners forests st sound. b.broken owners forests st })
 
 module _ {S : Type 0} {g : Ghosts S} (shape : Shape) (old mid : S) (def : TableDef) (plan : Plan) (tree : ListTree) (parts : List Part) (stands : StandsForPlan g shape old def plan tree) (are : ArePartsOf tree parts)
     (same : (g.state mid).work ≡ (g.state old).work) (first : RunsOverPages g NoPage (IsListPage g old def plan) (BreaksTable g shape old def) old mid None) where
   -- those of the plan's lists
-  pub lists_runs : {new : S} {fault : Option StoreFault} → RunsOverPages g NoPage (IsPartsPage g shape mid def parts) (BreaksTable g shape mid def) mid new fault
-      → RunsOverPages g NoPage (IsFoundPage g shape old def plan) (BreaksTable g shape old def) old new fault
+  pub lists_runs : {new : S} {fault : Option StoreFault} → RunsOverPages g NoPage (IsPartsPage g shape mid def parts) (BreaksExpected g shape mid def (HasSoundIndexes g shape mid def)) mid new fault
+      → RunsOverPages g NoPage (IsFoundPage g shape old def plan) (BreaksExpected g shape old def (HasSoundIndexes g shape old def)) old new fault
   lists_runs second =
       runs_then (tree_runs shape def plan first) second (λ p low none. none) page
-      (λ damage b. record { names = b.names; broken = λ owners forests st. b.broken owners forests (stands_same shape old mid def owners forests first.works.steady.is_told same st) })
+      (λ damage b. record {
+        names = b.names;
+        broken = λ owners forests st sound. b.broken owners forests (stands_same shape old mid def owners forests first.works.steady.is_told same st) (indexes_still g shape old mid def forests same sound);
+      })
     where
       page : (p : ℕ) → IsPartsPage g shape mid def parts p → IsFoundPage g shape old def plan p
       page p (inl map) = inl (inl (λ t held. map t (at_still old mid (map_place def) t first.works.steady same held)))
       page p (inr of) = inr (λ owners forests st sound.
-          let is = of.page owners forests (stands_same shape old mid def owners forests first.works.steady.is_told same st) in
+          let is = used_page_before g old mid first.works.steady.is_told same shape def of.part.block p of.page owners forests st sound in
           (of.part.block, part_is_planned shape old def plan tree parts stands are owners forests st sound of.part of.there is.0, is.1))

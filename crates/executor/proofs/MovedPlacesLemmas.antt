@@ -1,7 +1,6 @@
 -- Rows of which no two lie in one place, in another order and as copies.
 use Rattle.std.proofs.Common.{◌≡◌, ◌≢◌, ◌≤◌, ◌<◌, ◌==◌, ◌∙◌, List, [], ap, arith, length, subst, sym}
 use Rattle.std.specs.Bool.{Decides}
-use Rattle.std.specs.List.Sorted.{IsNonDecreasingBy}
 use Rattle.std.specs.Prelude.{AllPairs, Contains, IsPermutation, Option, map}
 use Rattle.std.proofs.lemmas.Bool.{and_from, eq-eqb}
 use Rattle.std.proofs.lemmas.List.{get_or-map, length-map}
@@ -56,12 +55,9 @@ apart_moved rows others moved apart i j d low high same =
 
 -- ---- copies
 
-module _ (rows : List PlacedRow) (hits sorted : List Hit) (copies : map placed_row hits ≡ rows) (moved : IsPermutation hits sorted) (rising : IsNonDecreasingBy (λ (hit : Hit). hit.row.number) sorted) where
+module _ (rows : List PlacedRow) (hits sorted : List Hit) (copies : map placed_row hits ≡ rows) (moved : IsPermutation hits sorted) (in_order : AllPairs (λ a b. a.row.number ≤ b.row.number) sorted) where
   all_moved : IsPermutation rows (map placed_row sorted)
   all_moved = subst (λ those. IsPermutation those (map placed_row sorted)) copies (IsPermutation-map placed_row hits sorted moved)
-
-  in_order : AllPairs (λ a b. a.row.number ≤ b.row.number) sorted
-  in_order i j d low high = rising i j d (omega (arith, low)) high
 
   module _ {S : Type 0} {g : Ghosts S} (shape : Shape) (s : S) (def : TableDef) (pred : Option Pred) (forests : TableForests) where
     -- of the rows of the table that qualify, brought in order

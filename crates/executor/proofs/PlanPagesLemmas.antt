@@ -18,8 +18,10 @@ use Rattle.plan_chooser.specs.PlanRows.{plan_row}
 use Rattle.plan_chooser.specs.Rule.{plan_of}
 use Rattle.plan_lists.specs.PlanTrees.{IsListPage}
 use Rattle.table_scan.specs.FoundRows.{MayHaveRow}
+use Rattle.executor.specs.LastRows.{IsRowPageOfUsed}
 use Rattle.executor.specs.Planned.{IsChosenPageIfSound, IsFoundPage, IsPlanPage, IsPlannedRowPage}
 use Rattle.executor.specs.RowBlocks.{IsBlockWith}
+use Rattle.executor.proofs.LastRowsLemmas.{last_before}
 
 -- record indexes that are sound are so behind it
 pub indexes_still : {S : Type 0} (g : Ghosts S) (shape : Shape) (old now : S) (def : TableDef) (forests : TableForests) → (g.state now).work ≡ (g.state old).work
@@ -38,8 +40,11 @@ module _ {S : Type 0} (g : Ghosts S) (old now : S) (told : (g.state now).is_told
   module _ (shape : Shape) (def : TableDef) where
     row_page_before : (plan : Plan) (p : ℕ) → IsPlannedRowPage g shape now def plan p → IsPlannedRowPage g shape old def plan p
     row_page_before plan p planned owners forests st sound =
-        let (block, is, page) = planned owners forests (stands_same shape old now def owners forests told same st) (indexes_still g shape old now def forests same sound) in
-        (block, subst (λ (pages : List (List ℕ)). IsBlockWith shape pages def forests.map (λ (placed : PlacedRow). plan_row def placed.row.values plan ≡ true) block) same is, page)
+        let (block, is, page) = planned owners forests (stands_same shape old now def owners forests told same st) (indexes_still g shape old now def forests same sound) in (
+          block,
+          subst (λ (pages : List (List ℕ)). IsBlockWith shape pages def forests.map (λ (placed : PlacedRow). plan_row def placed.row.values plan ≡ true) block) same is,
+          last_before shape old now def told same block p page,
+        )
 
     found_page_before : (plan : Plan) (p : ℕ) → IsFoundPage g shape now def plan p → IsFoundPage g shape old def plan p
     found_page_before plan p (inl list) = inl (list_page_before def plan p list)
@@ -52,5 +57,14 @@ module _ {S : Type 0} (g : Ghosts S) (old now : S) (told : (g.state now).is_told
     -- one of a block in whose cell a row may qualify
     pub chosen_page_before : (pred : Option Pred) (p : ℕ) → IsChosenPageIfSound g shape now def pred p → IsChosenPageIfSound g shape old def pred p
     chosen_page_before pred p chosen owners forests st sound =
-        let (block, is, page) = chosen owners forests (stands_same shape old now def owners forests told same st) (indexes_still g shape old now def forests same sound) in
-        (block, record { used = is.used; may = subst (λ (pages : List (List ℕ)). MayHaveRow shape pages def pred block) same is.may }, page)
+        let (block, is, page) = chosen owners forests (stands_same shape old now def owners forests told same st) (indexes_still g shape old now def forests same sound) in (
+          block,
+          record { used = is.used; may = subst (λ (pages : List (List ℕ)). MayHaveRow shape pages def pred block) same is.may },
+          last_before shape old now def told same block p page,
+        )
+
+    -- one up to the last row of a Used block
+    pub used_page_before : (block p : ℕ) → IsRowPageOfUsed g shape now def block p → IsRowPageOfUsed g shape old def block p
+    used_page_before block p page owners forests st sound =
+        let (used, last) = page owners forests (stands_same shape old now def owners forests told same st) (indexes_still g shape old now def forests same sound) in
+        (used, last_before shape old now def told same block p last)

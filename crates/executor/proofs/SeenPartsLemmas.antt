@@ -7,9 +7,9 @@ use Rattle.store_api.specs.Works.{Steady}
 use Rattle.store_api.specs.declared.pages.Pages.{Ghosts}
 use Rattle.store_api.specs.declared.shape.Shape.{Shape}
 use Rattle.table_trees.specs.TableTrees.{map_place}
-use Rattle.block_rows.specs.ListedSlots.{HasSeenSlots}
 use Rattle.live_rows.proofs.LookRunsLemmas.{at_still}
-use Rattle.mdc_table.specs.SeenBlocks.{HasSeenBlock}
+use Rattle.mdc_table.specs.SeenBlocks.{HasSeenCountedBlock}
+use Rattle.mdc_table.specs.SeenPlaces.{HasSeenFilled}
 use Rattle.block_lists.specs.declared.part.Part.{Part}
 use Rattle.executor.specs.SeenParts.{HasSeenOf, HasSeenPart, whole_listed}
 
@@ -23,9 +23,10 @@ module _ {S : Type 0} {g : Ghosts S} (shape : Shape) (old mid : S) (def : TableD
   of_still block None seen = record {
     rows = seen.rows;
     line = λ t held. seen.line t (at_still old mid (map_place def) t steady same held);
-    seen = subst (λ pages. HasSeenBlock shape pages def (whole_listed block seen.rows)) same seen.seen;
+    some = seen.some;
+    seen = subst (λ pages. HasSeenCountedBlock shape pages def (whole_listed block seen.rows)) same seen.seen;
   }
-  of_still block (Some slots) (inl (used, seen)) = inl ((λ t held. used t (at_still old mid (map_place def) t steady same held)), subst (λ pages. HasSeenSlots shape pages def block slots) same seen)
+  of_still block (Some slots) (inl (used, seen)) = inl ((λ t held. used t (at_still old mid (map_place def) t steady same held)), subst (λ pages. HasSeenFilled shape pages def block slots) same seen)
   of_still block (Some slots) (inr (inl not)) = inr (inl (record { found = not.found; finds = λ t held. not.finds t (at_still old mid (map_place def) t steady same held); unused = not.unused }))
   of_still block (Some slots) (inr (inr past)) = inr (inr past)
 

@@ -84,6 +84,12 @@ module _ {S : Type 0} {g : Ghosts S} (shape : Shape) (s : S) (def : TableDef) (o
       let some : 0 < length (block_rows (map_line line.entry).block) = omega (arith, counts.some_row line.used, counts.counted line.used) in
       subst (λ n. (placed : PlacedRow) × Contains (block_rows n) placed) line.block_is (some_in (block_rows (map_line line.entry).block) some)
 
+  -- nor is a part without one that lists such a block whole
+  pub whole_has_row : (part : Part) → None ≡ part.slots → Contains (used_blocks forests.map) part.block → true ≡ nat_lt 0 (length (rows_in_part rows part))
+  whole_has_row part whole used =
+      let (placed, (k, low, is)) = used_has_row part.block used in
+      sym (lt-ltb 0 (length (rows_in_part rows part)) (omega (arith, low, ap length (rows_of_whole part whole used))))
+
   module _ (parts : List Part) (rise : IsRising IsLower (blocks_of parts)) (test : Rid → Bool) (stand : (rid : Rid) → in_parts parts rid ≡ test rid) where
     -- it has a row
     abbrev has_row : Part → Bool

@@ -1,4 +1,9 @@
+pub mod Begun
+pub mod Judging
+pub mod LastRows
 pub mod PartRows
 pub mod Planned
 pub mod RowBlocks
 pub mod SeenParts
+pub mod SettledSinks
+pub mod Settling

@@ -14,13 +14,15 @@ use Rattle.block_rows.specs.HeldRows.{placed_row, qualifying}
 use Rattle.block_rows.specs.declared.hit.Hit.{Hit}
 use Rattle.block_rows.specs.declared.row_sink.RowSink
 use Rattle.mdc_sound.specs.BlockRules.{AreTableIndexesSound}
-use Rattle.mdc_sound.specs.StandingTable.{IsPageOfBlock, StandsTable, TableForests, pages_of, view_of}
+use Rattle.mdc_sound.specs.StandingTable.{StandsTable, TableForests, pages_of, view_of}
 use Rattle.mdc_sound.specs.TableRows.{PlacedRow, rows_in_table}
+pub use Rattle.row_entries.specs.SoundEntries.{HasSoundIndexes}
 use Rattle.plan_chooser.specs.declared.plan.Plan.{Plan}
 use Rattle.plan_chooser.specs.PlanRows.{plan_row}
 use Rattle.plan_chooser.specs.Rule.{plan_of}
 use Rattle.plan_lists.specs.PlanTrees.{IsListPage}
 use Rattle.table_scan.specs.FoundRows.{IsChosenBlock}
+use Rattle.executor.specs.LastRows.{IsPageToLastRow}
 use Rattle.executor.specs.RowBlocks.{IsBlockWith, IsCountOf}
 
 -- a plan has each row of which a predicate is true, where it may be judged; without a predicate it has all rows
@@ -57,13 +59,13 @@ CountsPlanned g shape s def plan forests count = IsCountOf (IsPlannedBlock g sha
 
 -- ---- the pages that are looked at
 
--- a page of a Used block with a row that the plan has, where the table was told to stand with sound record indexes
+-- a page of a Used block with a row that the plan has, not behind its last row, where the table was told to stand with sound record indexes
 abbrev pub IsPlannedRowPage : {S : Type 0} → Ghosts S → Shape → S → TableDef → Plan → ℕ → Type 0
 IsPlannedRowPage g shape s def plan p =
     (owners : List Kind) (forests : TableForests) → StandsTable g shape s def owners forests → AreTableIndexesSound shape (pages_of g s) (view_of def forests)
-    → (block : ℕ) × IsPlannedBlock g shape s def plan forests block × IsPageOfBlock shape block p
+    → (block : ℕ) × IsPlannedBlock g shape s def plan forests block × IsPageToLastRow g shape s def block p
 
--- the pages that come to hand: those of the trees that the plan names, of the block map, and of such blocks
+-- the pages that come to hand: those of the trees that the plan names, of the block map, and of such blocks up to their last rows
 abbrev pub IsFoundPage : {S : Type 0} → Ghosts S → Shape → S → TableDef → Plan → ℕ → Type 0
 IsFoundPage g shape s def plan p = IsListPage g s def plan p ⊎ IsPlannedRowPage g shape s def plan p
 
@@ -71,8 +73,8 @@ IsFoundPage g shape s def plan p = IsListPage g s def plan p ⊎ IsPlannedRowPag
 abbrev pub IsPlanPage : {S : Type 0} → Ghosts S → Shape → S → TableDef → PlanMode → Option Pred → ℕ → Type 0
 IsPlanPage g shape s def mode pred p = IsFoundPage g shape s def (plan_of def mode pred) p
 
--- a page of a Used block in whose cell a row may qualify, where the table was told to stand with sound record indexes
+-- a page of a Used block in whose cell a row may qualify, not behind its last row, where the table was told to stand with sound record indexes
 abbrev pub IsChosenPageIfSound : {S : Type 0} → Ghosts S → Shape → S → TableDef → Option Pred → ℕ → Type 0
 IsChosenPageIfSound g shape s def pred p =
     (owners : List Kind) (forests : TableForests) → StandsTable g shape s def owners forests → AreTableIndexesSound shape (pages_of g s) (view_of def forests)
-    → (block : ℕ) × IsChosenBlock g shape s def pred forests block × IsPageOfBlock shape block p
+    → (block : ℕ) × IsChosenBlock g shape s def pred forests block × IsPageToLastRow g shape s def block p

@@ -9,7 +9,8 @@ ghost use Rattle.extent_map.specs.declared.kind.Kind.{Kind};
 ghost use Rattle.row_filter.specs.Filtering.{may_filter};
 ghost use Rattle.block_rows.specs.HeldRows.{HasReadValues, HaveReadValues};
 ghost use Rattle.mdc_sound.specs.BlockRules.{AreTableIndexesSound};
-ghost use Rattle.mdc_sound.specs.StandingTable.{BreaksTable, StandsTable, TableForests, pages_of, view_of};
+ghost use Rattle.mdc_sound.specs.StandingTable.{BreaksExpected, StandsTable, TableForests, pages_of, view_of};
+ghost use Rattle.row_entries.specs.SoundEntries.{HasSoundIndexes};
 ghost use Rattle.plan_chooser.specs.Rule.{plan_of};
 ghost use Rattle.table_scan.specs.FoundRows.{FindsRows, GivesRows};
 ghost use Rattle.executor.specs.Planned.{CountsPlanned, GivesSome, IsPlanPage, LieInTable};
@@ -29,9 +30,10 @@ use store_api::{Pages, Shape, StoreFault};
 /// Gives a sink the rows of a table that qualify, by rising block and slot, and says how many Used blocks hold a row of the plan, which
 /// is the one that the plan rule gives in this mode. It needs a predicate that may be judged on each row that was read. The lists of the
 /// plan are read from the indexes that it names, and gone over block by block, and of row pages those of such blocks alone come to hand:
-/// all pages of a block that is listed whole, and of others those of the places that are listed. A place in a block that isn't Used is
-/// passed over, and what is given are rows of the table, none twice, even where a record index isn't sound. Damaged where a dimension
-/// lists a block that isn't Used, and where such a block is as `scan_rows` finds damaged.
+/// of a block that is listed whole the pages up to its last row by its line, and of others those of the places that are listed. A place
+/// in a block that isn't Used is passed over, and what is given are rows of the table, none twice, even where a record index isn't
+/// sound. Damaged where a dimension lists a block that isn't Used, where such a block is as `scan_counted_block` finds damaged, and where
+/// a place in a Used block is listed that has no row.
 pub fn scan_by_plan<P: Pages, K: RowSink>(
     alloc: Global,
     def: &TableDef,
@@ -54,7 +56,7 @@ pub fn scan_by_plan<P: Pages, K: RowSink>(
     ensures seen { OnOk result (IsTrue (P.state pages.old).is_told → HasSeenPlan P.Pages shape pages.old def.now (plan_of def.now mode pred.now)) }
     ensures fits { OnOk result (K.RowSink.is_for def.now.columns sink.new) }
     ensures same { (P.state pages.new).work ≡ (P.state pages.old).work }
-    ensures runs { RunsOverPages P.Pages NoPage (IsPlanPage P.Pages shape pages.old def.now mode pred.now) (BreaksTable P.Pages shape pages.old def.now) pages.old pages.new (fault_of result) }
+    ensures runs { RunsOverPages P.Pages NoPage (IsPlanPage P.Pages shape pages.old def.now mode pred.now) (BreaksExpected P.Pages shape pages.old def.now (HasSoundIndexes P.Pages shape pages.old def.now)) pages.old pages.new (fault_of result) }
 {
     scan_uncounted::<P, K, Brand>(alloc, def, shape, pages, mode, pred, sink, Blank::new(1))
 }
@@ -86,7 +88,7 @@ fn scan_uncounted<P: Pages, K: RowSink, L: Ledger>(
     ensures seen { OnOk result (IsTrue (P.state pages.old).is_told → HasSeenPlan P.Pages shape pages.old def.now (plan_of def.now mode pred.now)) }
     ensures fits { OnOk result (K.RowSink.is_for def.now.columns sink.new) }
     ensures same { (P.state pages.new).work ≡ (P.state pages.old).work }
-    ensures runs { RunsOverPages P.Pages NoPage (IsPlanPage P.Pages shape pages.old def.now mode pred.now) (BreaksTable P.Pages shape pages.old def.now) pages.old pages.new (fault_of result) }
+    ensures runs { RunsOverPages P.Pages NoPage (IsPlanPage P.Pages shape pages.old def.now mode pred.now) (BreaksExpected P.Pages shape pages.old def.now (HasSoundIndexes P.Pages shape pages.old def.now)) pages.old pages.new (fault_of result) }
 {
     let plan = choose(alloc, def, mode, pred)?;
     let mut entries: Steps<L> = Steps::new(blank);
@@ -115,10 +117,9 @@ pub fn find_by_plan<P: Pages>(
     ensures seen { IfOk result (λ found. IsTrue (P.state pages.old).is_told → HasSeenPlan P.Pages shape pages.old def.now (plan_of def.now mode pred.now)) }
     ensures keyed { IfOk result (λ found. HaveReadValues def.now.columns found.hits.items) }
     ensures same { (P.state pages.new).work ≡ (P.state pages.old).work }
-    ensures runs { RunsOverPages P.Pages NoPage (IsPlanPage P.Pages shape pages.old def.now mode pred.now) (BreaksTable P.Pages shape pages.old def.now) pages.old pages.new (fault_of result) }
+    ensures runs { RunsOverPages P.Pages NoPage (IsPlanPage P.Pages shape pages.old def.now mode pred.now) (BreaksExpected P.Pages shape pages.old def.now (HasSoundIndexes P.Pages shape pages.old def.now)) pages.old pages.new (fault_of result) }
 {
     let mut hits = Vec::new(alloc);
     let blocks = scan_by_plan(alloc, def, shape, pages, mode, pred, &mut hits)?;
-    hits.sort_unstable_by_key(|hit| hit.row.number);
-    Ok(Found { hits, blocks })
+    Ok(Found::by_number(hits, blocks))
 }

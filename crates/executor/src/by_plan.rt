@@ -9,7 +9,8 @@ ghost use Rattle.extent_map.specs.declared.kind.Kind.{Kind};
 ghost use Rattle.row_filter.specs.Filtering.{may_filter};
 ghost use Rattle.block_rows.specs.HeldRows.{HasReadValues, HaveReadValues};
 ghost use Rattle.mdc_sound.specs.BlockRules.{AreTableIndexesSound};
-ghost use Rattle.mdc_sound.specs.StandingTable.{BreaksTable, StandsTable, TableForests, pages_of, view_of};
+ghost use Rattle.mdc_sound.specs.StandingTable.{BreaksExpected, StandsTable, TableForests, pages_of, view_of};
+ghost use Rattle.row_entries.specs.SoundEntries.{HasSoundIndexes};
 ghost use Rattle.plan_chooser.specs.PlanRows.{fits_plan};
 ghost use Rattle.table_scan.specs.FoundRows.{FindsRows};
 ghost use Rattle.executor.specs.Planned.{CountsPlanned, CoversIfAny, IsFoundPage, LieInTable};
@@ -50,10 +51,9 @@ pub fn matching<P: Pages, E: Ledger>(
     ensures seen { IfOk result (λ found. IsTrue (P.state pages.old).is_told → HasSeenPlan P.Pages shape pages.old def.now plan.now) }
     ensures keyed { IfOk result (λ found. HaveReadValues def.now.columns found.hits.items) }
     ensures same { (P.state pages.new).work ≡ (P.state pages.old).work }
-    ensures runs { RunsOverPages P.Pages NoPage (IsFoundPage P.Pages shape pages.old def.now plan.now) (BreaksTable P.Pages shape pages.old def.now) pages.old pages.new (fault_of result) }
+    ensures runs { RunsOverPages P.Pages NoPage (IsFoundPage P.Pages shape pages.old def.now plan.now) (BreaksExpected P.Pages shape pages.old def.now (HasSoundIndexes P.Pages shape pages.old def.now)) pages.old pages.new (fault_of result) }
 {
     let mut hits = Vec::new(alloc);
     let blocks = scan_planned(alloc, def, shape, pages, plan, pred, entries, &mut hits)?;
-    hits.sort_unstable_by_key(|hit| hit.row.number);
-    Ok(Found { hits, blocks })
+    Ok(Found::by_number(hits, blocks))
 }

@@ -19,7 +19,8 @@ pub fn chosen_plans_can_be_matched()
     ensures covers { (def : TableDef) (mode : PlanMode) (pred : Option Pred) → CoversIfAny def (plan_of def mode pred) pred }
 {}
 
-/// In modes AUTO and BLOCK the row pages that come to hand for such a plan lie in Used blocks in whose cells a row may qualify.
+/// In modes AUTO and BLOCK the row pages that come to hand for such a plan lie in Used blocks in whose cells a row may qualify, and none
+/// of them behind the last row of its block.
 pub fn chosen_plans_read_few_blocks<P: Pages>()
     ensures { (shape : Shape) (s : P) (def : TableDef) (mode : PlanMode) (pred : Option Pred) → ((row : Row) → HasReadValues def.columns row → IsTrue (may_filter pred row.values)) → goes_by_cells mode ≡ true
         → (p : ℕ) → IsPlannedRowPage P.Pages shape s def (plan_of def mode pred) p → IsChosenPageIfSound P.Pages shape s def pred p }

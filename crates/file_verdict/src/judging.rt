@@ -20,7 +20,7 @@ ghost use Rattle.file_verdict.specs.Written.{WritesOpening};
 use crate::unjudged::Unjudged;
 use file_check::{Verdict, check, sound_pages_break_no_rule};
 use mdc_outside::Host;
-use page_store::{CACHED_PAGES, FileStore, OpenFault, Unopened};
+use page_store::{CACHED_PAGES, FileStore, OpenFault, Unopened, Untold};
 use std::alloc::Global;
 use std::marker::Brand;
 use store_api::{PageFault, Pages, Shape};
@@ -63,9 +63,9 @@ pub fn judge_file<H: Host>(alloc: Global, host: H) -> Judged<H>
     ensures later { H.clock host ≤ H.clock result.host }
 {
     sound_pages_break_no_rule();
-    match FileStore::<H, Brand>::open(alloc, host, CACHED_PAGES) {
+    match FileStore::<H, Brand, Untold>::open(alloc, host, Untold, CACHED_PAGES) {
         Ok(store) => judge_store(alloc, store),
-        Err(Unopened { fault, host }) => Judged {
+        Err(Unopened { fault, host, .. }) => Judged {
             verdict: verdict_of_opening(fault),
             host,
         },
@@ -96,7 +96,7 @@ fn judge_store<H: Host>(alloc: Global, store: FileStore<H>) -> Judged<H>
     let verdict = check(alloc, shape, &mut store);
     Judged {
         verdict: verdict_of(verdict),
-        host: store.close(),
+        host: store.close().host,
     }
 }
 

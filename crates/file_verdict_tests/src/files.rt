@@ -2,7 +2,7 @@
 use file_check::Verdict;
 use file_verdict::{Unjudged, judge_file};
 use mdc_outside::{Host, MemHost, MemSource, Source};
-use page_store::{OpenFault, make};
+use page_store::{OpenFault, Untold, make};
 use script_engine_tests::Patch;
 use session::serve_file;
 use std::alloc::Global;
@@ -39,7 +39,7 @@ fn serve_source<I: Source, H: Host + Drop>(
     mut host: H,
 ) -> Result<(bool, H), Fail> {
     host.attach("table", false)?;
-    let ended = serve_file::<I, H, Brand>(alloc, input, host);
+    let ended = serve_file::<I, H, Brand, Untold>(alloc, input, host, &mut Untold);
     Ok((ended.end.is_ok(), ended.host))
 }
 

@@ -18,6 +18,7 @@ use Rattle.page_store.specs.Fresh.{HoldsFresh}
 use Rattle.page_store.specs.Standing.{pages_in}
 use Rattle.script_engine.specs.Held.{HeldPages, StandsForSession}
 use Rattle.file_verdict.specs.SoundFile.{StatesExtents}
+use Rattle.session.specs.script.Fetching.{FetchesInRun}
 use Rattle.session.specs.script.Going.{GoesOnPages, Stage}
 use Rattle.session.specs.script.Leaving.{AreServedPages}
 use Rattle.session.specs.script.Lists.{GoesOnLists}
@@ -76,22 +77,26 @@ over_nothing over shape pages said script left tape end_ stands run =
 
 -- a run on a scratch file that was just made
 pub made_file-runs : MadeLaws → OverLists → (file : File) (shape : Shape) (said : List ℕ) (script left tape : Option (List ℕ)) (end_ : Result Served Stop) → HoldsFresh 4096 4 file
-    → IsEmptyDatabase 4096 file.bytes → StatesExtents file.bytes shape → RunsItems shape (pages_in file.bytes) said script left tape end_ → RunsScratch said script left tape (status_of end_)
-made_file-runs laws over file shape said script left tape end_ fresh empty states run =
+    → IsEmptyDatabase 4096 file.bytes → StatesExtents file.bytes shape → (run : RunsItems shape (pages_in file.bytes) said script left tape end_) → (log now : Option (List ℕ))
+    → FetchesInRun shape run.held run.items run.in_hand run.stages log now → RunsScratch said script left tape (status_of end_) log now
+unfolding over_nothing
+made_file-runs laws over file shape said script left tape end_ fresh empty states run log now fetches =
     let stated = made_states 4096 4 file.bytes refl fresh.bytes in
     let cap : shape.extents ≡ 4096 = sym states.extents ∙ stated.0 in
     let pages : shape.extent_pages ≡ 4 = sym states.extent_pages ∙ stated.1 in
     let stands : PagesStandFor shape (made_pages 4096) empty_database = subst (λ (n : ℕ). PagesStandFor shape (made_pages n) empty_database) cap (laws.stands shape) in
-    let on_made : RunsItems shape (made_pages 4096) said script left tape end_ = subst (λ (p : PageList). RunsItems shape p said script left tape end_) empty.pages run in
+    let Runs : PageList → Type 0 = λ p. (run : RunsItems shape p said script left tape end_) × FetchesInRun shape run.held run.items run.in_hand run.stages log now in
+    let (on_made, fetched) = subst Runs empty.pages (run, fetches) in
     let whole = over_nothing over shape (made_pages 4096) said script left tape end_ stands on_made in
-    record { end_ = end_; shape = shape; extents = cap; extent_pages = pages; run = whole.0; empty = whole.1; status_is = refl }
+    record { end_ = end_; shape = shape; extents = cap; extent_pages = pages; run = whole.0; fetches = fetched; empty = whole.1; status_is = refl }
 
 -- a run of none of a script's items on a scratch file
-pub nothing_run-scratch : MadeLaws → (said : List ℕ) (script : Option (List ℕ)) (stop : Stop) → IsStopBefore stop → RunsScratch said script script (Some said) (status_of (Err stop))
-nothing_run-scratch laws said script stop before =
+pub nothing_run-scratch : MadeLaws → (said : List ℕ) (script : Option (List ℕ)) (stop : Stop) → IsStopBefore stop → (log : Option (List ℕ))
+    → RunsScratch said script script (Some said) (status_of (Err stop)) log log
+nothing_run-scratch laws said script stop before log =
     let found = laws.extents 4096 4 refl in
     let shape : Shape = found.0 in
     let served : AreServedPages shape (made_pages 4096) = subst (λ (n : ℕ). AreServedPages shape (made_pages n)) found.1 (made_pages-served laws shape) in
     let stands : PagesStandFor shape (made_pages 4096) empty_database = subst (λ (n : ℕ). PagesStandFor shape (made_pages n) empty_database) found.1 (laws.stands shape) in
     let run = nothing_run shape (made_pages 4096) empty_database said script stop before served stands in
-    record { end_ = Err stop; shape = shape; extents = found.1; extent_pages = found.2; run = run.0; empty = run.1; status_is = refl }
+    record { end_ = Err stop; shape = shape; extents = found.1; extent_pages = found.2; run = run.0; fetches = run.2 log; empty = run.1; status_is = refl }

@@ -19,6 +19,7 @@ use Rattle.page_store.specs.Standing.{pages_in}
 use Rattle.std.specs.Option.{option_map}
 use Rattle.file_verdict.specs.Resting.{ComesToRest, StaysFormed}
 use Rattle.file_verdict.proofs.RestingLemmas.{TellsNow}
+use Rattle.session.specs.script.Fetching.{FetchesInRun}
 use Rattle.session.specs.script.Serving.{EndsScript, TakesScript}
 use Rattle.session.specs.declared.script.served.Served.{Served}
 use Rattle.session.specs.declared.script.served.Served.TheVariants.{AllDone, SomeRefused}
@@ -59,16 +60,16 @@ pub runs_items-quiet : {shape : Shape} {pages : PageList} {said : List ℕ} {scr
 runs_items-quiet {end_ = end_} run = begun-quiet end_ run.of_script run.undamaged
 
 -- a run on a file whose end says nothing
-pub runs_path-ended : {D : Type 0} (g : Ghosts D) (before : File) (said : List ℕ) (script left : Option (List ℕ)) (old mid new : D) (end_ : Result Served Stop) (status : ℕ)
-    → RunsOnFile g before said script left old mid end_ → new ≡ mid → status ≡ status_of end_ → RunsPath g before said script left old new status
-runs_path-ended {D} g before said script left old mid new end_ status run same is =
-    record { end_ = end_; run = subst (λ (d : D). RunsOnFile g before said script left old d end_) (sym same) run; status_is = is }
+pub runs_path-ended : {D : Type 0} (g : Ghosts D) (before : File) (said : List ℕ) (script left : Option (List ℕ)) (old mid new : D) (end_ : Result Served Stop) (status : ℕ) {log now : Option (List ℕ)}
+    → RunsOnFile g before said script left old mid end_ log now → new ≡ mid → status ≡ status_of end_ → RunsPath g before said script left old new status log now
+runs_path-ended {D} g before said script left old mid new end_ status {log} {now} run same is =
+    record { end_ = end_; run = subst (λ (d : D). RunsOnFile g before said script left old d end_ log now) (sym same) run; status_is = is }
 
 -- a run on a scratch file, by its tape and its status
-pub runs_scratch-ended : (said : List ℕ) (script left tape new_tape : Option (List ℕ)) (status new_status : ℕ) → RunsScratch said script left tape status → tape ≡ new_tape → new_status ≡ status
-    → RunsScratch said script left new_tape new_status
-runs_scratch-ended said script left tape new_tape status new_status run same is =
-    subst (λ (t : Option (List ℕ)). RunsScratch said script left t new_status) same (subst (λ (n : ℕ). RunsScratch said script left tape n) (sym is) run)
+pub runs_scratch-ended : (said : List ℕ) (script left tape new_tape : Option (List ℕ)) (status new_status : ℕ) {log now : Option (List ℕ)} → RunsScratch said script left tape status log now → tape ≡ new_tape
+    → new_status ≡ status → RunsScratch said script left new_tape new_status log now
+runs_scratch-ended said script left tape new_tape status new_status {log} {now} run same is =
+    subst (λ (t : Option (List ℕ)). RunsScratch said script left t new_status log now) same (subst (λ (n : ℕ). RunsScratch said script left tape n log now) (sym is) run)
 
 -- ---- behind an attach
 
@@ -88,14 +89,16 @@ could_be_left-quiet file tape before said is told image taken within =
     (moment.left, nothing_said moment.said.0 moment.said.1 said taken moment.said.2 moment.said.3)
 
 -- a run on a file that an attach opened is one on the file as it was
-pub runs_path-opened : {D : Type 0} (g : Ghosts D) (before : File) (said : List ℕ) (script left : Option (List ℕ)) (old mid new : D) (status : ℕ)
-    → OverTime g.clock g.moment (LeavesImage (CouldBeLeft before) said) old mid → RunsPath g (opened before) said script left mid new status → RunsPath g before said script left old new status
+pub runs_path-opened : {D : Type 0} (g : Ghosts D) (before : File) (said : List ℕ) (script left : Option (List ℕ)) (old mid new : D) (status : ℕ) {log now : Option (List ℕ)}
+    → OverTime g.clock g.moment (LeavesImage (CouldBeLeft before) said) old mid → RunsPath g (opened before) said script left mid new status log now
+    → RunsPath g before said script left old new status log now
 runs_path-opened g before said script left old mid new status attached run = record {
   end_ = run.end_;
   run = record {
     shape = run.run.shape;
     states_extents = run.run.states_extents;
     run = run.run.run;
+    fetches = run.run.fetches;
     leaves = elim run.run.leaves [
       | inl rest ↦ inl (rests-opened g before said old mid new attached rest)
       | inr meanwhile ↦ inr (over_time_then attached meanwhile)
@@ -177,19 +180,17 @@ refuses_file-before g before said new_tape old new stop is_before same meanwhile
   time = over_time_wider meanwhile (could_be_left-moment before said (line_of_end (Err stop)));
 }
 
-pub runs_path-before : {D : Type 0} (g : Ghosts D) (before : File) (said : List ℕ) (script : Option (List ℕ)) (old new : D) (stop : Stop) (well : IsWell before.bytes)
-    → RunsItems well.shape (pages_in before.bytes) said script script (Some said) (Err stop) → (g.beside new).tape ≡ Some said
-    → OverTime g.clock g.moment (LeavesImage (CouldBeLeft before) said) old new → RunsPath g before said script script old new (status_of_stop stop)
-runs_path-before g before said script old new stop well items tape meanwhile = record {
-  end_ = Err stop;
-  run = record {
-    shape = well.shape;
-    states_extents = well.states;
-    run = subst (λ (t : Option (List ℕ)). RunsItems well.shape (pages_in before.bytes) said script script t (Err stop)) (sym tape) items;
-    leaves = inr meanwhile;
-  };
-  status_is = refl;
-}
+pub runs_path-before : {D : Type 0} (g : Ghosts D) (before : File) (said : List ℕ) (script : Option (List ℕ)) (old new : D) (stop : Stop) (well : IsWell before.bytes) {log now : Option (List ℕ)}
+    → (run : RunsItems well.shape (pages_in before.bytes) said script script (Some said) (Err stop)) × ((log : Option (List ℕ)) → FetchesInRun well.shape run.held run.items run.in_hand run.stages log log) → now ≡ log → (g.beside new).tape ≡ Some said
+    → OverTime g.clock g.moment (LeavesImage (CouldBeLeft before) said) old new → RunsPath g before said script script old new (status_of_stop stop) log now
+runs_path-before g before said script old new stop well {log} nothing quiet tape meanwhile =
+    let Runs : Option (List ℕ) → Option (List ℕ) → Type 0 = λ t now. (run : RunsItems well.shape (pages_in before.bytes) said script script t (Err stop)) × FetchesInRun well.shape run.held run.items run.in_hand run.stages log now in
+    let (run, fetches) = subst (λ (now : Option (List ℕ)). Runs (g.beside new).tape now) (sym quiet) (subst (λ (t : Option (List ℕ)). Runs t log) (sym tape) (nothing.0, nothing.1 log)) in
+    record {
+      end_ = Err stop;
+      run = record { shape = well.shape; states_extents = well.states; run = run; fetches = fetches; leaves = inr meanwhile };
+      status_is = refl;
+    }
 
 -- ---- where nothing failed
 

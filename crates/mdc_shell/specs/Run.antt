@@ -16,6 +16,7 @@ use Rattle.script_engine.specs.Held.{HeldPages}
 use Rattle.file_verdict.specs.Resting.{ComesToRest, StaysFormed}
 use Rattle.file_verdict.specs.SoundFile.{StatesExtents}
 use Rattle.session.specs.script.Ending.{script_limit}
+use Rattle.session.specs.script.Fetching.{FetchesInRun}
 use Rattle.session.specs.script.Going.{Stage, held_last}
 use Rattle.session.specs.script.Told.{TellsMore}
 use Rattle.session.specs.declared.script.served.Served.{Served}
@@ -70,10 +71,11 @@ pub record RunsAnyPath {D : Type 0} (g : Ghosts D) (before : File) (said : List 
   pub ends : SaysEnd (Some heard) new_tape status end_
   pub leaves : RestsByPath g before said heard serves.run.held serves.run.stages serves.run.outcomes serves.run.in_hand old new end_ ⊎ StopsUnrestedPath g before said script left old new end_
 
--- `run FILE` on a file that is well: a run of the script's items on what it stands for
-pub record RunsPath {D : Type 0} (g : Ghosts D) (before : File) (said : List ℕ) (script left : Option (List ℕ)) (old new : D) (status : ℕ) : Type 0 where
+-- `run FILE` on a file that is well: a run of the script's items on what it stands for, with a log that told these fetches before and tells
+-- those now
+pub record RunsPath {D : Type 0} (g : Ghosts D) (before : File) (said : List ℕ) (script left : Option (List ℕ)) (old new : D) (status : ℕ) (log now : Option (List ℕ)) : Type 0 where
   pub end_ : Result Served Stop
-  pub run : RunsOnFile g before said script left old new end_
+  pub run : RunsOnFile g before said script left old new end_ log now
   pub status_is : status ≡ status_of end_
 
 -- `run FILE` on a file that can't be opened: nothing but the line of its cause is said, and a crash meanwhile leaves an image that
@@ -111,13 +113,15 @@ pub record TakesByStatus (script : List ℕ) (left : Option (List ℕ)) (status 
   pub past : status ≡ 7 → length taken ≡ script_limit + 1
   pub within : (status ≡ 7 → ⊥) → length taken ≤ script_limit
 
--- `run -` on a scratch file without a byte: a run of the script's items on a database of 4,096 extents of 4 pages without a table
-pub record RunsScratch (said : List ℕ) (script left new_tape : Option (List ℕ)) (status : ℕ) : Type 0 where
+-- `run -` on a scratch file without a byte: a run of the script's items on a database of 4,096 extents of 4 pages without a table, with a log
+-- that told these fetches before and tells those now
+pub record RunsScratch (said : List ℕ) (script left new_tape : Option (List ℕ)) (status : ℕ) (log now : Option (List ℕ)) : Type 0 where
   pub end_ : Result Served Stop
   pub shape : Shape
   pub extents : shape.extents ≡ 4096
   pub extent_pages : shape.extent_pages ≡ 4
   pub run : RunsItems shape (made_pages 4096) said script left new_tape end_
+  pub fetches : FetchesInRun shape run.held run.items run.in_hand run.stages log now
   pub empty : run.db ≡ empty_database
   pub status_is : status ≡ status_of end_
 

@@ -32,6 +32,7 @@ mod status;
 
 use explaining::{explain, say_error};
 use host_edge::{FileHost, StandIns, StdinSource};
+use page_store::Untold;
 use program::run;
 use status::Status;
 use std::process::ExitCode;
@@ -65,7 +66,7 @@ fn status_of_run(rt: &HostRuntime, words: &Vec<String>) -> Status {
     };
     let mut input = StdinSource::new(rt.reader());
     let host = FileHost::new(rt.alloc(), files, rt.stdout());
-    let ended = run(rt.alloc(), words, &mut input, host);
+    let ended = run(rt.alloc(), words, &mut input, host, &mut Untold);
     let _ = explain(&mut rt.stderr(), ended.status, words, &ended.host, &input);
     ended.status
 }

@@ -9,6 +9,7 @@ ghost use Rattle.page_store.specs.Growing.{GrewByCalls};
 ghost use Rattle.page_store.specs.Opened.{file_bytes};
 ghost use Rattle.page_store.specs.Opening.{IsServed};
 ghost use Rattle.page_store.specs.Standing.{IsFormed};
+ghost use Rattle.session.specs.script.Fetching.{FetchesMore};
 ghost use Rattle.session.specs.script.Told.{StaysTold};
 ghost use Rattle.session.specs.file.Leaving.{AreFormed};
 ghost use Rattle.session.specs.file.Well.{AreWell, IsWell};
@@ -29,6 +30,7 @@ use crate::running::{run_path, run_scratch};
 use crate::status::Status;
 use mdc_outside::{Failed, Host, Source};
 use mdc_values::Memory;
+use page_store::FetchLog;
 use std::alloc::Global;
 use store_api::Shape;
 
@@ -45,12 +47,13 @@ const USAGE: &[u8] = b"usage: mdc create FILE EXTENTS PAGES | run FILE | check F
 /// reply for each statement, as the statement closes. `run -` runs it on a scratch file, which is made first. `create FILE EXTENTS
 /// PAGES` makes an empty database in the file, and says `OK` once it is on the disk, or `FILE EXISTS` where the file has a byte.
 /// `check FILE` judges the database in the file, and says `SOUND`, or `BROKEN` with a page and the rule that it breaks.
-/// For all other words nothing is read, and the usage line is said.
-pub fn run<I: Source, H: Host>(
+/// For all other words nothing is read, and the usage line is said. The log goes on with the pages that come to hand of a run.
+pub fn run<I: Source, H: Host, L: FetchLog>(
     alloc: Global,
     words: &Vec<String>,
     input: &mut I,
     host: H,
+    log: &mut L,
 ) -> Ended<H>
     ensures statuses { IsStatus result.status.0 }
 
@@ -66,11 +69,11 @@ pub fn run<I: Source, H: Host>(
         → (before : File) (said : List ℕ) → H.file host ≡ Some before → H.tape host ≡ Some said → IsServed before.bytes
         → RunsAnyPath H.Disk before said (I.left input.old) (I.left input.new) (H.tape result.host) host result.host result.status.0 }
 
-    // On a file that is well: one run of the script's items, whose replies are those of plain lists of rows, and what a crash
-    // leaves at each moment of it.
+    // On a file that is well: one run of the script's items, whose replies are those of plain lists of rows, which pages come to hand with
+    // each of them, where the log tells them, and what a crash leaves at each moment of it.
     ensures runs { (path : List ℕ) → SpellsLine (map string_bytes words.now.items) (RunFile path)
         → (before : File) (said : List ℕ) → H.file host ≡ Some before → H.tape host ≡ Some said → IsWell before.bytes
-        → RunsPath H.Disk before said (I.left input.old) (I.left input.new) host result.host result.status.0 }
+        → RunsPath H.Disk before said (I.left input.old) (I.left input.new) host result.host result.status.0 (L.told log.old) (L.told log.new) }
 
     // So the next run keeps the promise too.
     ensures stays_well { (path : List ℕ) → SpellsLine (map string_bytes words.now.items) (RunFile path)
@@ -98,7 +101,7 @@ pub fn run<I: Source, H: Host>(
     // `run -`: a scratch file without a byte is made a database, and the script runs on it.
     ensures scratch { SpellsLine (map string_bytes words.now.items) RunScratch
         → (before : File) (said : List ℕ) → H.file host ≡ Some before → H.tape host ≡ Some said → length before.bytes ≡ 0
-        → RunsScratch said (I.left input.old) (I.left input.new) (H.tape result.host) result.status.0 }
+        → RunsScratch said (I.left input.old) (I.left input.new) (H.tape result.host) result.status.0 (L.told log.old) (L.told log.new) }
     ensures scratch_full { SpellsLine (map string_bytes words.now.items) RunScratch
         → (before : File) (said : List ℕ) → H.file host ≡ Some before → H.tape host ≡ Some said → 0 < length before.bytes
         → RefusesScratch said (H.tape result.host) result.status.0 × (H.file result.host ≡ H.file host) × (input.new ≡ input.old) }
@@ -194,6 +197,14 @@ pub fn run<I: Source, H: Host>(
     ensures reads { CountsFault (result.status.0 ≡ 4) (I.read_faults input.old) (I.read_faults input.new) }
     ensures says { CountsFault (result.status.0 ≡ 5) (H.say_faults host) (H.say_faults result.host) }
 
+    // However the run ends, the log goes on with the pages that came to hand. None does of a file that can't be opened, nor by words that
+    // run no script.
+    ensures log { FetchesMore (L.told log.old) (L.told log.new) }
+    ensures unfetched { (path : List ℕ) → SpellsLine (map string_bytes words.now.items) (RunFile path)
+        → ForSome (H.file host) (λ file. (IsServed file.bytes → ⊥) → L.told log.new ≡ L.told log.old) }
+    ensures unlogged { ((path : List ℕ) → SpellsLine (map string_bytes words.now.items) (RunFile path) → ⊥)
+        → (SpellsLine (map string_bytes words.now.items) RunScratch → ⊥) → L.told log.new ≡ L.told log.old }
+
     // Time goes on, and what was told is told still.
     ensures later { H.clock host ≤ H.clock result.host }
     ensures told { StaysTold (H.file host) (H.file result.host) × StaysTold (H.tape host) (H.tape result.host) }
@@ -217,8 +228,8 @@ pub fn run<I: Source, H: Host>(
 {
     nothing_is_run();
     match Command::of_words(alloc, words.as_slice()) {
-        Ok(Some(Command::RunScratch)) => run_scratch(alloc, input, host),
-        Ok(Some(Command::RunFile { path })) => run_path(alloc, path, input, host),
+        Ok(Some(Command::RunScratch)) => run_scratch(alloc, input, host, log),
+        Ok(Some(Command::RunFile { path })) => run_path(alloc, path, input, host, log),
         Ok(Some(Command::Check { path })) => check_path(alloc, path, host),
         Ok(Some(Command::Create { path, shape })) => create_file(host, path, shape),
         Ok(None) => say_usage(host),

@@ -6,7 +6,7 @@ ghost use Rattle.mdc_shell.specs.Words.{RunFile, SpellsLine};
 
 use crate::program::{Ended, run};
 use mdc_outside::{Call, Host, MemHost, MemSource, Source};
-use page_store::{FileStore, OpenFault};
+use page_store::{FileStore, OpenFault, Untold};
 use std::alloc::Global;
 use std::marker::Brand;
 use std::mem::replace;
@@ -44,7 +44,7 @@ fn run_owned<I: Source, H: Host>(
     input: &mut I,
     host: H,
 ) -> (u8, H) {
-    let ended = run(alloc, words, input, host);
+    let ended = run(alloc, words, input, host, &mut Untold);
     (ended.status.0, ended.host)
 }
 
@@ -61,8 +61,8 @@ fn run_both<I: Source, H: Host>(
         → (before : File) (said : List ℕ) → H.file host ≡ Some before → H.tape host ≡ Some said → AreWell before
         → (after : File) × (H.file result.host ≡ Some after) × AreWell after }
 {
-    let between = run(alloc, first, input, host);
-    run(alloc, second, input, between.host)
+    let between = run(alloc, first, input, host, &mut Untold);
+    run(alloc, second, input, between.host, &mut Untold)
 }
 
 /// The status that a command line ends with where it is run a second time, and the host.
@@ -401,7 +401,7 @@ fn a_file_is_made_once(rt: HostRuntime) -> Result<(), Fail> {
 /// Why the file of a host isn't opened, if it isn't.
 fn refusal_of<H: Host + Drop>(alloc: Global, mut host: H) -> Result<Option<OpenFault>, Fail> {
     host.attach("f", true)?;
-    match FileStore::<H, Brand>::open(alloc, host, 8) {
+    match FileStore::<H, Brand, Untold>::open(alloc, host, Untold, 8) {
         Ok(_) => Ok(None),
         Err(unopened) => Ok(Some(unopened.fault)),
     }

@@ -1,10 +1,12 @@
 // The runs of scripts: on the file at a path, and on a scratch file.
 ghost use Rattle.std.specs.Prelude.{◌≡◌, ◌⊎◌, ◌≤◌, ◌<◌, ℕ, List, Some, Err, length, codes, true, false, IsTrue, IfSome};
+ghost use Rattle.std.specs.Option.{ForSome};
 ghost use Rattle.mdc_outside.specs.Disk.{File};
 ghost use Rattle.mdc_words.specs.Faults.{CountsFault};
 ghost use Rattle.page_store.specs.Growing.{GrewByCalls};
 ghost use Rattle.page_store.specs.Opening.{IsServed};
 ghost use Rattle.page_store.specs.Standing.{IsFormed};
+ghost use Rattle.session.specs.script.Fetching.{FetchesMore};
 ghost use Rattle.session.specs.script.Told.{StaysTold};
 ghost use Rattle.session.specs.file.Leaving.{AreFormed};
 ghost use Rattle.session.specs.file.Well.{AreWell, IsWell};
@@ -20,7 +22,7 @@ use crate::laws::{made_files_are_well, nothing_is_run, scratch_runs};
 use crate::program::Ended;
 use crate::status::Status;
 use mdc_outside::{Failed, Host, Source};
-use page_store::OpenFault;
+use page_store::{FetchLog, OpenFault};
 use session::serve_file;
 use std::alloc::Global;
 use std::marker::Brand;
@@ -34,14 +36,21 @@ const SCRATCH_EXTENTS: u32 = 4_096;
 // How many pages each of them has.
 const SCRATCH_PAGES: u32 = 4;
 
-/// Runs the script of the input on the database in the file at the path. A file that isn't served is named by a line.
-pub fn run_path<I: Source, H: Host>(alloc: Global, path: &str, input: &mut I, host: H) -> Ended<H>
+/// Runs the script of the input on the database in the file at the path. A file that isn't served is named by a line. The log goes on with
+/// the pages that come to hand.
+pub fn run_path<I: Source, H: Host, L: FetchLog>(
+    alloc: Global,
+    path: &str,
+    input: &mut I,
+    host: H,
+    log: &mut L,
+) -> Ended<H>
     ensures served { ServesPath (H.file host) (I.left input.old) (I.left input.new) (H.tape host) (H.tape result.host) result.status.0 }
     ensures runs_any { (before : File) (said : List ℕ) → H.file host ≡ Some before → H.tape host ≡ Some said → IsServed before.bytes
         → RunsAnyPath H.Disk before said (I.left input.old) (I.left input.new) (H.tape result.host) host result.host result.status.0 }
     ensures statuses { IsScriptStatus result.status.0 }
     ensures runs { (before : File) (said : List ℕ) → H.file host ≡ Some before → H.tape host ≡ Some said → IsWell before.bytes
-        → RunsPath H.Disk before said (I.left input.old) (I.left input.new) host result.host result.status.0 }
+        → RunsPath H.Disk before said (I.left input.old) (I.left input.new) host result.host result.status.0 (L.told log.old) (L.told log.new) }
     ensures stays_well { (before : File) (said : List ℕ) → H.file host ≡ Some before → H.tape host ≡ Some said → AreWell before
         → (after : File) × (H.file result.host ≡ Some after) × AreWell after }
     ensures reopens { (before : File) (said : List ℕ) → H.file host ≡ Some before → H.tape host ≡ Some said → IsFormed before.bytes
@@ -59,11 +68,13 @@ pub fn run_path<I: Source, H: Host>(alloc: Global, path: &str, input: &mut I, ho
     ensures says { CountsFault (result.status.0 ≡ 5) (H.say_faults host) (H.say_faults result.host) }
     ensures later { H.clock host ≤ H.clock result.host }
     ensures told { StaysTold (H.file host) (H.file result.host) × StaysTold (H.tape host) (H.tape result.host) }
+    ensures log { FetchesMore (L.told log.old) (L.told log.new) }
+    ensures unfetched { ForSome (H.file host) (λ file. (IsServed file.bytes → ⊥) → L.told log.new ≡ L.told log.old) }
 {
     nothing_is_run();
     let mut host = host;
     match host.attach(path, false) {
-        Ok(()) => run_attached(alloc, input, host),
+        Ok(()) => run_attached(alloc, input, host, log),
         Err(Failed) => Ended {
             status: Status::DISK_FAILED,
             host,
@@ -72,9 +83,14 @@ pub fn run_path<I: Source, H: Host>(alloc: Global, path: &str, input: &mut I, ho
 }
 
 /// Makes a database in the scratch file, which has no byte, and runs the script of the input on it.
-pub fn run_scratch<I: Source, H: Host>(alloc: Global, input: &mut I, host: H) -> Ended<H>
+pub fn run_scratch<I: Source, H: Host, L: FetchLog>(
+    alloc: Global,
+    input: &mut I,
+    host: H,
+    log: &mut L,
+) -> Ended<H>
     ensures runs { (before : File) (said : List ℕ) → H.file host ≡ Some before → H.tape host ≡ Some said → length before.bytes ≡ 0
-        → RunsScratch said (I.left input.old) (I.left input.new) (H.tape result.host) result.status.0 }
+        → RunsScratch said (I.left input.old) (I.left input.new) (H.tape result.host) result.status.0 (L.told log.old) (L.told log.new) }
     ensures full { (before : File) (said : List ℕ) → H.file host ≡ Some before → H.tape host ≡ Some said → 0 < length before.bytes
         → RefusesScratch said (H.tape result.host) result.status.0 × (H.file result.host ≡ H.file host) × (input.new ≡ input.old) }
     ensures statuses { IsScriptStatus result.status.0 }
@@ -85,13 +101,14 @@ pub fn run_scratch<I: Source, H: Host>(alloc: Global, input: &mut I, host: H) ->
     ensures says { CountsFault (result.status.0 ≡ 5) (H.say_faults host) (H.say_faults result.host) }
     ensures later { H.clock host ≤ H.clock result.host }
     ensures told { StaysTold (H.file host) (H.file result.host) × StaysTold (H.tape host) (H.tape result.host) }
+    ensures log { FetchesMore (L.told log.old) (L.told log.new) }
 {
     nothing_is_run();
     made_files_are_well();
     scratch_runs();
     let mut host = host;
     match make_at(&mut host, SCRATCH, SCRATCH_EXTENTS, SCRATCH_PAGES) {
-        Ok(()) => run_attached(alloc, input, host),
+        Ok(()) => run_attached(alloc, input, host, log),
         Err(fault) => match fault {
             OpenFault::Exists => refuse_scratch(host),
             _ => Ended {
@@ -120,14 +137,19 @@ fn refuse_scratch<H: Host>(host: H) -> Ended<H>
 }
 
 // Runs the script of the input on the database in the attached file.
-fn run_attached<I: Source, H: Host>(alloc: Global, input: &mut I, host: H) -> Ended<H>
+fn run_attached<I: Source, H: Host, L: FetchLog>(
+    alloc: Global,
+    input: &mut I,
+    host: H,
+    log: &mut L,
+) -> Ended<H>
     requires attached { IsTrue (H.is_attached host) }
     ensures served { ServesPath (H.file host) (I.left input.old) (I.left input.new) (H.tape host) (H.tape result.host) result.status.0 }
     ensures runs_any { (before : File) (said : List ℕ) → H.file host ≡ Some before → H.tape host ≡ Some said → IsServed before.bytes
         → RunsAnyPath H.Disk before said (I.left input.old) (I.left input.new) (H.tape result.host) host result.host result.status.0 }
     ensures statuses { IsScriptStatus result.status.0 }
     ensures runs { (before : File) (said : List ℕ) → H.file host ≡ Some before → H.tape host ≡ Some said → IsWell before.bytes
-        → RunsPath H.Disk before said (I.left input.old) (I.left input.new) host result.host result.status.0 }
+        → RunsPath H.Disk before said (I.left input.old) (I.left input.new) host result.host result.status.0 (L.told log.old) (L.told log.new) }
     ensures stays_well { (before : File) (said : List ℕ) → H.file host ≡ Some before → H.tape host ≡ Some said → AreWell before
         → (after : File) × (H.file result.host ≡ Some after) × AreWell after }
     ensures reopens { (before : File) (said : List ℕ) → H.file host ≡ Some before → H.tape host ≡ Some said → IsFormed before.bytes
@@ -145,7 +167,9 @@ fn run_attached<I: Source, H: Host>(alloc: Global, input: &mut I, host: H) -> En
     ensures says { CountsFault (result.status.0 ≡ 5) (H.say_faults host) (H.say_faults result.host) }
     ensures later { H.clock host ≤ H.clock result.host }
     ensures told { StaysTold (H.file host) (H.file result.host) × StaysTold (H.tape host) (H.tape result.host) }
+    ensures log { FetchesMore (L.told log.old) (L.told log.new) }
+    ensures unfetched { ForSome (H.file host) (λ file. (IsServed file.bytes → ⊥) → L.told log.new ≡ L.told log.old) }
 {
-    let ended = serve_file::<I, H, Brand>(alloc, input, host);
+    let ended = serve_file::<I, H, Brand, L>(alloc, input, host, log);
     end_run(alloc, ended.end, ended.host)
 }

@@ -1,9 +1,10 @@
 -- The blocks that the trees of a table list, their lines and their cells; and the damage that calls which read them may name.
-use Rattle.std.proofs.Common.{◌≡◌, ◌<◌, ◌≤◌, ◌^◌, ℕ, suc, IsTrue, List, [], ◌∷◌, Bool, true, false, not, refl, ap, arith, sym, ◌∙◌, subst, inl, inr, Option, Some, None}
-use Rattle.std.specs.Prelude.{◌↔◌, AllPairs, Contains}
+use Rattle.std.proofs.Common.{◌≡◌, ◌<◌, ◌≤◌, ◌^◌, ℕ, suc, IsTrue, List, [], ◌∷◌, false, length, refl, ap, arith, sym, ◌∙◌, subst, inl, inr, Option, Some, None}
+use Rattle.std.specs.Prelude.{◌↔◌, AllPairs, Contains, Err, IfErr, Ok, Result}
 use Rattle.std.proofs.lemmas.Bool.{eq-eqb}
 use Rattle.mdc_ast.specs.declared.definition.TableDef.{TableDef}
 use Rattle.mdc_ast.specs.declared.row.Cell.{Cell}
+use Rattle.store_api.specs.Causes.{fault_of}
 use Rattle.store_api.specs.Extents.{first_page_of}
 use Rattle.store_api.specs.Frame.{NoPage}
 use Rattle.store_api.specs.RunsOverPages.{RunsOverPages}
@@ -22,20 +23,23 @@ use Rattle.block_map.specs.MapRows.{row_entry, state_number}
 use Rattle.block_map.specs.declared.row.BlockRow.{BlockRow}
 use Rattle.block_map.specs.declared.state.BlockState.TheVariants as state
 use Rattle.block_map.proofs.MapLinesLemmas.{contains_cases, in_state_named, row_block, row_state}
+use Rattle.block_rows.specs.CountedRows.{HasSeenCounted, counted_rows}
 use Rattle.block_rows.specs.HeldRows.{BreaksRows}
 use Rattle.block_rows.specs.SeenRows.{AreInCell, HasSeenRows, IsInCell}
+use Rattle.block_rows.specs.declared.seen_rows.SeenRows.{SeenRows}
 use Rattle.free_space.proofs.FoundRoomLemmas.{used_is_mapped, used_is_used}
+use Rattle.free_space.proofs.TableRunsLemmas.{runs_broken}
 use Rattle.table_trees.specs.RowCells.{cell_places, cell_values}
 use Rattle.table_trees.specs.TableTrees.{map_place}
 use Rattle.table_trees.specs.TreesBeside.{HoldsTreeAt, IsTreePageAt}
 use Rattle.table_trees.specs.ToldPages.{PageList}
 use Rattle.mdc_sound.specs.BlockRules.{IsOfOneCell, IsUsedCountSound}
-use Rattle.mdc_sound.specs.StandingTable.{BreaksExpected, IsPageOfBlock, NamesTablePart, TableForests, pages_of}
+use Rattle.mdc_sound.specs.StandingTable.{BreaksExpected, NamesTablePart, StandsTable, TableForests, pages_of}
 use Rattle.mdc_sound.specs.TableRows.{PlacedRow, rows_in_block}
 use Rattle.mdc_sound.proofs.BlockRulesLemmas.{each_of}
 use Rattle.mdc_sound.proofs.ElementsLemmas.{contains_entry, each_in, entry_in, from_map, in_map}
 use Rattle.mdc_sound.proofs.MappedBlocksLemmas.{entry_rows}
-use Rattle.mdc_table.specs.SeenBlocks.{HasSeenBlock, IsListedSo, used_line_of}
+use Rattle.mdc_table.specs.SeenBlocks.{HasSeenBlock, HasSeenCountedBlock, IsListedSo, NamesUnlisted, used_line_of}
 use Rattle.mdc_table.specs.TableReading.{HasUsedBlock}
 use Rattle.mdc_table.specs.declared.listed.ListedBlock.{ListedBlock}
 use Rattle.table_blocks.proofs.SeenSlotsLemmas.{holds_map}
@@ -78,14 +82,6 @@ line_found map_tree block row small few used found =
     (subst (λ s. Contains (map_lines map_tree) (record { block = (map_line (row_entry row)).block; state = s; rows = row.rows })) (row_state row ∙ ap state_number used)
     (subst (λ n. Contains (map_lines map_tree) (record { block = (map_line (row_entry row)).block; state = (map_line (row_entry row)).state; rows = n })) (entry_rows row few) there))
 
-not_true : (b : Bool) → not b ≡ true → b ≡ false
-not_true true is = absurd cc
-not_true false is = refl
-
-not_false : (b : Bool) → not b ≡ false → b ≡ true
-not_false true is = refl
-not_false false is = absurd cc
-
 -- the rows of a block of one cell are of the given one, if that is the cell of one of them
 in_given_cell : (def : TableDef) (given : Option Cell) (rows : List PlacedRow) → AllPairs (λ a b. cell_values def a.row.values ≡ cell_values def b.row.values) rows
     → ((cell : Cell) → given ≡ Some cell → (placed : PlacedRow) × Contains rows placed × (cell.values ≡ cell_values def placed.row.values)) → AreInCell (cell_places def) given rows
@@ -94,10 +90,37 @@ in_given_cell def (Some cell) rows one its =
     let (placed, there, is) = its cell refl in
     each_in (IsInCell (cell_places def) cell) rows (λ other within. is ∙ same_of_any (λ (placed : PlacedRow). cell_values def placed.row.values) rows one placed other there within)
 
--- all was as listed
-pub seen_listed : (shape : Shape) (def : TableDef) (listed : ListedBlock) (pages : PageList) (count : ℕ) (in_cell : Bool) → count ≡ listed.rows → not in_cell ≡ false → HasSeenRows shape pages def listed.block count
-    → (IsTrue in_cell ↔ AreInCell (cell_places def) listed.cell (rows_in_block shape pages def listed.block)) → HasSeenBlock shape pages def listed
-seen_listed shape def listed pages count in_cell equal are rows known = record { rows = subst (HasSeenRows shape pages def listed.block) equal rows; cell = known.0 (not_false in_cell are) }
+-- What was seen of the rows of a block, where it has as many as its line says.
+pub record IsSeenIfListed (shape : Shape) (pages : PageList) (def : TableDef) (listed : ListedBlock) (seen : SeenRows) : Type 0 where
+  pub rows : length (rows_in_block shape pages def listed.block) ≡ listed.rows → seen.rows ≡ listed.rows
+  pub cell : length (rows_in_block shape pages def listed.block) ≡ listed.rows → IsTrue seen.in_cell ↔ AreInCell (cell_places def) listed.cell (rows_in_block shape pages def listed.block)
+
+module _ (shape : Shape) (pages : PageList) (def : TableDef) (listed : ListedBlock) (seen : SeenRows) where
+  -- where all its rows were met
+  pub seen_all_rows : HasSeenRows shape pages def listed.block seen.rows → (IsTrue seen.in_cell ↔ AreInCell (cell_places def) listed.cell (rows_in_block shape pages def listed.block))
+      → IsSeenIfListed shape pages def listed seen
+  seen_all_rows rows cell = record { rows = λ as_many. rows.counted ∙ as_many; cell = λ as_many. cell }
+
+  -- where those that are counted were
+  pub seen_counted_rows : HasSeenCounted shape pages def listed.block listed.rows seen.rows
+      → (IsTrue seen.in_cell ↔ AreInCell (cell_places def) listed.cell (counted_rows shape pages def listed.block listed.rows))
+      → (length (rows_in_block shape pages def listed.block) ≤ listed.rows → counted_rows shape pages def listed.block listed.rows ≡ rows_in_block shape pages def listed.block)
+      → IsSeenIfListed shape pages def listed seen
+  seen_counted_rows rows cell whole = record {
+    rows = λ as_many. rows.counted ∙ ap length (whole (omega (arith, as_many))) ∙ as_many;
+    cell = λ as_many. subst (λ all. IsTrue seen.in_cell ↔ AreInCell (cell_places def) listed.cell all) (whole (omega (arith, as_many))) cell;
+  }
+
+  -- all was as listed
+  pub seen_listed : HasSeenRows shape pages def listed.block seen.rows → (IsTrue seen.in_cell ↔ AreInCell (cell_places def) listed.cell (rows_in_block shape pages def listed.block))
+      → seen.rows ≡ listed.rows → IsTrue seen.in_cell → HasSeenBlock shape pages def listed
+  seen_listed rows known equal are = record { rows = subst (HasSeenRows shape pages def listed.block) equal rows; cell = known.0 are }
+
+  -- so were the rows that are counted
+  pub seen_counted : HasSeenCounted shape pages def listed.block listed.rows seen.rows
+      → (IsTrue seen.in_cell ↔ AreInCell (cell_places def) listed.cell (counted_rows shape pages def listed.block listed.rows))
+      → seen.rows ≡ listed.rows → IsTrue seen.in_cell → HasSeenCountedBlock shape pages def listed
+  seen_counted rows known equal are = record { rows = subst (HasSeenCounted shape pages def listed.block listed.rows) equal rows; cell = known.0 are }
 
 module _ {S : Type 0} {g : Ghosts S} (shape : Shape) (s : S) (def : TableDef) where
   -- so it is in the map of the table
@@ -146,25 +169,29 @@ module _ {S : Type 0} {g : Ghosts S} (shape : Shape) (s : S) (def : TableDef) wh
         let breaks = breaks_past shape s def listed.block past in
         record { names = breaks.names; broken = λ owners forests st so. breaks.broken owners forests st (block_there owners forests so) }
 
-    -- other rows than its line says
-    pub breaks_count : (count : ℕ) → (IsTrue (g.state s).is_told → HasSeenRows shape (pages_of g s) def listed.block count) → (count ≡ listed.rows → ⊥)
+    -- it has as many rows as its line says
+    pub rows_as_listed : (owners : List Kind) (forests : TableForests) → StandsTable g shape s def owners forests → IsListedSo g shape s def listed owners forests
+        → length (rows_in_block shape (pages_of g s) def listed.block) ≡ listed.rows
+    rows_as_listed owners forests st so = sym ((each_of (IsUsedCountSound shape (pages_of g s) def) (map_lines forests.map) (used_line_of listed) st.used_counts so.line).counted refl)
+
+    -- no row by its line, or other rows than it says
+    breaks_count : (seen : SeenRows) → (IsTrue (g.state s).is_told → IsSeenIfListed shape (pages_of g s) def listed seen) → (seen.rows ≡ listed.rows → 0 < listed.rows → ⊥)
         → BreaksExpected g shape s def (IsListedSo g shape s def listed) (record { page = first_page_of shape.extents shape.extent_pages listed.block; rule = 8 })
-    breaks_count count seen other = record {
+    breaks_count seen known other = record {
       names = NamesTablePart.row_count listed.block refl refl;
       broken = λ owners forests st so.
-          let sound = each_of (IsUsedCountSound shape (pages_of g s) def) (map_lines forests.map) (used_line_of listed) st.used_counts so.line in
-          other ((seen st.told).counted ∙ sym (sound.counted refl));
+          other ((known st.told).rows (rows_as_listed owners forests st so)) ((each_of (IsUsedCountSound shape (pages_of g s) def) (map_lines forests.map) (used_line_of listed) st.used_counts so.line).some_row refl);
     }
 
     -- a row of another cell
-    pub breaks_cell : (in_cell : Bool) → (IsTrue (g.state s).is_told → IsTrue in_cell ↔ AreInCell (cell_places def) listed.cell (rows_in_block shape (pages_of g s) def listed.block)) → not in_cell ≡ true
+    breaks_cell : (seen : SeenRows) → (IsTrue (g.state s).is_told → IsSeenIfListed shape (pages_of g s) def listed seen) → seen.in_cell ≡ false
         → BreaksExpected g shape s def (IsListedSo g shape s def listed) (record { page = first_page_of shape.extents shape.extent_pages listed.block; rule = 9 })
-    breaks_cell in_cell known strays = record {
+    breaks_cell seen known strays = record {
       names = NamesTablePart.row_cell listed.block refl refl;
       broken = λ owners forests st so.
           let one = each_of (IsOfOneCell shape (pages_of g s) def) (used_blocks forests.map) listed.block st.cells (block_there owners forests so).used in
-          let all : IsTrue in_cell = (known st.told).1 (in_given_cell def listed.cell (rows_in_block shape (pages_of g s) def listed.block) one so.cell) in
-          let none = not_true in_cell strays in
+          let all : IsTrue seen.in_cell =
+          ((known st.told).cell (rows_as_listed owners forests st so)).1 (in_given_cell def listed.cell (rows_in_block shape (pages_of g s) def listed.block) one so.cell) in
           absurd cc;
     }
 
@@ -180,8 +207,19 @@ module _ {S : Type 0} {g : Ghosts S} where
       (λ damage b. record { names = b.names; broken = λ owners forests st has. b.broken owners forests st })
 
   -- a call on the rows of a block
-  pub runs_on_listed : {old new : S} {fault : Option StoreFault} (shape : Shape) (def : TableDef) (listed : ListedBlock) → listed.block < shape.extents
-      → RunsOverPages g NoPage (IsPageOfBlock shape listed.block) (BreaksRows g shape old def listed.block) old new fault
-      → RunsOverPages g NoPage (IsPageOfBlock shape listed.block) (BreaksExpected g shape old def (IsListedSo g shape old def listed)) old new fault
-  runs_on_listed {old} shape def listed low run =
+  pub runs_on_listed : {Kind : ℕ → Type 0} {old new : S} {fault : Option StoreFault} (shape : Shape) (def : TableDef) (listed : ListedBlock) → listed.block < shape.extents
+      → RunsOverPages g NoPage Kind (BreaksRows g shape old def listed.block) old new fault
+      → RunsOverPages g NoPage Kind (BreaksExpected g shape old def (IsListedSo g shape old def listed)) old new fault
+  runs_on_listed {old = old} shape def listed low run =
       runs_wider run (λ p there none. absurd none) (λ p is. is) (λ damage b. breaks_rows_of_listed shape old def listed damage low b)
+
+  -- and a look whether what was seen of them is as it is listed
+  pub runs_as_listed : {Kind : ℕ → Type 0} {old new : S} (shape : Shape) (def : TableDef) (listed : ListedBlock) (seen : SeenRows) (result : Result (Unit {0}) StoreFault) → listed.block < shape.extents
+      → RunsOverPages g NoPage Kind (BreaksRows g shape old def listed.block) old new None → (IsTrue (g.state old).is_told → IsSeenIfListed shape (pages_of g old) def listed seen)
+      → IfErr result (NamesUnlisted shape listed seen)
+      → RunsOverPages g NoPage Kind (BreaksExpected g shape old def (IsListedSo g shape old def listed)) old new (fault_of result)
+  runs_as_listed shape def listed seen (Ok done) low run known names = runs_on_listed {fault = None} shape def listed low run
+  runs_as_listed {old = old} shape def listed seen (Err fault) low run known (NamesUnlisted.of_rows other is) =
+      runs_broken fault is (runs_on_listed {fault = None} shape def listed low run) (breaks_count shape old def listed seen known other)
+  runs_as_listed {old = old} shape def listed seen (Err fault) low run known (NamesUnlisted.of_cell strays is) =
+      runs_broken fault is (runs_on_listed {fault = None} shape def listed low run) (breaks_cell shape old def listed seen known strays)

@@ -19,12 +19,13 @@ use Rattle.table_trees.specs.TableTrees.{rising_parts}
 use Rattle.block_index.specs.Cells.{HaveKeys}
 use Rattle.block_rows.specs.HeldRows.{HasReadValues}
 use Rattle.table_trees.specs.RowCells.{AreOfOneCell}
+use Rattle.table_trees.specs.SpaceChanges.{IsSameSpace}
 use Rattle.mdc_sound.specs.Placing.{IsRowAt, Spot, block_slot_count, left_with}
 use Rattle.mdc_sound.specs.Placing.Spot.{UsedBlock}
 use Rattle.mdc_sound.proofs.SlotRowsLemmas.{empty_slot}
 use Rattle.table_blocks.proofs.ClearedSlotsLemmas.{count_cleared}
 use Rattle.row_page.specs.RowPage.{count_rows}
-use Rattle.mdc_sound.specs.StandingTable.{AreRightRooms, BreaksExpected, HasRowAt, IsReadyTable, NamesTablePart, OverwritesRow, RoomNote, StandsTable, TableForests, TakesRowOut, spots_of}
+use Rattle.mdc_sound.specs.StandingTable.{AreRightRooms, BreaksExpected, HasRowAt, IsReadyTable, NamesTablePart, RoomNote, StandsTable, TableForests, TakesRowOut, pages_of, spots_of}
 use Rattle.table_blocks.specs.BlockChanges.{SameSpot, TurnsSpot}
 use Rattle.table_blocks.specs.BlockSteps.{EmptiesSlot, HasThisRow}
 use Rattle.free_space.specs.FoundRoom.{cell_key_of}
@@ -32,8 +33,9 @@ use Rattle.free_space.specs.RoomNotes.{IsForgotten, Lowers, lowered_to, room_of}
 use Rattle.free_space.specs.declared.rooms.Rooms.{Rooms}
 use Rattle.free_space.proofs.RoomNotesLemmas.{noted_at_most, others_at_most}
 use Rattle.mdc_table.specs.AnyPlace.{TakesOutAnywhere}
-use Rattle.mdc_table.specs.LoweredNotes.{LowersNoteOf}
-use Rattle.mdc_table.specs.TableReading.{HasRowOfCell}
+use Rattle.mdc_table.specs.LoweredNotes.{LowersNoteOf, NotesRowTaken}
+use Rattle.mdc_table.specs.RowSteps.{OverwritesRowInTable}
+use Rattle.mdc_table.specs.WhereStanding.{WhereStandsWithRow}
 use Rattle.mdc_table.proofs.KeptRoomsLemmas.{rooms_left, rooms_lowered, rooms_overwritten}
 use Rattle.mdc_table.proofs.StandingBlocksLemmas.{length-slots_at, lies_within}
 
@@ -123,13 +125,13 @@ module _ {S : Type 0} {g : Ghosts S} where
         }
 
     -- a row was taken out, and the note of its cell lowered
-    pub row_taken : LowersNoteOf def row rid.block from now → TakesRowOut g shape before noted now old new def owners forests row rid
+    row_taken : LowersNoteOf def row rid.block from now → TakesRowOut g shape before noted now old new def owners forests row rid
     row_taken lowers =
         row_out (rooms_lowered shape old new def owners empties.owners_now forests empties.forests_now ready.stands empties.turns.changes.stands from ready.rooms now rid row empties.slots empties.lies
         empties.turns.spots lowers)
 
   -- a row was taken out of a block that had room before, and others are left in it
-  pub row_taken_of_several : (shape : Shape) (before noted : SpaceNotes) (old new : S) (def : TableDef) (rid : Rid) (row : Row) (owners : List Kind) (forests : TableForests) (from : Entry → RoomNote) (left : ℕ)
+  row_taken_of_several : (shape : Shape) (before noted : SpaceNotes) (old new : S) (def : TableDef) (rid : Rid) (row : Row) (owners : List Kind) (forests : TableForests) (from : Entry → RoomNote) (left : ℕ)
       → IsReadyTable g shape before from old def owners forests → EmptiesSlot g shape before noted old new def rid row owners forests
       → ((slots : List (Option Row)) → IsRowAt (spots_of g shape old def owners forests) rid row slots → count_rows slots ≡ left + 1) → 0 < left → left + 1 < block_slot_count shape def
       → TakesRowOut g shape before noted from old new def owners forests row rid
@@ -141,20 +143,40 @@ module _ {S : Type 0} {g : Ghosts S} where
       (rooms_left shape old new def owners empties.owners_now forests empties.forests_now ready.stands empties.turns.changes.stands from ready.rooms rid row empties.slots empties.lies empties.turns.spots
       (empty_slot empties.slots (omega (arith, counted, long, fewer))) (omega (arith, counted, less, several)))
 
--- a row was written over
+  -- a row was taken out, and its block's rows that are left and the notes are as they should be
+  pub row_taken_noted : (shape : Shape) (before noted : SpaceNotes) (old new : S) (def : TableDef) (rid : Rid) (row : Row) (owners : List Kind) (forests : TableForests) (from now : Entry → RoomNote) (left n : ℕ)
+      → n ≡ block_slot_count shape def → IsReadyTable g shape before from old def owners forests → EmptiesSlot g shape before noted old new def rid row owners forests
+      → ((slots : List (Option Row)) → IsRowAt (spots_of g shape old def owners forests) rid row slots → count_rows slots ≡ left + 1) → NotesRowTaken def row rid.block left n from now
+      → TakesRowOut g shape before noted now old new def owners forests row rid
+  row_taken_noted shape before noted old new def rid row owners forests from now left n long ready empties counts (NotesRowTaken.stay several fewer same) =
+      subst (λ (notes : Entry → RoomNote). TakesRowOut g shape before noted notes old new def owners forests row rid) (sym same)
+      (row_taken_of_several shape before noted old new def rid row owners forests from left ready empties counts several (omega (arith, fewer, long)))
+  row_taken_noted shape before noted old new def rid row owners forests from now left n long ready empties counts (NotesRowTaken.lowered by) =
+      row_taken shape before noted old new def rid row owners forests from now ready empties by
+
+-- another row was written over the one that lay in the place
 pub row_overwritten : {S : Type 0} (g : Ghosts S) (shape : Shape) (old new : S) (def : TableDef) (rid : Rid) (row : Row) (from : Entry → RoomNote) (result : Result (Unit {0}) StoreFault)
     → OnOk result ((noted : SpaceNotes) (owners : List Kind) (forests : TableForests) (was : Row) (slots : List (Option Row)) → StandsTable g shape old def owners forests
     → IsRowAt (spots_of g shape old def owners forests) rid was slots → AreOfOneCell def was.values row.values
     → TurnsSpot g SameSpot shape noted noted old new def rid.block (UsedBlock (slice_set slots rid.slot (Some row))) owners forests owners forests)
-    → OnOk result ((noted : SpaceNotes) (owners : List Kind) (forests : TableForests) (was : Row) → IsReadyTable g shape noted from old def owners forests → HasRowOfCell g shape old def rid was row owners forests
-    → OverwritesRow g shape noted noted from old new def owners forests was row rid)
-row_overwritten g shape old new def rid row from (Ok x) turns = λ noted owners forests was ready has.
-    let turned = turns noted owners forests was has.slots ready.stands has.lies has.one_cell in
+    → OnOk result ((owners : List Kind) (forests : TableForests) → StandsTable g shape old def owners forests → HasRowAt g shape old def rid owners forests → IsSameSpace shape (pages_of g old) (pages_of g new))
+    → OnOk result ((was : Row) → WhereStandsWithRow g shape old def rid was (OverwritesRowInTable g shape from old new def was row rid))
+row_overwritten g shape old new def rid row from (Ok x) turns makes = λ was owners forests st has.
+    let noted : SpaceNotes = record { free_from = 0; unused_from = 0 } in
+    let other_there = λ (cell : AreOfOneCell def was.values row.values) (slots : List (Option Row)) (lies : IsRowAt (spots_of g shape old def owners forests) rid was slots).
+    sym (same_spots (slice_set (spots_of g shape old def owners forests) rid.block (UsedBlock (slice_set slots rid.slot (Some row)))) (spots_of g shape new def owners forests) (turns noted owners forests was slots st lies cell).spots) in
     record {
-      changes = turned.changes;
-      rooms = rooms_overwritten shape old new def owners owners forests forests ready.stands turned.changes.stands from ready.rooms rid was row has.slots has.lies has.one_cell turned.spots;
-      slots = has.slots;
-      lay = has.lies;
-      spots = sym (same_spots (slice_set (spots_of g shape old def owners forests) rid.block (UsedBlock (slice_set has.slots rid.slot (Some row)))) (spots_of g shape new def owners forests) turned.spots);
+      makes = makes owners forests st (record { row = was; slots = has.slots; lies = has.lies });
+      leaves = λ cell noted. (turns noted owners forests was has.slots st has.lies cell).changes;
+      anywhere = other_there;
+      overwrites = λ cell noted ready.
+          let turned = turns noted owners forests was has.slots st has.lies cell in
+          record {
+            changes = turned.changes;
+            rooms = rooms_overwritten shape old new def owners owners forests forests st turned.changes.stands from ready.rooms rid was row has.slots has.lies cell turned.spots;
+            slots = has.slots;
+            lay = has.lies;
+            spots = other_there cell has.slots has.lies;
+          };
     }
-row_overwritten g shape old new def rid row from (Err fault) turns = tt
+row_overwritten g shape old new def rid row from (Err fault) turns makes = tt

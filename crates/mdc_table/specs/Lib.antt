@@ -6,4 +6,5 @@ pub mod RowSteps
 pub mod SeenBlocks
 pub mod SeenPlaces
 pub mod TableReading
+pub mod UsedSlots
 pub mod WhereStanding

@@ -1,5 +1,5 @@
 -- What becomes of the notes of rooms where a row was taken out of a block.
-use Rattle.std.specs.Prelude.{◌≢◌, ℕ}
+use Rattle.std.specs.Prelude.{◌≡◌, ◌≢◌, ◌<◌, ◌+◌, ℕ}
 use Rattle.mdc_words.specs.ByteOrder.{Entry}
 use Rattle.mdc_ast.specs.declared.definition.TableDef.{TableDef}
 use Rattle.mdc_ast.specs.declared.row.Row.{Row}
@@ -11,3 +11,9 @@ use Rattle.free_space.specs.RoomNotes.{SaysNoMore, lowered_to}
 pub record LowersNoteOf (def : TableDef) (row : Row) (block : ℕ) (from now : Entry → RoomNote) : Type 0 where
   pub cell : SaysNoMore (now (cell_key_of def row.values)) (lowered_to block (from (cell_key_of def row.values)))
   pub others : (other : Entry) → other ≢ cell_key_of def row.values → SaysNoMore (now other) (from other)
+
+-- What becomes of them where so many rows are left in the block, of n slots: they stay where it had room before and keeps rows, and else
+-- the note of the row's cell is lowered.
+pub data NotesRowTaken (def : TableDef) (row : Row) (block left n : ℕ) (from now : Entry → RoomNote) : Type 0 where
+  stay : 0 < left → left + 1 < n → now ≡ from → NotesRowTaken def row block left n from now
+  lowered : LowersNoteOf def row block from now → NotesRowTaken def row block left n from now

@@ -1,6 +1,6 @@
--- What putting a row into a table makes of it, and what taking one out does: one record each, of what holds whatever the notes say, and
--- of what right notes give besides.
-use Rattle.std.specs.Prelude.{◌≡◌, List, Option, slice_index_or}
+-- What putting a row into a table makes of it, what taking one out does, and what writing one over does: one record each, of what holds
+-- whatever the notes say, and of what right notes give besides.
+use Rattle.std.specs.Prelude.{◌≡◌, List, Option, Some, slice_index_or, slice_set}
 use Rattle.mdc_words.specs.ByteOrder.{Entry}
 use Rattle.mdc_values.specs.declared.rid.Rid.{Rid}
 use Rattle.mdc_ast.specs.declared.definition.TableDef.{TableDef}
@@ -10,11 +10,12 @@ use Rattle.store_api.specs.declared.shape.Shape.{Shape}
 use Rattle.extent_map.specs.declared.kind.Kind.{Kind}
 use Rattle.extent_map.specs.declared.space_notes.SpaceNotes.{SpaceNotes}
 use Rattle.row_page.specs.RowPage.{count_rows}
-use Rattle.table_trees.specs.SpaceChanges.{MakesChanges}
+use Rattle.table_trees.specs.RowCells.{AreOfOneCell}
+use Rattle.table_trees.specs.SpaceChanges.{IsSameSpace, MakesChanges}
 use Rattle.mdc_sound.specs.Placing.{IsRowAt}
-use Rattle.mdc_sound.specs.Placing.Spot.{OtherBlock}
+use Rattle.mdc_sound.specs.Placing.Spot.{OtherBlock, UsedBlock}
 use Rattle.mdc_sound.specs.RunningFull.{block_changes, left_changes}
-use Rattle.mdc_sound.specs.StandingTable.{IsReadyTable, KeepsBlocksBut, PlacesRow, RoomNote, TableForests, TakesRowOut, pages_of, spots_of}
+use Rattle.mdc_sound.specs.StandingTable.{ChangesTable, IsReadyTable, KeepsBlocksBut, OverwritesRow, PlacesRow, RoomNote, TableForests, TakesRowOut, pages_of, spots_of}
 use Rattle.mdc_table.specs.AnyPlace.{PlacesAnywhere, TakesOutAnywhere}
 
 -- The row was put into a table that stood, with these notes of free space and of the rooms before and now.
@@ -41,3 +42,17 @@ pub record TakesRowFromTable {S : Type 0} (g : Ghosts S) (shape : Shape) (before
       → MakesChanges shape (pages_of g old) (left_changes def row rid.block (count_rows slots)) (pages_of g new)
   -- where the notes were right they are
   pub takes : IsReadyTable g shape before room_of old def owners forests → TakesRowOut g shape before noted room_now old new def owners forests row rid
+
+-- Another row was written over this one, which lay in this place of a table that stood, with these notes of the rooms.
+pub record OverwritesRowInTable {S : Type 0} (g : Ghosts S) (shape : Shape) (room_of : Entry → RoomNote) (old new : S) (def : TableDef) (was row : Row) (rid : Rid)
+    (owners : List Kind) (forests : TableForests) : Type 0 where
+  -- space is as it was
+  pub makes : IsSameSpace shape (pages_of g old) (pages_of g new)
+  -- where both are of one cell the table stands with the owners and the trees that it had, whatever is noted
+  pub leaves : AreOfOneCell def was.values row.values → (noted : SpaceNotes) → ChangesTable g shape noted noted old new def owners forests owners forests
+  -- the other row lies in the place, and all else is as it was
+  pub anywhere : AreOfOneCell def was.values row.values → (slots : List (Option Row)) → IsRowAt (spots_of g shape old def owners forests) rid was slots
+      → spots_of g shape new def owners forests ≡ slice_set (spots_of g shape old def owners forests) rid.block (UsedBlock (slice_set slots rid.slot (Some row)))
+  -- and where the notes were right they are
+  pub overwrites : AreOfOneCell def was.values row.values → (noted : SpaceNotes) → IsReadyTable g shape noted room_of old def owners forests
+      → OverwritesRow g shape noted noted room_of old new def owners forests was row rid

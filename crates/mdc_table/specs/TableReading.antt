@@ -1,20 +1,16 @@
 -- What the calls that read a table answer.
-use Rattle.std.specs.Prelude.{◌≡◌, ◌⊎◌, ◌==◌, if◌then◌else◌, ℕ, List, [], Option, Contains, length}
+use Rattle.std.specs.Prelude.{◌≡◌, ◌⊎◌, ◌==◌, if◌then◌else◌, ℕ, List, [], Contains, length}
 use Rattle.std.specs.List.{list_any}
-use Rattle.mdc_values.specs.declared.rid.Rid.{Rid}
 use Rattle.mdc_ast.specs.declared.definition.TableDef.{TableDef}
-use Rattle.mdc_ast.specs.declared.row.Row.{Row}
 use Rattle.store_api.specs.declared.pages.Pages.{Ghosts}
 use Rattle.store_api.specs.declared.shape.Shape.{Shape}
 use Rattle.extent_map.specs.declared.kind.Kind.{Kind}
 use Rattle.entry_tree.specs.Forest.{Forest}
 use Rattle.block_map.specs.MapLines.{free_blocks, pending_blocks, used_blocks}
-use Rattle.table_trees.specs.RowCells.{AreOfOneCell}
-use Rattle.mdc_sound.specs.Placing.{IsRowAt}
 use Rattle.table_trees.specs.TableTrees.{map_place}
 use Rattle.table_trees.specs.TreesBeside.{IsTreePageAt}
 use Rattle.table_trees.specs.ToldPages.{PageList}
-use Rattle.mdc_sound.specs.StandingTable.{IsPageOfBlock, StandsTable, TableForests, spots_of}
+use Rattle.mdc_sound.specs.StandingTable.{IsPageOfBlock, StandsTable, TableForests}
 use Rattle.mdc_sound.specs.TableRows.{PlacedRow, rows_in_block}
 use Rattle.mdc_table.specs.declared.account.Account.{Account}
 
@@ -27,12 +23,6 @@ pub record CountsBlocks (map_tree : Forest) (account : Account) : Type 0 where
   pub used : account.used ≡ length (used_blocks map_tree)
   pub free : account.free ≡ length (free_blocks map_tree)
   pub pending : account.pending ≡ length (pending_blocks map_tree)
-
--- a row lies in a place, and another one is of its cell
-pub record HasRowOfCell {S : Type 0} (g : Ghosts S) (shape : Shape) (s : S) (def : TableDef) (rid : Rid) (row other : Row) (owners : List Kind) (forests : TableForests) : Type 0 where
-  pub slots : List (Option Row)
-  pub lies : IsRowAt (spots_of g shape s def owners forests) rid row slots
-  pub one_cell : AreOfOneCell def row.values other.values
 
 -- the pages that looking for the row of a place brings to hand: those of the block map, where it is a tree, and of the block
 abbrev pub IsRowLook : {S : Type 0} → Ghosts S → Shape → S → TableDef → ℕ → ℕ → Type 0

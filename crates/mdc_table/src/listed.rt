@@ -1,5 +1,5 @@
 // A block as the trees of its table list it, and its rows.
-ghost use Rattle.std.specs.Prelude.{◌≡◌, length, false, IsTrue, OnOk};
+ghost use Rattle.std.specs.Prelude.{◌≡◌, ◌<◌, length, false, IsTrue, IfErr, OnOk};
 ghost use Rattle.mdc_ast.specs.declared.row.Row.{Row};
 ghost use Rattle.mdc_ast.specs.TableLimits.{IsTableDef};
 ghost use Rattle.store_api.specs.Causes.{fault_of};
@@ -13,10 +13,10 @@ ghost use Rattle.block_rows.specs.HeldRows.{HasReadValues, qualifying};
 ghost use Rattle.table_trees.specs.RowCells.{cell_places};
 ghost use Rattle.mdc_sound.specs.StandingTable.{BreaksExpected, IsPageOfBlock, pages_of};
 ghost use Rattle.mdc_sound.specs.TableRows.{rows_in_block};
-ghost use Rattle.mdc_table.specs.SeenBlocks.{HasSeenBlock, IsListedSo};
+ghost use Rattle.mdc_table.specs.SeenBlocks.{HasSeenBlock, IsListedSo, NamesUnlisted};
 
 use crate::faults::{strayed, unmapped};
-use block_rows::{CellColumns, RowSink, scan_block};
+use block_rows::{CellColumns, RowSink, SeenRows, scan_block};
 use mdc_ast::{Cell, TableDef};
 use row_filter::RowFilter;
 use std::alloc::Global;
@@ -77,11 +77,25 @@ pub fn scan_listed_block<P: Pages, K: RowSink>(
         filter,
         sink,
     )?;
-    if seen.rows != u32::from(listed.rows) {
-        return Err(miscounted(shape, block));
+    as_listed(shape, listed, seen)
+}
+
+/// Damaged where a block has no row by its line or not as many as that says, or has one of another cell.
+pub(crate) fn as_listed(
+    shape: Shape,
+    listed: &ListedBlock,
+    seen: SeenRows,
+) -> Result<(), StoreFault>
+    requires below { listed.now.block < shape.extents }
+    ensures agrees { OnOk result ((seen.rows ≡ listed.now.rows) × IsTrue seen.in_cell) }
+    ensures some { OnOk result (0 < listed.now.rows) }
+    ensures names { IfErr result (NamesUnlisted shape listed.now seen) }
+{
+    if listed.rows == 0 || seen.rows != u32::from(listed.rows) {
+        return Err(miscounted(shape, listed.block));
     }
     if !seen.in_cell {
-        return Err(strayed(shape, block));
+        return Err(strayed(shape, listed.block));
     }
     Ok(())
 }

@@ -1,19 +1,17 @@
 // Another row of the same cell in the place of one.
-ghost use Rattle.std.specs.Prelude.{◌≡◌, ◌≢◌, List, Some, false, length, IsTrue, OnOk};
+ghost use Rattle.std.specs.Prelude.{◌≡◌, ◌≢◌, Some, false, length, IsTrue, OnOk};
 ghost use Rattle.store_api.specs.Causes.{fault_of};
 ghost use Rattle.store_api.specs.RunsOverPages.{RunsOverPages};
-ghost use Rattle.extent_map.specs.declared.kind.Kind.{Kind};
-ghost use Rattle.extent_map.specs.declared.space_notes.SpaceNotes.{SpaceNotes};
 ghost use Rattle.mdc_ast.specs.declared.row.Row.{Row};
 ghost use Rattle.mdc_ast.specs.TableLimits.{IsTableDef};
-ghost use Rattle.table_trees.specs.SpaceChanges.{IsSameSpace};
 ghost use Rattle.mdc_ast.specs.FittingRows.{RowFits};
-ghost use Rattle.mdc_sound.specs.StandingTable.{BreaksExpected, ChangesTable, HasRowAt, IsReadyTable, KeepsBlocksBut, OverwritesRow, StandsTable, TableForests, pages_of};
+ghost use Rattle.mdc_sound.specs.StandingTable.{BreaksExpected, HasRowAt, KeepsBlocksBut, pages_of};
 ghost use Rattle.free_space.specs.RoomNotes.{room_of};
 ghost use Rattle.block_rows.specs.SeenRows.{SeesSlot, SeesSomeRow};
 ghost use Rattle.table_blocks.specs.SeenSlots.{IsUsedInMap};
 ghost use Rattle.mdc_table.specs.KnownBlocks.{IsExpectedPlace, IsUsedIfKnown};
-ghost use Rattle.mdc_table.specs.TableReading.{HasRowOfCell};
+ghost use Rattle.mdc_table.specs.RowSteps.{OverwritesRowInTable};
+ghost use Rattle.mdc_table.specs.WhereStanding.{WhereStands, WhereStandsWithRow};
 
 use crate::faults::unmapped;
 use crate::reading::block_slots;
@@ -40,16 +38,11 @@ pub fn overwrite_row<P: Pages>(
     requires defined { IsTableDef def.now.number def.now }
     requires fits { RowFits def.now row.now }
     requires going { (P.state pages.old).ended ≡ false }
-    ensures overwrites { OnOk result ((noted : SpaceNotes) (owners : List Kind) (forests : TableForests) (was : Row) → IsReadyTable P.Pages shape noted (room_of rooms.now) pages.old def.now owners forests
-        → HasRowOfCell P.Pages shape pages.old def.now rid was row.now owners forests
-        → OverwritesRow P.Pages shape noted noted (room_of rooms.now) pages.old pages.new def.now owners forests was row.now rid) }
-    ensures leaves { OnOk result ((noted : SpaceNotes) (owners : List Kind) (forests : TableForests) (was : Row) → StandsTable P.Pages shape pages.old def.now owners forests
-        → HasRowOfCell P.Pages shape pages.old def.now rid was row.now owners forests → ChangesTable P.Pages shape noted noted pages.old pages.new def.now owners forests owners forests) }
-    ensures makes { OnOk result ((noted : SpaceNotes) (owners : List Kind) (forests : TableForests) → IsReadyTable P.Pages shape noted (room_of rooms.now) pages.old def.now owners forests
-        → HasRowAt P.Pages shape pages.old def.now rid owners forests → IsSameSpace shape (pages_of P.Pages pages.old) (pages_of P.Pages pages.new)) }
+    ensures overwrites { OnOk result ((was : Row) → WhereStandsWithRow P.Pages shape pages.old def.now rid was
+        (OverwritesRowInTable P.Pages shape (room_of rooms.now) pages.old pages.new def.now was row.now rid)) }
     ensures seen { OnOk result (IsTrue (P.state pages.old).is_told → SeesSomeRow (SeesSlot shape (pages_of P.Pages pages.old) def.now rid)) }
     ensures used { OnOk result (IsTrue (P.state pages.old).is_told → known ≢ Some rid.block → IsUsedInMap P.Pages pages.old def.now rid.block) }
-    ensures stay { (owners : List Kind) (forests : TableForests) → StandsTable P.Pages shape pages.old def.now owners forests → KeepsBlocksBut P.Pages shape pages.old pages.new def.now owners (λ block. block ≡ rid.block) }
+    ensures stay { WhereStands P.Pages shape pages.old def.now (λ owners forests. KeepsBlocksBut P.Pages shape pages.old pages.new def.now owners (λ block. block ≡ rid.block)) }
     ensures count { length (P.state pages.new).work ≡ length (P.state pages.old).work }
     ensures runs { RunsOverPages P.Pages (IsExpectedPlace P.Pages shape pages.old def.now (IsUsedIfKnown known rid.block))
         (IsExpectedPlace P.Pages shape pages.old def.now (IsUsedIfKnown known rid.block))

@@ -9,7 +9,7 @@ ghost use Rattle.block_rows.specs.SeenRows.{SeesSomeRow};
 ghost use Rattle.table_blocks.specs.BlockSteps.{HasThisRow};
 ghost use Rattle.table_blocks.specs.SeenSlots.{IsMapApart, SeesUsedSlot};
 ghost use Rattle.free_space.specs.RoomNotes.{room_of};
-ghost use Rattle.mdc_table.specs.LoweredNotes.{LowersNoteOf};
+ghost use Rattle.mdc_table.specs.LoweredNotes.{LowersNoteOf, NotesRowTaken};
 ghost use Rattle.mdc_table.specs.RowSteps.{TakesRowFromTable};
 ghost use Rattle.mdc_table.specs.WhereStanding.{WhereStands, WhereStandsWithRow};
 
@@ -52,16 +52,34 @@ pub fn take_row<P: Pages>(
     if rid.block >= shape.extents || u32::from(rid.slot) >= slots {
         return Err(unmapped(def));
     }
-    let left = u32::from(table_blocks::take_row(alloc, def, shape, notes, pages, rid, row)?);
-    // No right note leads past a block that had room before, and the block is still one of the cell where rows are left in it.
-    if 0 < left && left + 1 < slots {
-        return Ok(());
-    }
-    lower_note(alloc, def, rooms, row, rid.block);
+    let left = table_blocks::take_row(alloc, def, shape, notes, pages, rid, row)?;
+    note_taken(alloc, def, rooms, row, rid.block, left, slots);
     Ok(())
 }
 
-/// Notes that a row was taken out of a block. All notes are lost where memory has no room for the key of the row's cell.
+/// Notes that a row was taken out of a block with so many slots, in which so many rows are left.
+fn note_taken(
+    alloc: Global,
+    def: &TableDef,
+    rooms: &mut Rooms,
+    row: &Row,
+    block: u32,
+    left: u16,
+    slots: u32,
+)
+    requires defined { IsTableDef def.now.number def.now }
+    requires keyed { HasReadValues def.now.columns row.now }
+    ensures notes { NotesRowTaken def.now row.now block left slots (room_of rooms.old) (room_of rooms.new) }
+{
+    let left = u32::from(left);
+    // No right note leads past a block that had room before, and the block is still one of the cell where rows are left in it.
+    if 0 < left && left + 1 < slots {
+        return;
+    }
+    lower_note(alloc, def, rooms, row, block);
+}
+
+/// Lowers the note of a row's cell to a block. All notes are lost where memory has no room for the key of the cell.
 fn lower_note(alloc: Global, def: &TableDef, rooms: &mut Rooms, row: &Row, block: u32)
     requires defined { IsTableDef def.now.number def.now }
     requires keyed { HasReadValues def.now.columns row.now }

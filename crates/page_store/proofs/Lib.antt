@@ -19,6 +19,7 @@ pub mod Kept
 pub mod LaidOver
 pub mod Lent
 pub mod Listed
+pub mod LoggedLemmas
 pub mod MakeCrashes
 pub mod Openings
 pub mod Pages

@@ -133,7 +133,7 @@ empty_kept told desk empty rests some few =
 
 -- what a store with an empty desk is seen as
 pub just_opened : (told : Option File) (tape : Option (List ℕ)) (attaches : Option (List (List ℕ × Bool))) (desk : Desk) → IsEmptyDesk desk
-    → IsJustOpened (is_some told) tape desk.shape attaches (state_of told tape (beside_of desk.shape attaches) desk)
+    → IsJustOpened (is_some told) tape desk.shape attaches None (state_of told tape (beside_of desk.shape attaches) desk)
 just_opened told tape attaches desk empty =
     let work : work_of told desk desk.changes.now ≡ base_of told desk = ap (λ changes. work_of told desk changes.now) empty.changes ∙ unchanged_work told desk empty.halt in
     let marked : desk.changes.marked ≡ None = ap (λ changes. changes.marked) empty.changes in
@@ -144,7 +144,7 @@ just_opened told tape attaches desk empty =
 
 -- the same by what the host told before
 pub shown_as_before : (told : Option File) (tape before : Option (List ℕ)) (attaches listed : Option (List (List ℕ × Bool))) (is_told : Bool) (desk : Desk) → IsEmptyDesk desk
-    → is_some told ≡ is_told → tape ≡ before → attaches ≡ listed → IsJustOpened is_told before desk.shape listed (state_of told tape (beside_of desk.shape attaches) desk)
+    → is_some told ≡ is_told → tape ≡ before → attaches ≡ listed → IsJustOpened is_told before desk.shape listed None (state_of told tape (beside_of desk.shape attaches) desk)
 shown_as_before told tape before attaches listed is_told desk empty same_told same_tape same_attaches = just_opened told tape attaches desk empty ∙ rw (same_told, same_tape, same_attaches) refl
 
 -- a file that a store serves states its shape

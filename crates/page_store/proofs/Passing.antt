@@ -77,14 +77,14 @@ commit_rests (Err e) told tape beside desk going kept halted rests fronts after 
     rests_with_either (state_of told tape beside desk) pages said halted
     (either_reopens told desk after image pages is (rests after is image left) (fronts after image is left) reopens, if_said tape said heard)
 
-module _ {H : Type 0} {file : H → Option File} {aside : H → Beside} {attaches : H → Option (List (List ℕ × Bool))} {is_attached : H → Bool} {clock : H → ℕ} {moment : H → ℕ → List ℕ → List ℕ → Type 0} where
+module _ {H L : Type 0} {file : H → Option File} {aside : H → Beside} {attaches : H → Option (List (List ℕ × Bool))} {is_attached : H → Bool} {clock : H → ℕ} {moment : H → ℕ → List ℕ → List ℕ → Type 0} where
   -- time goes on over a call of the store as over its calls of the host
-  pub passes : {Kind : File → List ℕ → Type 0} (Within : Outcomes) (old new : HeldStore H)
+  pub passes : {Kind : File → List ℕ → Type 0} (Within : Outcomes) (old new : HeldStore H L)
       → Leaves file aside attaches is_attached clock moment Kind old.host new.host
       → new.desk.shape ≡ old.desk.shape
       → ((before after : File) → file old.host ≡ Some before → file new.host ≡ Some after → FrontAgrees before.bytes after.bytes)
       → ((before : File) (said image : List ℕ) (pages : Option (List (List ℕ))) → file old.host ≡ Some before → (aside old.host).tape ≡ Some said → Kind before image → Reopens old.desk.shape before.bytes image pages → Within pages said)
-      → OverTime (λ (s : HeldStore H). clock s.host) (λ (s : HeldStore H). left_of s.desk.shape (file s.host) (aside s.host).tape (moment s.host)) Within old new
+      → OverTime (λ (s : HeldStore H L). clock s.host) (λ (s : HeldStore H L). left_of s.desk.shape (file s.host) (aside s.host).tape (moment s.host)) Within old new
   passes {Kind} Within old new leaves shape agrees within = record {
     later = leaves.later;
     keeps = λ t pages heard early left.
@@ -101,33 +101,33 @@ module _ {H : Type 0} {file : H → Option File} {aside : H → Beside} {attache
   }
 
   -- a call that tears nothing of a file at rest leaves the base alone
-  pub keeps_base : (old new : HeldStore H)
+  pub keeps_base : (old new : HeldStore H L)
       → Leaves file aside attaches is_attached clock moment (λ before image. IsImage before.since image) old.host new.host
       → file new.host ≡ file old.host → IsKept old.desk (file old.host) → old.desk.halt ≡ None → new.desk.shape ≡ old.desk.shape
-      → OverTime (λ (s : HeldStore H). clock s.host) (λ (s : HeldStore H). left_of s.desk.shape (file s.host) (aside s.host).tape (moment s.host))
+      → OverTime (λ (s : HeldStore H L). clock s.host) (λ (s : HeldStore H L). left_of s.desk.shape (file s.host) (aside s.host).tape (moment s.host))
       (OnlyBase (state_of (file old.host) (aside old.host).tape (beside_of old.desk.shape (attaches old.host)) old.desk)) old new
   keeps_base old new leaves same kept going shape =
       passes (OnlyBase (state_of (file old.host) (aside old.host).tape (beside_of old.desk.shape (attaches old.host)) old.desk)) old new leaves shape (agrees_same same)
       (λ before said image pages is tape left reopens. (kept_reopens (file old.host) old.desk before image pages kept going is left reopens, if_said (aside old.host).tape said tape))
 
 -- a call that makes no call of the host leaves what was left
-pub stays : {H : Type 0} (file : H → Option File) (aside : H → Beside) (clock : H → ℕ) (moment : H → ℕ → List ℕ → List ℕ → Type 0) (Within : Outcomes) (host : H) (desk new : Desk)
+pub stays : {H L : Type 0} (file : H → Option File) (aside : H → Beside) (clock : H → ℕ) (moment : H → ℕ → List ℕ → List ℕ → Type 0) (Within : Outcomes) (host : H) (desk new : Desk) {log : L}
     → new.shape ≡ desk.shape
-    → OverTime (λ (s : HeldStore H). clock s.host) (λ (s : HeldStore H). left_of s.desk.shape (file s.host) (aside s.host).tape (moment s.host)) Within (record { host = host; desk = desk }) (record { host = host; desk = new })
-stays {H} file aside clock moment Within host desk new shape = record {
+    → OverTime (λ (s : HeldStore H L). clock s.host) (λ (s : HeldStore H L). left_of s.desk.shape (file s.host) (aside s.host).tape (moment s.host)) Within (record { host = host; desk = desk; log = log }) (record { host = host; desk = new; log = log })
+stays file aside clock moment Within host desk new shape = record {
   later = omega arith;
   keeps = λ t pages heard early left. (left.0, left.1, left.2, left.3, left.4, left.5, reopens_as (sym shape) (front_agrees_itself left.0.bytes) left.4 pages left.6);
   only = λ t pages heard early left. inl (left.0, left.1, left.2, left.3, left.4, left.5, reopens_as shape (front_agrees_itself left.0.bytes) left.4 pages left.6);
 }
 
 -- what is left at rest, by what the file leaves
-pub rests : {H : Type 0} (file : H → Option File) (aside : H → Beside) (attaches : H → Option (List (List ℕ × Bool))) (clock : H → ℕ) (moment : H → ℕ → List ℕ → List ℕ → Type 0) (held : HeldStore H)
+pub rests : {H L : Type 0} (file : H → Option File) (aside : H → Beside) (attaches : H → Option (List (List ℕ × Bool))) (clock : H → ℕ) (moment : H → ℕ → List ℕ → List ℕ → Type 0) (held : HeldStore H L)
     → WhereTold (file held.host) (aside held.host).tape (λ f said. (image tape : List ℕ) → moment held.host (clock held.host) image tape ↔ IsMoment f.since said [] image tape)
     → ((after : File) (said image : List ℕ) (pages : Option (List (List ℕ))) → file held.host ≡ Some after → (aside held.host).tape ≡ Some said → IsImage after.since image → Reopens held.desk.shape after.bytes image pages
     → AtRest (state_of (file held.host) (aside held.host).tape (beside_of held.desk.shape (attaches held.host)) held.desk) pages said)
-    → RestsAt (λ (s : HeldStore H). clock s.host) (λ (s : HeldStore H). left_of s.desk.shape (file s.host) (aside s.host).tape (moment s.host))
+    → RestsAt (λ (s : HeldStore H L). clock s.host) (λ (s : HeldStore H L). left_of s.desk.shape (file s.host) (aside s.host).tape (moment s.host))
     (AtRest (state_of (file held.host) (aside held.host).tape (beside_of held.desk.shape (attaches held.host)) held.desk)) held
-rests {H} file aside attaches clock moment held only_now at_rest = record {
+rests file aside attaches clock moment held only_now at_rest = record {
   only_rest = λ pages heard left.
       let Now : File → List ℕ → Type 0 = λ f s. (image tape : List ℕ) → moment held.host (clock held.host) image tape ↔ IsMoment f.since s [] image tape in
       let now = (where_told (file held.host) (aside held.host).tape left.0 left.2 Now left.1 left.3 only_now left.4 heard).0 left.5 in
@@ -136,11 +136,11 @@ rests {H} file aside attaches clock moment held only_now at_rest = record {
 }
 
 -- a store that fits a file at rest leaves its base
-pub rests_kept : {H : Type 0} (file : H → Option File) (aside : H → Beside) (attaches : H → Option (List (List ℕ × Bool))) (clock : H → ℕ) (moment : H → ℕ → List ℕ → List ℕ → Type 0) (held : HeldStore H)
+pub rests_kept : {H L : Type 0} (file : H → Option File) (aside : H → Beside) (attaches : H → Option (List (List ℕ × Bool))) (clock : H → ℕ) (moment : H → ℕ → List ℕ → List ℕ → Type 0) (held : HeldStore H L)
     → WhereTold (file held.host) (aside held.host).tape (λ f said. (image tape : List ℕ) → moment held.host (clock held.host) image tape ↔ IsMoment f.since said [] image tape)
     → IsKept held.desk (file held.host) → held.desk.halt ≡ None
-    → RestsAt (λ (s : HeldStore H). clock s.host) (λ (s : HeldStore H). left_of s.desk.shape (file s.host) (aside s.host).tape (moment s.host))
+    → RestsAt (λ (s : HeldStore H L). clock s.host) (λ (s : HeldStore H L). left_of s.desk.shape (file s.host) (aside s.host).tape (moment s.host))
     (AtRest (state_of (file held.host) (aside held.host).tape (beside_of held.desk.shape (attaches held.host)) held.desk)) held
-rests_kept {H} file aside attaches clock moment held only_now kept going = rests file aside attaches clock moment held only_now (λ after said image pages is tape left reopens.
+rests_kept file aside attaches clock moment held only_now kept going = rests file aside attaches clock moment held only_now (λ after said image pages is tape left reopens.
     rests_with_base (state_of (file held.host) (aside held.host).tape (beside_of held.desk.shape (attaches held.host)) held.desk) pages said (ap (λ halt. is_some halt) going)
     (kept_reopens (file held.host) held.desk after image pages kept going is left reopens, if_said (aside held.host).tape said tape))

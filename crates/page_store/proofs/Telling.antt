@@ -44,14 +44,14 @@ tells_part told None new beside desk piece takes = ([], (piece, refl), tells_sta
 tells_part told (Some before) new beside desk piece takes = (takes.0, (takes.1, takes.2), tells_state told (Some before) new beside desk takes.0 takes.3)
 
 -- time goes on over a call that says a piece
-pub tells_pass : {H : Type 0} (file : H → Option File) (aside : H → Beside) (attaches : H → Option (List (List ℕ × Bool))) (clock : H → ℕ) (moment : H → ℕ → List ℕ → List ℕ → Type 0)
-    (old new : HeldStore H) (piece : List ℕ)
+pub tells_pass : {H L : Type 0} (file : H → Option File) (aside : H → Beside) (attaches : H → Option (List (List ℕ × Bool))) (clock : H → ℕ) (moment : H → ℕ → List ℕ → List ℕ → Type 0)
+    (old new : HeldStore H L) (piece : List ℕ)
     → file new.host ≡ file old.host → TakesPart (aside old.host).tape piece (aside new.host).tape
     → OverTime clock moment (IsWithinCall (file old.host) (aside old.host).tape piece) old.host new.host
     → IsKept old.desk (file old.host) → old.desk.halt ≡ None → new.desk.shape ≡ old.desk.shape
-    → OverTime (λ (s : HeldStore H). clock s.host) (λ (s : HeldStore H). left_of s.desk.shape (file s.host) (aside s.host).tape (moment s.host))
+    → OverTime (λ (s : HeldStore H L). clock s.host) (λ (s : HeldStore H L). left_of s.desk.shape (file s.host) (aside s.host).tape (moment s.host))
     (BaseWithFront piece (state_of (file old.host) (aside old.host).tape (beside_of old.desk.shape (attaches old.host)) old.desk)) old new
-tells_pass {H} file aside attaches clock moment old new piece same takes time kept going shape = record {
+tells_pass file aside attaches clock moment old new piece same takes time kept going shape = record {
   later = time.later;
   keeps = λ t pages heard early left.
       let tape = tells_on (aside old.host).tape (aside new.host).tape piece left.2 takes left.3 in

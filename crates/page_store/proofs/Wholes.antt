@@ -20,7 +20,7 @@ is_none None none = refl
 is_none (Some x) none = absurd (cc)
 
 -- no commit has failed, by what the store is seen as
-pub still_going : {H : Type 0} (host : H) (desk : Desk) (held : HeldStore H) → record { host = host; desk = desk } ≡ held → is_some held.desk.halt ≡ false → desk.halt ≡ None
+pub still_going : {H L : Type 0} (host : H) (desk : Desk) {log : L} (held : HeldStore H L) → record { host = host; desk = desk; log = log } ≡ held → is_some held.desk.halt ≡ false → desk.halt ≡ None
 still_going host desk held is going = is_none desk.halt (ap (λ h. is_some h.desk.halt) is ∙ going)
 
 -- how many pages the work has
@@ -34,7 +34,7 @@ length-base_of None desk going = length-replicate {A = List ℕ} desk.base []
 length-base_of (Some file) desk going = length-base_in desk.halt desk.base file.bytes going
 
 -- how many pages the work has, by what the store is seen as
-pub held_pages : {H : Type 0} (file : H → Option File) (host : H) (desk : Desk) (held : HeldStore H) → record { host = host; desk = desk } ≡ held
+pub held_pages : {H L : Type 0} (file : H → Option File) (host : H) (desk : Desk) {log : L} (held : HeldStore H L) → record { host = host; desk = desk; log = log } ≡ held
     → length (work_of (file held.host) held.desk held.desk.changes.now) ≡ length desk.changes.now
 held_pages file host desk held is = length-work_of (file held.host) held.desk held.desk.changes.now ∙ sym (ap (λ h. length h.desk.changes.now) is)
 
@@ -53,12 +53,12 @@ whole_again first is_attached before told desk new attached kept same going grew
 }
 
 -- where pages are told, page 0 states how many there are
-pub counted_there : {H : Type 0} (file : H → Option File) (host : H) (desk : Desk) (held : HeldStore H) → record { host = host; desk = desk } ≡ held
+pub counted_there : {H L : Type 0} (file : H → Option File) (host : H) (desk : Desk) {log : L} (held : HeldStore H L) → record { host = host; desk = desk; log = log } ≡ held
     → (IsTrue (is_some (file held.host)) → stated_count (work_of (file held.host) held.desk held.desk.changes.now) ≡ length (work_of (file held.host) held.desk held.desk.changes.now))
     → ForSome (file host) (λ f. stated_count (work_of (file host) desk desk.changes.now) ≡ length desk.changes.now)
-counted_there {H} file host desk held is counted f told =
+counted_there {H} {L} file host desk held is counted f told =
     let here : IsTrue (is_some (file host)) → stated_count (work_of (file host) desk desk.changes.now) ≡ length (work_of (file host) desk desk.changes.now) =
-    subst (λ (h : HeldStore H). IsTrue (is_some (file h.host)) → stated_count (work_of (file h.host) h.desk h.desk.changes.now) ≡ length (work_of (file h.host) h.desk h.desk.changes.now)) (sym is) counted in
+    subst (λ (h : HeldStore H L). IsTrue (is_some (file h.host)) → stated_count (work_of (file h.host) h.desk h.desk.changes.now) ≡ length (work_of (file h.host) h.desk h.desk.changes.now)) (sym is) counted in
     here (ap is_some told) ∙ length-work_of (file host) desk desk.changes.now
 
 -- the file of a store in which no commit has failed holds its base

@@ -2,7 +2,7 @@
 use Rattle.std.specs.Prelude.{◌≡◌, ◌⊎◌, ◌≤◌, ℕ, Bool, IsTrue, IfSome, List, Option, Some, None}
 use Rattle.std.specs.Option.{ForSome}
 use Rattle.store_api.specs.Moments.{Outcomes}
-use Rattle.store_api.specs.StoreState.{Beside}
+use Rattle.store_api.specs.StoreState.{Beside, StoreState}
 use Rattle.store_api.specs.declared.shape.Shape.{Shape}
 use Rattle.mdc_outside.specs.Disk.{File}
 use Rattle.page_file.specs.Growing.{GrewFrom}
@@ -12,10 +12,15 @@ use Rattle.page_store.specs.Standing.{Reopens, IsStoreImage, count_of, pages_in}
 use Rattle.page_store.specs.Desk.{IsKept}
 use Rattle.store_api.specs.declared.pages.TheConstants.{MAX_PAGES}
 
--- a host, and what the store has in memory beside it
-pub record HeldStore (H : Type 0) : Type 0 where
+-- a host, what the store has in memory beside it, and its log
+pub record HeldStore (H L : Type 0) : Type 0 where
   pub host : H
   pub desk : Desk
+  pub log : L
+
+-- a store whose log tells these fetches
+abbrev pub with_log : Option (List ℕ) → StoreState → StoreState
+with_log fetched state = record state { fetched = fetched }
 
 -- What a file became that had these bytes first, by commits of at most so many pages; where no commit has failed, of as many
 -- as it has.

@@ -71,9 +71,10 @@ pub record IsEmptyDesk (desk : Desk) : Type 0 where
   pub prepared : desk.prepared ≡ false
   pub halt : desk.halt ≡ None
 
--- a store of this shape that was just opened over a host that tells its file or not, and this tape and these attaches
-abbrev pub IsJustOpened : Bool → Option (List ℕ) → Shape → Option (List (List ℕ × Bool)) → StoreState → Type 0
-IsJustOpened is_told tape shape attaches state =
+-- a store of this shape that was just opened over a host that tells its file or not, and this tape and these attaches, with a log that
+-- tells these fetches
+abbrev pub IsJustOpened : Bool → Option (List ℕ) → Shape → Option (List (List ℕ × Bool)) → Option (List ℕ) → StoreState → Type 0
+IsJustOpened is_told tape shape attaches fetched state =
     state ≡ record {
       is_told = is_told;
       base = state.base;
@@ -83,7 +84,7 @@ IsJustOpened is_told tape shape attaches state =
       prepared = false;
       ended = false;
       told = tape;
-      fetched = None;
+      fetched = fetched;
       file = state.file;
       beside = beside_of shape attaches;
     }

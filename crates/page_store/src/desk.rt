@@ -2,7 +2,7 @@
 ghost use Rattle.std.specs.Prelude.{◌≡◌, ◌<◌, ◌≤◌, ◌+◌, IsTrue, IsSome, Option, None, Some, false, length, slice_index_or, IfOk, IsOk, OnOk, OnErr, IsErrOf, IsErr};
 ghost use Rattle.std.specs.Option.{ForSome};
 ghost use Rattle.std.specs.Borrow.{sem};
-ghost use Rattle.store_api.specs.Calls.{Fetches, FetchesCommitted, LosesHand, LosesReadiness, Writes, Grows, Marks, Keeps, Undoes, Prepares, Commits, Ends, RollsBack};
+ghost use Rattle.store_api.specs.Calls.{Fetches, FetchesCommitted, LosesHand, LosesReadiness, Writes, Grows, Marks, Keeps, Undoes, Prepares, Commits, Ends, RollsBack, noted};
 ghost use Rattle.store_api.specs.StoreState.{stated_count, differing};
 ghost use Rattle.mdc_outside.specs.Disk.{File};
 ghost use Rattle.mdc_words.specs.Faults.{CountsFault};
@@ -15,7 +15,7 @@ ghost use Rattle.page_store.specs.Desk.{IsKept, IsPlaced, Does, DoesOnOk, DoesOn
 
 use crate::page_cache::PageCache;
 use crate::write_through::{Halt, write_any};
-use dirty_pages::Changes;
+use dirty_pages::{Changes, FetchLog};
 use mdc_outside::Disk;
 use mdc_values::Memory;
 use page_file::FIRST_PAGE;
@@ -50,8 +50,78 @@ pub(crate) struct Desk {
 impl Desk {
     ghost use Rattle.page_store.specs.LentWork.{LendsWork};
 
-    /// Brings a page of the work to hand.
-    pub(crate) fn fetch<D: Disk>(&mut self, disk: &mut D, p: u32) -> Result<(), PageFault>
+    /// Brings a page of the work to hand, and notes it.
+    pub(crate) fn fetch<D: Disk, L: FetchLog>(
+        &mut self,
+        disk: &mut D,
+        log: &mut L,
+        p: u32,
+    ) -> Result<(), PageFault>
+        requires attached { IsTrue (D.is_attached disk.old) }
+        requires going { self.old.halt ≡ None }
+        requires kept { IsKept self.old (D.file disk.old) }
+        requires within { p < length self.old.changes.now }
+        ensures ok { DoesOnOk result (Fetches p) (D.file disk.old) self.old (D.file disk.new) self.new }
+        ensures err { DoesOnErr result LosesHand (D.file disk.old) self.old (D.file disk.new) self.new }
+        ensures noted { OnOk result (L.told log.new ≡ noted p (L.told log.old)) }
+        ensures unnoted { OnErr result (L.told log.new ≡ L.told log.old) }
+        ensures cause { CountsFault (IsErrOf result PageFault.Device) (D.disk_faults disk.old) (D.disk_faults disk.new) }
+        ensures shape { self.new.shape ≡ self.old.shape }
+        ensures written { written_in self.new ≡ written_in self.old }
+        ensures still_kept { IsKept self.new (D.file disk.new) }
+        ensures same { D.file disk.new ≡ D.file disk.old }
+        ensures runs { RunsOf D.Disk IsCovered (λ since. since) disk.old disk.new }
+    {
+        if log.make_room().is_err() {
+            self.hand = None;
+            return Err(PageFault::Memory);
+        }
+        match self.find(disk, p) {
+            Ok(()) => {
+                log.note(p);
+                Ok(())
+            }
+            Err(fault) => Err(fault),
+        }
+    }
+
+    /// Brings a page of the base to hand, and notes it.
+    pub(crate) fn committed<D: Disk, L: FetchLog>(
+        &mut self,
+        disk: &mut D,
+        log: &mut L,
+        p: u32,
+    ) -> Result<(), PageFault>
+        requires attached { IsTrue (D.is_attached disk.old) }
+        requires going { self.old.halt ≡ None }
+        requires kept { IsKept self.old (D.file disk.old) }
+        requires within { p < self.old.base }
+        ensures ok { DoesOnOk result (FetchesCommitted p) (D.file disk.old) self.old (D.file disk.new) self.new }
+        ensures err { DoesOnErr result LosesHand (D.file disk.old) self.old (D.file disk.new) self.new }
+        ensures noted { OnOk result (L.told log.new ≡ noted p (L.told log.old)) }
+        ensures unnoted { OnErr result (L.told log.new ≡ L.told log.old) }
+        ensures cause { CountsFault (IsErrOf result PageFault.Device) (D.disk_faults disk.old) (D.disk_faults disk.new) }
+        ensures shape { self.new.shape ≡ self.old.shape }
+        ensures written { written_in self.new ≡ written_in self.old }
+        ensures still_kept { IsKept self.new (D.file disk.new) }
+        ensures same { D.file disk.new ≡ D.file disk.old }
+        ensures runs { RunsOf D.Disk IsCovered (λ since. since) disk.old disk.new }
+    {
+        if log.make_room().is_err() {
+            self.hand = None;
+            return Err(PageFault::Memory);
+        }
+        match self.find_committed(disk, p) {
+            Ok(()) => {
+                log.note(p);
+                Ok(())
+            }
+            Err(fault) => Err(fault),
+        }
+    }
+
+    // Brings a page of the work to hand.
+    fn find<D: Disk>(&mut self, disk: &mut D, p: u32) -> Result<(), PageFault>
         requires attached { IsTrue (D.is_attached disk.old) }
         requires going { self.old.halt ≡ None }
         requires kept { IsKept self.old (D.file disk.old) }
@@ -72,12 +142,12 @@ impl Desk {
                 self.hand = Some(hand);
                 Ok(())
             }
-            None => self.committed(disk, p),
+            None => self.find_committed(disk, p),
         }
     }
 
-    /// Brings a page of the base to hand.
-    pub(crate) fn committed<D: Disk>(&mut self, disk: &mut D, p: u32) -> Result<(), PageFault>
+    // Brings a page of the base to hand.
+    fn find_committed<D: Disk>(&mut self, disk: &mut D, p: u32) -> Result<(), PageFault>
         requires attached { IsTrue (D.is_attached disk.old) }
         requires going { self.old.halt ≡ None }
         requires kept { IsKept self.old (D.file disk.old) }
@@ -143,13 +213,20 @@ impl Desk {
         }
     }
 
-    /// Sees to it that a page of the work lies among the changes. The work stays.
-    pub(crate) fn admit<D: Disk>(&mut self, disk: &mut D, p: u32) -> Result<(), PageFault>
+    /// Sees to it that a page of the work lies among the changes, and that the log has room for its number. The work stays.
+    pub(crate) fn admit<D: Disk, L: FetchLog>(
+        &mut self,
+        disk: &mut D,
+        log: &mut L,
+        p: u32,
+    ) -> Result<(), PageFault>
         requires attached { IsTrue (D.is_attached disk.old) }
         requires going { self.old.halt ≡ None }
         requires kept { IsKept self.old (D.file disk.old) }
         requires within { p < length self.old.changes.now }
         ensures does { Does LosesReadiness (D.file disk.old) self.old (D.file disk.new) self.new }
+        ensures unnoted { L.told log.new ≡ L.told log.old }
+        ensures room { OnOk result (L.has_room log.new) }
         ensures changed { OnOk result (IsSome (slice_index_or self.new.changes.now p None)) }
         ensures pages { length self.new.changes.now ≡ length self.old.changes.now }
         ensures written { written_in self.new ≤ written_in self.old + 1 }
@@ -163,6 +240,9 @@ impl Desk {
     {
         self.hand = None;
         self.prepared = false;
+        if log.make_room().is_err() {
+            return Err(PageFault::Memory);
+        }
         if self.changes.get(p).is_some() {
             return Ok(());
         }
@@ -173,15 +253,18 @@ impl Desk {
         }
     }
 
-    /// Lends a page that lies among the changes, to be changed in place.
-    pub(crate) fn edit(&mut self, p: u32) -> Result<&mut Page, PageFault>
+    /// Lends a page that lies among the changes, to be changed in place, and notes it.
+    pub(crate) fn edit<L: FetchLog>(&mut self, p: u32, log: &mut L) -> Result<&mut Page, PageFault>
         requires within { p < length self.old.changes.now }
         requires changed { IsSome (slice_index_or self.old.changes.now p None) }
+        requires room { L.has_room log.old }
         ensures* lends { sem 𝓛 (LendsWork p self.entry result) }
+        ensures noted { OnOk result (L.told log.new ≡ noted p (L.told log.old)) }
+        ensures unnoted { OnErr result (L.told log.new ≡ L.told log.old) }
         ensures page { IfOk result (λ page. slice_index_or self.old.changes.now p None ≡ Some page.now) }
         ensures memory { IsErrOf result PageFault.Device → ⊥ }
     {
-        self.changes.edit(p)
+        self.changes.edit(p, log)
     }
 
     /// Adds pages of zeros at the end of the work. It takes no memory.

@@ -7,6 +7,7 @@ ghost use Rattle.mdc_outside.specs.Outside.{Takes, TakesPart};
 
 use crate::desk::Desk;
 use crate::origin::Origin;
+use dirty_pages::{FetchLog, Untold};
 use mdc_outside::Host;
 use std::marker::{Brand, Model, PhantomData};
 use store_api::{DeviceFault, Mute, Page, PageFault, Pages, Store};
@@ -21,27 +22,28 @@ use store_api::{DeviceFault, Mute, Page, PageFault, Pages, Store};
 /// Where `O` says what the file was as it was opened, the store knows what its commits have made of it: its front is as it
 /// was, and it is no longer than it was, or than its pages and one journal.
 #[derive(Drop)]
-pub struct FileStore<H: Host, O: Origin = Brand> {
+pub struct FileStore<H: Host, O: Origin = Brand, L: FetchLog = Untold> {
     pub(crate) host: H,
     pub(crate) desk: Desk,
+    pub(crate) log: L,
     pub(crate) origin: PhantomData<O>,
 }
 
-impl<H: Host, O: Origin> Model for FileStore<H, O> {
+impl<H: Host, O: Origin, L: FetchLog> Model for FileStore<H, O, L> {
     ghost use Rattle.page_store.specs.FileStore.{HeldStore, FitsFile};
 
-    ghost Value = { HeldStore H };
+    ghost Value = { HeldStore H L };
 
-    ghost view = { λ s. record { host = s.host; desk = s.desk } };
+    ghost view = { λ s. record { host = s.host; desk = s.desk; log = s.log } };
 
     ghost invariant = { λ s. FitsFile O.first (H.is_attached s.host) (H.file s.host) s.desk };
 }
 
-impl<H: Host, O: Origin> Pages for FileStore<H, O> {
+impl<H: Host, O: Origin, L: FetchLog> Pages for FileStore<H, O, L> {
     ghost use Rattle.page_store.specs.Desk.{state_of, written_in};
-    ghost use Rattle.page_store.specs.FileStore.{beside_of, left_of, left_of-earlier};
+    ghost use Rattle.page_store.specs.FileStore.{beside_of, left_of, left_of-earlier, with_log};
 
-    ghost state = { λ s. state_of (H.file s.host) (H.beside s.host).tape (beside_of s.desk.shape (H.attaches s.host)) s.desk };
+    ghost state = { λ s. with_log (L.told s.log) (state_of (H.file s.host) (H.beside s.host).tape (beside_of s.desk.shape (H.attaches s.host)) s.desk) };
 
     ghost written = { λ s. written_in s.desk };
 
@@ -60,7 +62,7 @@ impl<H: Host, O: Origin> Pages for FileStore<H, O> {
     }
 
     fn fetch(&mut self, p: u32) -> Result<(), PageFault> {
-        self.desk.fetch(&mut self.host, p)
+        self.desk.fetch(&mut self.host, &mut self.log, p)
     }
 
     fn page(&self) -> &Page {
@@ -72,8 +74,8 @@ impl<H: Host, O: Origin> Pages for FileStore<H, O> {
     }
 
     fn edit(&mut self, p: u32) -> Result<&mut Page, PageFault> {
-        match self.desk.admit(&mut self.host, p) {
-            Ok(()) => self.desk.edit(p),
+        match self.desk.admit(&mut self.host, &mut self.log, p) {
+            Ok(()) => self.desk.edit(p, &mut self.log),
             Err(fault) => Err(fault),
         }
     }
@@ -97,13 +99,13 @@ impl<H: Host, O: Origin> Pages for FileStore<H, O> {
     }
 }
 
-impl<H: Host, O: Origin> Store for FileStore<H, O> {
+impl<H: Host, O: Origin, L: FetchLog> Store for FileStore<H, O, L> {
     fn written(&self) -> u32 {
         self.desk.written()
     }
 
     fn committed(&mut self, p: u32) -> Result<(), PageFault> {
-        self.desk.committed(&mut self.host, p)
+        self.desk.committed(&mut self.host, &mut self.log, p)
     }
 
     fn prepare(&mut self) -> Result<(), PageFault> {

@@ -2,6 +2,7 @@
 //!
 //! `make` makes an empty database. `FileStore` opens one, after a crash too, and is a `Store` whose base is what the
 //! file stands for. It keeps clean pages in a cache, and changed pages until the commit, which goes through the journal.
+//! Where it is given a log, it tells which pages come to hand.
 //! It stands on `redo_journal`.
 #![tactic(auto)]
 
@@ -23,10 +24,11 @@ mod root;
 mod shape;
 mod write_through;
 
+pub use dirty_pages::{FetchLog, PageLog, Untold};
 pub use fault::OpenFault;
 pub use file_store::FileStore;
 pub use laws::{formed_is_served, opened_is_as_long};
 pub use making::make;
-pub use opening::Unopened;
+pub use opening::{Closed, Unopened};
 pub use origin::Origin;
 pub use page_cache::CACHED_PAGES;

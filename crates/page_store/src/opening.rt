@@ -23,21 +23,29 @@ use crate::origin::Origin;
 use crate::page_cache::PageCache;
 use crate::recovery::{Opened, recover};
 use crate::{FileStore, OpenFault};
-use dirty_pages::Changes;
+use dirty_pages::{Changes, FetchLog};
 use mdc_outside::{Disk, Host};
 use page_file::settle;
 use std::alloc::Global;
 use std::marker::PhantomData;
 use store_api::Pages;
 
-/// A file that wasn't opened: why, and the host.
+/// A file that wasn't opened: why, the host, and the log.
 #[derive(Drop)]
-pub struct Unopened<H> {
+pub struct Unopened<H, L> {
     pub fault: OpenFault,
     pub host: H,
+    pub log: L,
 }
 
-impl<H: Host, O: Origin> FileStore<H, O> {
+/// What a store gives back: its host, and its log.
+#[derive(Drop)]
+pub struct Closed<H, L> {
+    pub host: H,
+    pub log: L,
+}
+
+impl<H: Host, O: Origin, L: FetchLog> FileStore<H, O, L> {
     /// Opens the database in the attached file, after a crash too. The base of the store is then what the file stands
     /// for. `cache` is how many clean pages it may keep in memory.
     ///
@@ -48,33 +56,40 @@ impl<H: Host, O: Origin> FileStore<H, O> {
     /// `Memory` where memory ran out. The bytes of the file are then as they were. It answers `Device` where the disk
     /// failed. The file then stands for what it stood for, unless the first sync failed: then it may be what a crash could
     /// leave. Nothing is written to a file that can't be served, whatever failed: it is at most what a crash could leave.
-    pub fn open(alloc: Global, mut host: H, cache: usize) -> Result<FileStore<H, O>, Unopened<H>>
+    pub fn open(
+        alloc: Global,
+        mut host: H,
+        log: L,
+        cache: usize,
+    ) -> Result<FileStore<H, O, L>, Unopened<H, L>>
         requires attached { IsTrue (H.is_attached host) }
         requires cache { 8 ≤ cache }
         requires origin { IfSome O.first (λ first. ForSome (H.file host) (λ file. file.bytes ≡ first)) }
         ensures served { IfOk result (λ store. ForSome (H.file host) (λ file. IsServed file.bytes
-            × ((⟦<FileStore<H, O> as Pages>⟧.state store).base ≡ pages_in file.bytes))) }
+            × ((⟦<FileStore<H, O, L> as Pages>⟧.state store).base ≡ pages_in file.bytes))) }
         // It tells the shape of its file, and the attaches that the host told.
-        ensures just_opened { IfOk result (λ store. IsJustOpened (is_some (H.file host)) (H.tape host) store.desk.shape (H.attaches host)
-            (⟦<FileStore<H, O> as Pages>⟧.state store)) }
-        ensures unwritten { IfOk result (λ store. ⟦<FileStore<H, O> as Pages>⟧.written store ≡ 0) }
+        ensures just_opened { IfOk result (λ store. IsJustOpened (is_some (H.file host)) (H.tape host) store.desk.shape (H.attaches host) (L.told log)
+            (⟦<FileStore<H, O, L> as Pages>⟧.state store)) }
+        ensures unwritten { IfOk result (λ store. ⟦<FileStore<H, O, L> as Pages>⟧.written store ≡ 0) }
         ensures refused { IfErr result (λ unopened. ForSome (H.file host) (λ file. Refuses unopened.fault file.bytes)) }
-        ensures limits { IfOk result (λ store. (18 ≤ length (⟦<FileStore<H, O> as Pages>⟧.state store).base) × (length (⟦<FileStore<H, O> as Pages>⟧.state store).base ≤ MAX_PAGES)) }
+        ensures limits { IfOk result (λ store. (18 ≤ length (⟦<FileStore<H, O, L> as Pages>⟧.state store).base) × (length (⟦<FileStore<H, O, L> as Pages>⟧.state store).base ≤ MAX_PAGES)) }
         ensures never { IfErr result (λ unopened. unopened.fault ≢ OpenFault.Exists) }
         // What is written is a journal that counts, which is brought home, and nothing else.
-        ensures writes { IfOk result (λ store. (⟦<FileStore<H, O> as Pages>⟧.state store).file ≡ option_map opened_bytes (file_bytes (H.file host))) }
+        ensures writes { IfOk result (λ store. (⟦<FileStore<H, O, L> as Pages>⟧.state store).file ≡ option_map opened_bytes (file_bytes (H.file host))) }
         // Nothing is written to a file that is refused: at each moment a crash leaves what it could leave before.
         ensures left_alone { IfErr result (λ unopened. unopened.fault ≢ OpenFault.Device → LeavesOf H.Disk CouldBeLeft host unopened.host) }
         // The same of a file that can't be served, also where the disk failed.
         ensures unserved { IfErr result (λ unopened. ForSome (H.file host) (λ file. (IsServed file.bytes → ⊥) → LeavesOf H.Disk CouldBeLeft host unopened.host)) }
         ensures untouched { IfErr result (λ unopened. unopened.fault ≢ OpenFault.Device → file_bytes (H.file unopened.host) ≡ file_bytes (H.file host)) }
+        // No page comes to hand of a file that isn't opened: the log is given back as it came.
+        ensures unnoted { IfErr result (λ unopened. L.told unopened.log ≡ L.told log) }
         ensures count { IfOk result (λ store. H.disk_faults store.host ≡ H.disk_faults host) }
         ensures cause { IfErr result (λ unopened. CountsFault (unopened.fault ≡ OpenFault.Device) (H.disk_faults host) (H.disk_faults unopened.host)) }
         ensures opens { IfOk result (λ store. OpensOf H.Disk host store.host) }
         // Since the origin of the opening, and so now, the store leaves its base alone.
         ensures base_since { IfOk result (λ store. ForSome (H.file host) (λ file. (said : List ℕ)
-            → LeavesBaseSince (H.moment store.host) (⟦<FileStore<H, O> as Pages>⟧.left store) file.bytes said)) }
-        ensures rests { IfOk result (λ store. RestsAt ⟦<FileStore<H, O> as Pages>⟧.clock ⟦<FileStore<H, O> as Pages>⟧.left (AtRest (⟦<FileStore<H, O> as Pages>⟧.state store)) store) }
+            → LeavesBaseSince (H.moment store.host) (⟦<FileStore<H, O, L> as Pages>⟧.left store) file.bytes said)) }
+        ensures rests { IfOk result (λ store. RestsAt ⟦<FileStore<H, O, L> as Pages>⟧.clock ⟦<FileStore<H, O, L> as Pages>⟧.left (AtRest (⟦<FileStore<H, O, L> as Pages>⟧.state store)) store) }
         // Where there is no moment at which all was on the disk, a crash leaves what it could leave before. That is so
         // only where the disk failed or memory ran out: no file is judged before it is on the disk.
         ensures opens_or_leaves { IfErr result (λ unopened.
@@ -85,9 +100,10 @@ impl<H: Host, O: Origin> FileStore<H, O> {
             Ok(desk) => Ok(FileStore {
                 host,
                 desk,
+                log,
                 origin: PhantomData,
             }),
-            Err(fault) => Err(Unopened { fault, host }),
+            Err(fault) => Err(Unopened { fault, host, log }),
         }
     }
 
@@ -95,34 +111,38 @@ impl<H: Host, O: Origin> FileStore<H, O> {
     pub fn shape(&self) -> (u32, u32)
         ensures parts { result ≡ (self.now.desk.shape.extents, self.now.desk.shape.extent_pages) }
         ensures limits { IsTrue (is_shape result.0 result.1) }
-        ensures stated { (⟦<FileStore<H, O> as Pages>⟧.state self.now).ended ≡ false → ForSome (H.file self.now.host) (λ file.
+        ensures stated { (⟦<FileStore<H, O, L> as Pages>⟧.state self.now).ended ≡ false → ForSome (H.file self.now.host) (λ file.
             (extents_in (file_page file.bytes 1) ≡ result.0) × (extent_pages_in (file_page file.bytes 1) ≡ result.1)) }
     {
         (self.desk.shape.extents, self.desk.shape.extent_pages)
     }
 
-    /// Gives the host back. It makes no call of the disk and takes no memory. It may follow a fault of any call.
+    /// Gives the host and the log back. It makes no call of the disk and takes no memory. It may follow a fault of any call.
     ///
     /// Where no commit has failed, the file holds the base. The host has the counts, the tape and the attaches that the
     /// store had.
     ///
     /// What the store leaves at a crash is what the host may leave: where the store never leaves a file that doesn't
     /// reopen, each image of the host is a database of this shape, with pages that the store leaves.
-    pub fn close(self) -> H
-        ensures same { result ≡ self.host }
-        ensures base { (⟦<FileStore<H, O> as Pages>⟧.state self).ended ≡ false → ForSome (H.file result) (λ file. IsFormed file.bytes
-            × (pages_in file.bytes ≡ (⟦<FileStore<H, O> as Pages>⟧.state self).base)) }
+    pub fn close(self) -> Closed<H, L>
+        ensures same { result.host ≡ self.host }
+        ensures fetched { L.told result.log ≡ (⟦<FileStore<H, O, L> as Pages>⟧.state self).fetched }
+        ensures base { (⟦<FileStore<H, O, L> as Pages>⟧.state self).ended ≡ false → ForSome (H.file result.host) (λ file. IsFormed file.bytes
+            × (pages_in file.bytes ≡ (⟦<FileStore<H, O, L> as Pages>⟧.state self).base)) }
         // What has become of the file since it was opened. No commit but one that failed asked for more pages than it has.
-        ensures grew { IfSome O.first (λ first. ForSome (H.file result) (λ file. GrewWhere ((⟦<FileStore<H, O> as Pages>⟧.state self).ended ≡ false) first file.bytes)) }
-        ensures disk_count { H.disk_faults result ≡ ⟦<FileStore<H, O> as Pages>⟧.disk_faults self }
-        ensures say_count { H.say_faults result ≡ ⟦<FileStore<H, O> as Pages>⟧.say_faults self }
-        ensures told { H.tape result ≡ (⟦<FileStore<H, O> as Pages>⟧.state self).told }
-        ensures beside { beside_of self.desk.shape (H.attaches result) ≡ (⟦<FileStore<H, O> as Pages>⟧.state self).beside }
+        ensures grew { IfSome O.first (λ first. ForSome (H.file result.host) (λ file. GrewWhere ((⟦<FileStore<H, O, L> as Pages>⟧.state self).ended ≡ false) first file.bytes)) }
+        ensures disk_count { H.disk_faults result.host ≡ ⟦<FileStore<H, O, L> as Pages>⟧.disk_faults self }
+        ensures say_count { H.say_faults result.host ≡ ⟦<FileStore<H, O, L> as Pages>⟧.say_faults self }
+        ensures told { H.tape result.host ≡ (⟦<FileStore<H, O, L> as Pages>⟧.state self).told }
+        ensures beside { beside_of self.desk.shape (H.attaches result.host) ≡ (⟦<FileStore<H, O, L> as Pages>⟧.state self).beside }
         ensures left { (file : File) (said : List ℕ) → H.file self.host ≡ Some file → (H.beside self.host).tape ≡ Some said
-            → (t : ℕ) (image heard : List ℕ) → H.moment result t image heard
-            → IsLeft self.desk.shape file.bytes (⟦<FileStore<H, O> as Pages>⟧.left self t) image heard }
+            → (t : ℕ) (image heard : List ℕ) → H.moment result.host t image heard
+            → IsLeft self.desk.shape file.bytes (⟦<FileStore<H, O, L> as Pages>⟧.left self t) image heard }
     {
-        self.host
+        Closed {
+            host: self.host,
+            log: self.log,
+        }
     }
 }
 

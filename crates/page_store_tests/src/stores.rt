@@ -5,7 +5,7 @@ use crate::work::{
     PageFive, byte_of, fetch_each, make_growth_ready, make_ready, make_sevens_ready, there_and_back,
 };
 use mdc_outside::Host;
-use page_store::{FileStore, OpenFault};
+use page_store::{FileStore, OpenFault, Untold};
 use std::alloc::Global;
 use std::marker::Brand;
 use std::test::Fail;
@@ -18,7 +18,7 @@ fn opened<H: Host + Drop>(alloc: Global, mut host: H) -> Result<FileStore<H>, Op
     ensures unchanged { IfOk result (λ store. (⟦<FileStore<H> as Pages>⟧.state store).work ≡ (⟦<FileStore<H> as Pages>⟧.state store).base) }
 {
     host.attach("table", false)?;
-    match FileStore::<H, Brand>::open(alloc, host, 8) {
+    match FileStore::<H, Brand, Untold>::open(alloc, host, Untold, 8) {
         Ok(store) => Ok(store),
         Err(unopened) => Err(unopened.fault),
     }
@@ -30,11 +30,11 @@ pub fn sizes_of<H: Host>(alloc: Global, mut host: H) -> (Result<(u32, u32, u32),
     if host.attach("table", false).is_err() {
         return (Err(OpenFault::Device), host);
     }
-    match FileStore::<H, Brand>::open(alloc, host, 8) {
+    match FileStore::<H, Brand, Untold>::open(alloc, host, Untold, 8) {
         Ok(store) => {
             let (extents, extent_pages) = store.shape();
             let count = store.count();
-            (Ok((extents, extent_pages, count)), store.close())
+            (Ok((extents, extent_pages, count)), store.close().host)
         }
         Err(unopened) => (Err(unopened.fault), unopened.host),
     }
@@ -50,7 +50,7 @@ pub fn byte_in<H: Host + Drop>(alloc: Global, host: H, p: u32) -> Result<u8, Fai
 pub fn with_sevens_ready<H: Host + Drop>(alloc: Global, host: H) -> Result<H, Fail> {
     let mut store = opened(alloc, host)?;
     make_sevens_ready(&mut store)?;
-    Ok(store.close())
+    Ok(store.close().host)
 }
 
 /// Commits page 5 full of sevens: whether the disk let it, and the host.
@@ -58,7 +58,7 @@ pub fn with_sevens<H: Host + Drop>(alloc: Global, host: H) -> Result<(bool, H), 
     let mut store = opened(alloc, host)?;
     make_sevens_ready(&mut store)?;
     let is_done = store.commit().is_ok();
-    Ok((is_done, store.close()))
+    Ok((is_done, store.close().host))
 }
 
 /// Commits a database as it is.
@@ -66,7 +66,7 @@ pub fn with_nothing_new<H: Host + Drop>(alloc: Global, host: H) -> Result<H, Fai
     let mut store = opened(alloc, host)?;
     make_ready(&mut store)?;
     store.commit()?;
-    Ok(store.close())
+    Ok(store.close().host)
 }
 
 /// Commits two pages more.
@@ -74,7 +74,7 @@ pub fn with_growth<H: Host + Drop>(alloc: Global, host: H) -> Result<H, Fail> {
     let mut store = opened(alloc, host)?;
     make_growth_ready(&mut store)?;
     store.commit()?;
-    Ok(store.close())
+    Ok(store.close().host)
 }
 
 /// Page 5 of the database of a host, there and back.
@@ -87,12 +87,12 @@ pub fn page_five<H: Host + Drop>(alloc: Global, host: H) -> Result<PageFive, Fai
 pub fn with_fetches<H: Host + Drop>(alloc: Global, host: H, pages: &[u32]) -> Result<H, Fail> {
     let mut store = opened(alloc, host)?;
     fetch_each(&mut store, pages)?;
-    Ok(store.close())
+    Ok(store.close().host)
 }
 
 /// Tells bytes.
 pub fn with_told<H: Host + Drop>(alloc: Global, host: H, bytes: &[u8]) -> Result<H, Fail> {
     let mut store = opened(alloc, host)?;
     store.tell(bytes)?;
-    Ok(store.close())
+    Ok(store.close().host)
 }

@@ -1,13 +1,18 @@
 -- Which blocks of those that are listed are rolled out, and what becomes of the spots.
-use Rattle.std.proofs.Common.{◌≡◌, ◌≢◌, ◌<◌, ◌∙◌, ◌⊎◌, ◌++◌, ℕ, zero, suc, List, [], ◌∷◌, true, false, get_or, length, refl, sym, ap, subst, arith, inl, inr}
-use Rattle.std.specs.Prelude.{AllPairs, Contains, Option, Some, slice_index_or}
+use Rattle.std.proofs.Common.{◌≡◌, ◌≢◌, ◌<◌, ◌+◌, ◌∙◌, ◌⊎◌, ◌++◌, ℕ, zero, suc, List, [], ◌∷◌, true, false, add-one, get_or, length, take, refl, sym, ap, subst, arith, inl, inr}
+use Rattle.std.specs.Prelude.{AllPairs, Bool, Contains, Option, Some, slice_index_or}
+use Rattle.std.specs.List.{AllZip}
+use Rattle.std.proofs.lemmas.Bool.{false≢true}
 use Rattle.std.proofs.lemmas.List.Elements.{Contains-append_cases}
+use Rattle.mdc_ast.specs.declared.definition.TableDef.{TableDef}
 use Rattle.mdc_ast.specs.declared.predicate.Pred.{Pred}
 use Rattle.mdc_ast.specs.declared.row.Row.{Row}
 use Rattle.block_index.specs.declared.listed_cells.CellBlock.{CellBlock}
 use Rattle.block_map.proofs.MapLinesLemmas.{contains_cases, contains_more}
+use Rattle.table_trees.specs.RowCells.{IsCellOf}
 use Rattle.mdc_sound.specs.Placing.{Spot}
 use Rattle.mdc_sound.specs.Placing.Spot.{OtherBlock, UsedBlock}
+use Rattle.rollout.specs.GoingCells.{JudgesCell, JudgesCells, going_numbers}
 use Rattle.rollout.specs.RolledBlocks.{is_chosen}
 
 -- ---- which blocks
@@ -18,12 +23,6 @@ AllChosen spots pred block = (slots : List (Option Row)) → slice_index_or spot
 
 abbrev pub NoneChosen : List Spot → Option Pred → ℕ → Type 0
 NoneChosen spots pred block = (slots : List (Option Row)) → slice_index_or spots block OtherBlock ≡ UsedBlock slots → (row : Row) → Contains slots (Some row) → is_chosen pred row ≡ false
-
--- These blocks are those of the listed ones whose rows qualify.
-pub data Chooses (spots : List Spot) (pred : Option Pred) : List CellBlock → List ℕ → Type 0 where
-  none : Chooses spots pred [] []
-  takes : {front all : List CellBlock} {blocks more : List ℕ} (one : CellBlock) → Chooses spots pred front blocks → AllChosen spots pred one.block → all ≡ front ++ one ∷ [] → more ≡ blocks ++ one.block ∷ [] → Chooses spots pred all more
-  leaves : {front all : List CellBlock} {blocks : List ℕ} (one : CellBlock) → Chooses spots pred front blocks → NoneChosen spots pred one.block → all ≡ front ++ one ∷ [] → Chooses spots pred all blocks
 
 pub in_front : {X : Type 0} (xs ys : List X) (x : X) → Contains xs x → Contains (xs ++ ys) x
 in_front [] ys x there = absurd (omega (arith, there.1))
@@ -36,31 +35,82 @@ in_back (y ∷ xs) ys x there = contains_more x y (xs ++ ys) (in_back xs ys x th
 pub alone : {X : Type 0} (x y : X) → Contains (y ∷ []) x → y ≡ x
 alone x y there = elim (contains_cases x y [] there) [ inl here ↦ here | inr nothing ↦ absurd (omega (arith, nothing.1)) ]
 
-module _ (spots : List Spot) (pred : Option Pred) where
-  -- each of them is listed, and its rows qualify
-  pub chosen_listed : (all : List CellBlock) (blocks : List ℕ) → Chooses spots pred all blocks → (block : ℕ) → Contains blocks block → (one : CellBlock) × Contains all one × (one.block ≡ block) × AllChosen spots pred block
-  chosen_listed _ _ Chooses.none block there = absurd (omega (arith, there.1))
-  chosen_listed all more (Chooses.takes {front = front} {blocks = blocks} one before chosen is said) block there = elim (Contains-append_cases blocks (one.block ∷ []) block (subst (λ l. Contains l block) said there)) [
-    | inl early ↦ (let r = chosen_listed front blocks before block early in (r.0, subst (λ l. Contains l r.0) (sym is) (in_front front (one ∷ []) r.0 r.1), r.2, r.3))
-    | inr last ↦ (let same : one.block ≡ block = alone block one.block last in
-        (one, subst (λ l. Contains l one) (sym is) (in_back front (one ∷ []) one (0, omega arith, refl)), same, subst (AllChosen spots pred) same chosen))
-  ]
-  chosen_listed all blocks (Chooses.leaves {front = front} one before nothing is) block there =
-      let r = chosen_listed front blocks before block there in (r.0, subst (λ l. Contains l r.0) (sym is) (in_front front (one ∷ []) r.0 r.1), r.2, r.3)
+-- ---- the cells that go
+
+-- each block that goes is that of a cell that goes
+going_listed : (P : CellBlock → Bool → Type 0) (found : List CellBlock) (going : List Bool) → AllZip P found going → (block : ℕ) → Contains (going_numbers found going) block → (one : CellBlock) × Contains found one × (one.block ≡ block) × P one true
+going_listed P [] [] all block there = absurd (omega (arith, there.1))
+going_listed P [] (goes ∷ going) all block there = absurd all
+going_listed P (one ∷ found) [] all block there = absurd all
+going_listed P (one ∷ found) (true ∷ going) all block there = elim (contains_cases block one.block (going_numbers found going) there) [
+  | inl here ↦ (one, (0, omega arith, refl), here, all.0)
+  | inr later ↦ (let r = going_listed P found going all.1 block later in (r.0, contains_more r.0 one found r.1, r.2, r.3))
+]
+going_listed P (one ∷ found) (false ∷ going) all block there = let r = going_listed P found going all.1 block there in (r.0, contains_more r.0 one found r.1, r.2, r.3)
+
+-- each cell goes, or stays
+listed_going : (P : CellBlock → Bool → Type 0) (found : List CellBlock) (going : List Bool) → AllZip P found going → (one : CellBlock) → Contains found one → Contains (going_numbers found going) one.block ⊎ P one false
+listed_going P [] going all one there = absurd (omega (arith, there.1))
+listed_going P (first ∷ found) [] all one there = absurd all
+listed_going P (first ∷ found) (true ∷ going) all one there = elim (contains_cases one first found there) [
+  | inl here ↦ inl (0, omega arith, ap (λ (c : CellBlock). c.block) here)
+  | inr later ↦ elim (listed_going P found going all.1 one later) [ inl goes ↦ inl (contains_more one.block first.block (going_numbers found going) goes) | inr stays ↦ inr stays ]
+]
+listed_going P (first ∷ found) (false ∷ going) all one there = elim (contains_cases one first found there) [
+  | inl here ↦ inr (subst (λ c. P c false) here all.0)
+  | inr later ↦ listed_going P found going all.1 one later
+]
+
+-- the next cell goes
+pub going_next : (found : List CellBlock) (going : List Bool) (n : ℕ) (one : CellBlock) → n < length found → n < length going → one ≡ get_or found n one → get_or going n false ≡ true
+    → going_numbers (take (n + 1) found) (take (n + 1) going) ≡ going_numbers (take n found) (take n going) ++ one.block ∷ []
+going_next found going n one low too is goes = rw (add-one n) (go found going n low too is goes)
+  where
+    go : (found : List CellBlock) (going : List Bool) (n : ℕ) → n < length found → n < length going → one ≡ get_or found n one → get_or going n false ≡ true
+        → going_numbers (take (suc n) found) (take (suc n) going) ≡ going_numbers (take n found) (take n going) ++ one.block ∷ []
+    go [] going n low too is goes = absurd (omega (arith, low))
+    go (first ∷ found) [] n low too is goes = absurd (omega (arith, too))
+    go (first ∷ found) (true ∷ going) zero low too is goes = ap (λ (c : CellBlock). c.block ∷ []) (sym is)
+    go (first ∷ found) (false ∷ going) zero low too is goes = absurd (false≢true goes)
+    go (first ∷ found) (true ∷ going) (suc n) low too is goes = ap (λ l. first.block ∷ l) (go found going n (omega (arith, low)) (omega (arith, too)) is goes)
+    go (first ∷ found) (false ∷ going) (suc n) low too is goes = go found going n (omega (arith, low)) (omega (arith, too)) is goes
+
+-- or stays
+pub going_past : (found : List CellBlock) (going : List Bool) (n : ℕ) → n < length found → n < length going → get_or going n false ≡ false
+    → going_numbers (take (n + 1) found) (take (n + 1) going) ≡ going_numbers (take n found) (take n going)
+going_past found going n low too stays = rw (add-one n) (go found going n low too stays)
+  where
+    go : (found : List CellBlock) (going : List Bool) (n : ℕ) → n < length found → n < length going → get_or going n false ≡ false → going_numbers (take (suc n) found) (take (suc n) going) ≡ going_numbers (take n found) (take n going)
+    go [] going n low too stays = absurd (omega (arith, low))
+    go (first ∷ found) [] n low too stays = absurd (omega (arith, too))
+    go (first ∷ found) (true ∷ going) zero low too stays = absurd (false≢true (sym stays))
+    go (first ∷ found) (false ∷ going) zero low too stays = refl
+    go (first ∷ found) (true ∷ going) (suc n) low too stays = ap (λ l. first.block ∷ l) (go found going n (omega (arith, low)) (omega (arith, too)) stays)
+    go (first ∷ found) (false ∷ going) (suc n) low too stays = go found going n (omega (arith, low)) (omega (arith, too)) stays
+
+-- a block that goes is that of some cell
+pub going_cell : (found : List CellBlock) (going : List Bool) (block : ℕ) → Contains (going_numbers found going) block → (one : CellBlock) × Contains found one × (one.block ≡ block)
+going_cell [] going block there = absurd (omega (arith, there.1))
+going_cell (one ∷ found) [] block there = absurd (omega (arith, there.1))
+going_cell (one ∷ found) (true ∷ going) block there = elim (contains_cases block one.block (going_numbers found going) there) [
+  | inl here ↦ (one, (0, omega arith, refl), here)
+  | inr later ↦ (let r = going_cell found going block later in (r.0, contains_more r.0 one found r.1, r.2))
+]
+going_cell (one ∷ found) (false ∷ going) block there = let r = going_cell found going block there in (r.0, contains_more r.0 one found r.1, r.2)
+
+module _ (spots : List Spot) (def : TableDef) (pred : Option Pred) (found : List CellBlock) (going : List Bool) (judged : JudgesCells def pred found going)
+    (of_cell : (one : CellBlock) → Contains found one → (slots : List (Option Row)) → slice_index_or spots one.block OtherBlock ≡ UsedBlock slots → (row : Row) → Contains slots (Some row) → IsCellOf def one.cell row.values) where
+  -- each of the blocks that go is listed, and its rows qualify
+  pub chosen_listed : (block : ℕ) → Contains (going_numbers found going) block → (one : CellBlock) × Contains found one × (one.block ≡ block) × AllChosen spots pred block
+  chosen_listed block there =
+      let r = going_listed (JudgesCell def pred) found going judged block there in
+      (r.0, r.1, r.2, subst (AllChosen spots pred) r.2 (λ slots spot row is. r.3.1 row.values (of_cell r.0 r.1 slots spot row is)))
 
   -- of each other that is listed no row qualifies
-  pub listed_chosen : (all : List CellBlock) (blocks : List ℕ) → Chooses spots pred all blocks → (one : CellBlock) → Contains all one → Contains blocks one.block ⊎ NoneChosen spots pred one.block
-  listed_chosen _ _ Chooses.none one there = absurd (omega (arith, there.1))
-  listed_chosen all more (Chooses.takes {front = front} {blocks = blocks} last before chosen is said) one there = elim (Contains-append_cases front (last ∷ []) one (subst (λ l. Contains l one) is there)) [
-    | inl early ↦ elim (listed_chosen front blocks before one early) [
-      | inl chosen ↦ inl (subst (λ l. Contains l one.block) (sym said) (in_front blocks (last.block ∷ []) one.block chosen))
-      | inr nothing ↦ inr nothing
-    ]
-    | inr here ↦ inl (subst (λ l. Contains l one.block) (sym said) (in_back blocks (last.block ∷ []) one.block (0, omega arith, ap (λ (c : CellBlock). c.block) (alone one last here))))
-  ]
-  listed_chosen all blocks (Chooses.leaves {front = front} last before nothing is) one there = elim (Contains-append_cases front (last ∷ []) one (subst (λ l. Contains l one) is there)) [
-    | inl early ↦ listed_chosen front blocks before one early
-    | inr here ↦ inr (subst (NoneChosen spots pred) (ap (λ (c : CellBlock). c.block) (alone one last here)) nothing)
+  pub listed_chosen : (one : CellBlock) → Contains found one → Contains (going_numbers found going) one.block ⊎ NoneChosen spots pred one.block
+  listed_chosen one there = elim (listed_going (JudgesCell def pred) found going judged one there) [
+    | inl goes ↦ inl goes
+    | inr stays ↦ inr (λ slots spot row is. stays.1 row.values (of_cell one there slots spot row is))
   ]
 
 -- ---- numbers that differ

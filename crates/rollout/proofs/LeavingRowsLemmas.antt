@@ -1,11 +1,8 @@
 -- Rows that leave the record indexes of a table, step by step, while they stay in their blocks.
-use Rattle.std.proofs.Common.{◌≡◌, ◌<◌, ◌≤◌, ◌⊎◌, ℕ, List, [], ◌∷◌, ◌++◌, None, length, sum_by, map, refl, ap, arith, sym, ◌∙◌, subst, inl, inr}
+use Rattle.std.proofs.Common.{◌≡◌, ◌<◌, ◌≤◌, ◌⊎◌, ℕ, List, [], ◌∷◌, ◌++◌, None, length, sum_by, map, refl, arith, sym, ◌∙◌, subst, inl, inr}
 use Rattle.std.specs.Prelude.{Option}
 use Rattle.std.specs.List.{AllByRecursion}
-use Rattle.std.proofs.lemmas.List.{length-map, nil_from_length}
 use Rattle.std.proofs.lemmas.List.Sums.{sum_by-append}
-use Rattle.std.proofs.lemmas.Slice.Zip.{AllZip-long}
-use Rattle.mdc_ast.specs.TableLimits.{IsTableDef}
 use Rattle.mdc_ast.specs.declared.definition.TableDef.{TableDef}
 use Rattle.store_api.specs.RunsOverPages.{RunsOverPages}
 use Rattle.store_api.specs.declared.fault.Damage.{Damage}
@@ -17,26 +14,26 @@ use Rattle.extent_map.specs.Map.{IsMapPage}
 use Rattle.extent_map.specs.Owners.{owner_of}
 use Rattle.extent_map.specs.declared.kind.Kind.{Kind}
 use Rattle.extent_map.specs.declared.space_notes.SpaceNotes.{SpaceNotes}
-use Rattle.entry_tree.specs.Forest.{Forest, times}
+use Rattle.entry_tree.specs.Forest.{times}
 use Rattle.table_trees.specs.SpaceChanges.{MakesChanges, SpaceChange, removed_entries}
 use Rattle.table_trees.specs.SpaceChanges.SpaceChange.{AmendEntry}
-use Rattle.table_trees.specs.TableTrees.{TreePlace, record_place, record_places}
+use Rattle.table_trees.specs.TableTrees.{TreePlace}
 use Rattle.table_trees.specs.ToldPages.{PageList}
-use Rattle.table_trees.specs.TreesBeside.{HoldsTreeAt, table_of_block}
+use Rattle.table_trees.specs.TreesBeside.{table_of_block}
 use Rattle.table_trees.proofs.SpaceChainsLemmas.{changes_then, no_changes, same_space_itself}
 use Rattle.table_trees.proofs.ToldPagesLemmas.{map_of_told}
 use Rattle.mdc_words.specs.ByteOrder.{Entry}
 use Rattle.mdc_sound.specs.StandingTable.{BreaksExpected, StandsTable, TableForests, forests_in_order, pages_of, spots_of}
 use Rattle.mdc_sound.specs.TableRows.{PlacedRow}
 use Rattle.row_entries.specs.RowEntries.{HasRowEntries, IsTreeOrMapPageOfTable, LeavesRow, with_indexes}
-use Rattle.row_entries.proofs.TableEntriesLemmas.{indexes_stand}
 use Rattle.cell_change.proofs.ChangedRowLemmas.{same_returns}
 use Rattle.cell_change.proofs.KeptOthersLemmas.{keeps_as, keeps_then}
 use Rattle.cell_change.proofs.SpotStepsLemmas.{returns_then}
 use Rattle.cell_change.proofs.TableStepsLemmas.{changes_table_then, same_table}
 use Rattle.rollout.specs.LeavingRows.{HasTheirEntries, LeavesRows}
-use Rattle.rollout.specs.RolledBlocks.{LosesRows, TakesNoSpace, TakesNothing}
-use Rattle.rollout.proofs.LosingRowsLemmas.{entries_behind, first_has_entries, loses_nothing}
+use Rattle.rollout.specs.LostEntries.{LosesRows}
+use Rattle.rollout.specs.RolledBlocks.{GivesBackSpace, TakesNothing}
+use Rattle.rollout.proofs.LosingRowsLemmas.{first_has_entries}
 
 -- ---- space
 
@@ -49,14 +46,14 @@ takes_removed [] = tt
 takes_removed (listing ∷ listings) = (tt, takes_removed listings)
 
 -- entries that are taken out take no space
-pub space_removed : (shape : Shape) (old new : PageList) (listings : List (TreePlace × Entry)) → MakesChanges shape old (removed_entries listings) new → TakesNoSpace shape old new
+pub space_removed : (shape : Shape) (old new : PageList) (listings : List (TreePlace × Entry)) → MakesChanges shape old (removed_entries listings) new → GivesBackSpace shape old new
 space_removed shape old new listings makes = record { changes = removed_entries listings; each = takes_removed listings; makes = makes }
 
 -- nor does an entry that is changed in place before
-pub space_amended : (shape : Shape) (old new : PageList) (place : TreePlace) (was is : Entry) (listings : List (TreePlace × Entry)) → MakesChanges shape old (AmendEntry place was is ∷ removed_entries listings) new → TakesNoSpace shape old new
+pub space_amended : (shape : Shape) (old new : PageList) (place : TreePlace) (was is : Entry) (listings : List (TreePlace × Entry)) → MakesChanges shape old (AmendEntry place was is ∷ removed_entries listings) new → GivesBackSpace shape old new
 space_amended shape old new place was is listings makes = record { changes = AmendEntry place was is ∷ removed_entries listings; each = (tt, takes_removed listings); makes = makes }
 
-pub space_then : (shape : Shape) (old mid new : PageList) → TakesNoSpace shape old mid → TakesNoSpace shape mid new → TakesNoSpace shape old new
+pub space_then : (shape : Shape) (old mid new : PageList) → GivesBackSpace shape old mid → GivesBackSpace shape mid new → GivesBackSpace shape old new
 space_then shape old mid new first second = record {
   changes = first.changes ++ second.changes;
   each = takes_append first.changes second.changes first.each second.each;
@@ -64,7 +61,7 @@ space_then shape old mid new first second = record {
 }
 
 module _ {S : Type 0} (g : Ghosts S) (shape : Shape) (def : TableDef) where
-  pub space_none : (s : S) (owners : List Kind) (forests : TableForests) → StandsTable g shape s def owners forests → TakesNoSpace shape (pages_of g s) (pages_of g s)
+  pub space_none : (s : S) (owners : List Kind) (forests : TableForests) → StandsTable g shape s def owners forests → GivesBackSpace shape (pages_of g s) (pages_of g s)
   space_none s owners forests st = record {
     changes = [];
     each = tt;
@@ -83,22 +80,6 @@ module _ {S : Type 0} (g : Ghosts S) (shape : Shape) (def : TableDef) where
     pages = λ p. omega arith;
     returns = same_returns (spots_of g shape s def owners forests);
   }
-
-  -- nor do any rows where it has no record index
-  pub leaves_nothing : def.indexes ≡ [] → IsTableDef def.number def → (rows : List PlacedRow) (noted : SpaceNotes) (s : S) (owners : List Kind) (forests : TableForests) → StandsTable g shape s def owners forests
-      → LeavesRows g shape noted noted s s def rows owners forests
-  leaves_nothing none defined rows noted s owners forests st =
-      let stand = indexes_stand shape def defined s owners forests st in
-      let count : length forests.indexes ≡ 0 = AllZip-long (HoldsTreeAt g s) (record_places def) forests.indexes stand.held ∙ (length-map def.indexes (record_place def) ∙ ap length none) in
-      let trees : forests.indexes ≡ [] = nil_from_length forests.indexes count in
-      record {
-        owners_now = owners;
-        indexes_now = forests.indexes;
-        table = record { changes = same_table g shape s def owners forests st; owned = λ e. refl; blocks = record { stay = λ p of not. refl }; rows = refl };
-        lose = subst (λ (list : List Forest). LosesRows def list rows list) (sym trees) (loses_nothing def none rows);
-        pages = λ p. omega arith;
-        returns = same_returns (spots_of g shape s def owners forests);
-      }
 
   module _ {before mid : SpaceNotes} (old middle : S) (rows : List PlacedRow) (owners : List Kind) (forests : TableForests) (first : LeavesRows g shape before mid old middle def rows owners forests) where
     abbrev pub forests_left : TableForests
@@ -139,7 +120,7 @@ module _ {S : Type 0} (g : Ghosts S) (shape : Shape) (def : TableDef) where
 -- The first rows have left, and no call failed.
 pub record IsLeaving {S : Type 0} (g : Ghosts S) (shape : Shape) (before noted : SpaceNotes) (old now : S) (def : TableDef) (all rows : List PlacedRow) : Type 0 where
   pub leaves : (owners : List Kind) (forests : TableForests) → StandsTable g shape old def owners forests → LeavesRows g shape before noted old now def rows owners forests
-  pub space : (owners : List Kind) (forests : TableForests) → StandsTable g shape old def owners forests → TakesNoSpace shape (pages_of g old) (pages_of g now)
+  pub space : (owners : List Kind) (forests : TableForests) → StandsTable g shape old def owners forests → GivesBackSpace shape (pages_of g old) (pages_of g now)
   pub count : length (g.state now).work ≡ length (g.state old).work
   pub runs : RunsOverPages g (IsTreeOrMapPageOfTable g shape old def) (IsTreeOrMapPageOfTable g shape old def) (BreaksExpected g shape old def (HasTheirEntries def all)) old now None
 
@@ -159,9 +140,8 @@ module _ {S : Type 0} (g : Ghosts S) (shape : Shape) (before noted : SpaceNotes)
         names = is.names;
         broken = λ owners forests st have.
             let left = so_far.leaves owners forests st in
-            let still = entries_behind def forests.indexes left.indexes_now rows (placed ∷ rest) left.lose (subst (λ l. HasTheirEntries def l owners forests) split have) in
             is.broken left.owners_now (with_indexes forests left.indexes_now) left.table.changes.stands
-            (first_has_entries def placed rest left.owners_now (with_indexes forests left.indexes_now) still);
+            (first_has_entries def rows rest placed forests.indexes left.indexes_now left.lose (subst (λ l. HasTheirEntries def l owners forests) split have));
       }
 
   -- it took it out

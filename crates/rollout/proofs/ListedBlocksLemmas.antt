@@ -43,7 +43,7 @@ use Rattle.table_blocks.proofs.OpeningLemmas.{used_now}
 use Rattle.rollout.specs.RolledBlocks.{IsBlockOfCell}
 
 -- what holds of each pair holds of that in a place
-zip_at : {X Y : Type 0} (R : X → Y → Type 0) (xs : List X) (ys : List Y) (k : ℕ) (d : X) (e : Y) → AllZip R xs ys → k < length xs → R (get_or xs k d) (get_or ys k e)
+pub zip_at : {X Y : Type 0} (R : X → Y → Type 0) (xs : List X) (ys : List Y) (k : ℕ) (d : X) (e : Y) → AllZip R xs ys → k < length xs → R (get_or xs k d) (get_or ys k e)
 zip_at R [] ys k d e all low = absurd (omega (arith, low))
 zip_at R (x ∷ xs) [] k d e all low = absurd all
 zip_at R (x ∷ xs) (y ∷ ys) zero d e all low = all.0

@@ -1,20 +1,17 @@
 -- A table at which calls only looked: what is made of it afterwards is made of it as it was.
-use Rattle.std.proofs.Common.{◌≡◌, ◌≤◌, ◌∙◌, ℕ, List, length, ap, subst, arith}
+use Rattle.std.proofs.Common.{◌≡◌, ◌≤◌, ◌∙◌, ℕ, List, length, ap, arith}
 use Rattle.mdc_ast.specs.declared.definition.TableDef.{TableDef}
-use Rattle.store_api.specs.StoreState.{page_at}
 use Rattle.store_api.specs.declared.pages.Pages.{Ghosts}
 use Rattle.store_api.specs.declared.shape.Shape.{Shape}
 use Rattle.extent_map.specs.declared.kind.Kind.{Kind}
 use Rattle.extent_map.specs.declared.space_notes.SpaceNotes.{SpaceNotes}
 use Rattle.extent_map.proofs.GrowthLemmas.{growth_same}
 use Rattle.table_trees.specs.ToldPages.{PageList}
-use Rattle.mdc_sound.specs.Placing.{Spot, SpotsAfterReturns, table_spots}
+use Rattle.mdc_sound.specs.Placing.{table_spots}
 use Rattle.mdc_sound.specs.StandingTable.{ChangesTable, StandsTable, TableForests, spots_of}
-use Rattle.mdc_sound.specs.TableRows.{PlacedRow, rows_in_table}
 use Rattle.mdc_sound.proofs.StandingTableLemmas.{stands_same}
-use Rattle.row_entries.specs.RowEntries.{IsTreeOrMapPageOfTable, with_indexes}
+use Rattle.row_entries.specs.RowEntries.{IsTreeOrMapPageOfTable}
 use Rattle.cell_change.proofs.TableStepsLemmas.{changes_table_then, same_table}
-use Rattle.rollout.specs.LeavingRows.{LeavesRows}
 
 module _ {S : Type 0} (g : Ghosts S) (shape : Shape) (old looked : S) (def : TableDef) (told : (g.state looked).is_told ≡ (g.state old).is_told) (work : (g.state looked).work ≡ (g.state old).work) where
   -- it stands still
@@ -48,20 +45,3 @@ module _ {S : Type 0} (g : Ghosts S) (shape : Shape) (old looked : S) (def : Tab
       → ChangesTable g shape before noted looked new def owners forests owners_now forests_now → ChangesTable g shape before noted old new def owners forests owners_now forests_now
   changes_looked new owners owners_now forests forests_now st longer second =
       changes_table_then g shape old looked def owners forests owners forests (looked_table owners forests st) new owners_now forests_now second (λ e none. none) (omega (arith, ap length work)) longer
-
-  -- rows that left its record indexes left those that it had
-  pub leaves_looked : {before noted : SpaceNotes} (new : S) (rows : List PlacedRow) (owners : List Kind) (forests : TableForests) → StandsTable g shape old def owners forests → length (g.state looked).work ≤ length (g.state new).work
-      → LeavesRows g shape before noted looked new def rows owners forests → LeavesRows g shape before noted old new def rows owners forests
-  leaves_looked new rows owners forests st longer second = record {
-    owners_now = second.owners_now;
-    indexes_now = second.indexes_now;
-    table = record {
-      changes = changes_looked new owners second.owners_now forests (with_indexes forests second.indexes_now) st longer second.table.changes;
-      owned = second.table.owned;
-      blocks = record { stay = λ p of not. second.table.blocks.stay p of not ∙ ap (λ (pages : PageList). page_at pages p) work };
-      rows = second.table.rows ∙ ap (λ (pages : PageList). rows_in_table shape pages def forests.map) work;
-    };
-    lose = second.lose;
-    pages = second.pages;
-    returns = subst (λ (spots : List Spot). SpotsAfterReturns spots (spots_of g shape new def second.owners_now (with_indexes forests second.indexes_now))) (spots_looked owners forests) second.returns;
-  }

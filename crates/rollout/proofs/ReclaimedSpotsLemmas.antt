@@ -8,7 +8,8 @@ use Rattle.mdc_sound.specs.Placing.{Spot, reclaimed_spot, rows_from_spot, rows_i
 use Rattle.mdc_sound.specs.Placing.Spot.{FreeBlock, FreeExtent, IndexExtent, OtherBlock, PendingBlock, UsedBlock}
 use Rattle.table_scan.proofs.ChoosingLemmas.{in_or_not}
 use Rattle.cell_change.proofs.SpotStepsLemmas.{LeavesBlocks}
-use Rattle.rollout.proofs.TurnedSpotsLemmas.{length-turned, turned, turned_other, turned_there}
+use Rattle.rollout.specs.RolledSome.{turned}
+use Rattle.rollout.proofs.TurnedSpotsLemmas.{length-turned, turned_other, turned_there}
 
 -- ---- one spot
 

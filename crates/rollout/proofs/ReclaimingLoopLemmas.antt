@@ -37,12 +37,13 @@ use Rattle.table_blocks.proofs.SpotChangesLemmas.{returns_change}
 use Rattle.mdc_table.proofs.StandingBlocksLemmas.{free_within}
 use Rattle.cell_change.proofs.ChangedRowLemmas.{same_returns}
 use Rattle.cell_change.proofs.SpotStepsLemmas.{returns_then, set_both}
-use Rattle.rollout.specs.RolledBlocks.{TakesNoSpace}
+use Rattle.rollout.specs.RolledBlocks.{GivesBackSpace}
 use Rattle.rollout.proofs.LeavingRowsLemmas.{space_none, space_then}
 use Rattle.rollout.proofs.LookedTableLemmas.{looked_table, spots_looked}
-use Rattle.rollout.proofs.RollingLoopLemmas.{in_take}
+use Rattle.rollout.proofs.TakenCellsLemmas.{in_take}
 use Rattle.rollout.proofs.RollingTableLemmas.{few_of}
-use Rattle.rollout.proofs.TurnedSpotsLemmas.{turned, turned_more, turned_other}
+use Rattle.rollout.specs.RolledSome.{turned}
+use Rattle.rollout.proofs.TurnedSpotsLemmas.{turned_more, turned_other}
 
 -- ---- rising numbers
 
@@ -97,7 +98,7 @@ module _ {S : Type 0} (g : Ghosts S) (shape : Shape) (old mid new : S) (def : Ta
 -- ---- one block
 
 -- its changes of space take nothing
-pub space_reclaimed : (shape : Shape) (old new : PageList) (def : TableDef) (block : ℕ) → MakesChanges shape old (reclaimed_changes def block) new → TakesNoSpace shape old new
+pub space_reclaimed : (shape : Shape) (old new : PageList) (def : TableDef) (block : ℕ) → MakesChanges shape old (reclaimed_changes def block) new → GivesBackSpace shape old new
 space_reclaimed shape old new def block makes = record { changes = reclaimed_changes def block; each = (tt, (tt, tt)); makes = makes }
 
 -- none lies past the extents
@@ -125,7 +126,7 @@ pub record ReclaimsSome {S : Type 0} (g : Ghosts S) (shape : Shape) (before note
 pub record IsReclaiming {S : Type 0} (g : Ghosts S) (shape : Shape) (before noted : SpaceNotes) (old now : S) (def : TableDef) (gone : List ℕ) (total : ℕ) : Type 0 where
   pub reclaims : (owners : List Kind) (forests : TableForests) → StandsTable g shape old def owners forests → ReclaimsSome g shape before noted old now def gone owners forests
   pub counted : (owners : List Kind) (forests : TableForests) → StandsTable g shape old def owners forests → total ≡ length gone
-  pub space : (owners : List Kind) (forests : TableForests) → StandsTable g shape old def owners forests → TakesNoSpace shape (pages_of g old) (pages_of g now)
+  pub space : (owners : List Kind) (forests : TableForests) → StandsTable g shape old def owners forests → GivesBackSpace shape (pages_of g old) (pages_of g now)
   pub count : length (g.state now).work ≡ length (g.state old).work
   pub runs : RunsOverPages g (IsTreeOrMapPageOfTable g shape old def) (IsTreeOrMapPageOfTable g shape old def) (BreaksTable g shape old def) old now None
 
@@ -155,7 +156,7 @@ module _ {S : Type 0} (g : Ghosts S) (shape : Shape) (def : TableDef) (defined :
         spots = subst (SpotsAfterReturns (spots_of g shape old def owners forests)) (sym (spots_looked g shape old looked def told work owners forests)) (same_returns (spots_of g shape old def owners forests));
       };
       counted = λ owners forests st. refl;
-      space = λ owners forests st. subst (TakesNoSpace shape (pages_of g old)) (sym work) (space_none g shape def old owners forests st);
+      space = λ owners forests st. subst (GivesBackSpace shape (pages_of g old)) (sym work) (space_none g shape def old owners forests st);
       count = ap length work;
       runs = runs_listed None run;
     }
@@ -201,7 +202,7 @@ module _ {S : Type 0} (g : Ghosts S) (shape : Shape) (def : TableDef) (defined :
 
     pub reclaiming_next : {noted_now : SpaceNotes} (new : S) (total_now : ℕ) → (total + 1 < 4294967296 → total_now ≡ total + 1)
         → ((owners : List Kind) (forests : TableForests) → StandsTable g shape now def owners forests → Contains (free_blocks forests.map) block → ReclaimsBlock g shape noted noted_now now new def block owners forests)
-        → ((owners : List Kind) (forests : TableForests) → StandsTable g shape now def owners forests → Contains (free_blocks forests.map) block → TakesNoSpace shape (pages_of g now) (pages_of g new))
+        → ((owners : List Kind) (forests : TableForests) → StandsTable g shape now def owners forests → Contains (free_blocks forests.map) block → GivesBackSpace shape (pages_of g now) (pages_of g new))
         → length (g.state new).work ≡ length (g.state now).work
         → RunsOverPages g (IsTreeOrMapPageOfTable g shape now def) (IsTreeOrMapPageOfTable g shape now def) (BreaksExpected g shape now def (HasFreeBlock block)) now new None
         → IsReclaiming g shape before noted_now old new def (take (n + 1) free) total_now

@@ -1,31 +1,27 @@
 -- Blocks that are rolled out one after the other, in the order of the composite index.
-use Rattle.std.proofs.Common.{◌≡◌, ◌≢◌, ◌<◌, ◌≤◌, ◌+◌, ◌*◌, ◌∙◌, ◌⊎◌, ◌++◌, ℕ, suc, List, [], ◌∷◌, true, false, length, map, set, sum_by, refl, sym, ap, subst, arith, inl, inr, append_assoc, append-nil, eqb}
-use Rattle.std.specs.Prelude.{◌||◌, AllPairs, Contains, IsPermutation, Option, Some, flat_map, slice_index_or}
+use Rattle.std.proofs.Common.{◌≡◌, ◌≢◌, ◌<◌, ◌≤◌, ◌+◌, ◌∙◌, ◌⊎◌, ◌++◌, ℕ, suc, List, [], ◌∷◌, true, false, length, map, set, sym, ap, subst, arith, inl, inr, append_assoc, append-nil, eqb}
+use Rattle.std.specs.Prelude.{◌||◌, AllPairs, Contains, IsPermutation, Option, slice_index_or}
 use Rattle.std.specs.List.{AllByRecursion, AllZip, IsDistinct, list_any}
 use Rattle.std.proofs.lemmas.Bool.{cases_eq, false≢true, ne_eqb}
 use Rattle.std.proofs.lemmas.Grind.{flat_map-append}
-use Rattle.std.proofs.lemmas.List.{get_or-set_other, length-append}
+use Rattle.std.proofs.lemmas.List.{length-append}
 use Rattle.std.proofs.lemmas.List.Elements.{Contains-append_cases}
 use Rattle.std.proofs.lemmas.List.Sorted.{IsPermutation-append_comm, IsPermutation-append_left, IsPermutation-append_right, IsPermutation-sym, IsPermutation-trans}
 use Rattle.std.proofs.lemmas.Map.Steps.{length-le_from_distinct_below}
 use Rattle.mdc_ast.specs.declared.definition.IndexDef.{IndexDef}
 use Rattle.mdc_ast.specs.declared.definition.TableDef.{TableDef}
-use Rattle.mdc_ast.specs.declared.predicate.Pred.{Pred}
 use Rattle.mdc_ast.specs.declared.row.Row.{Row}
 use Rattle.store_api.specs.declared.pages.Pages.{Ghosts}
 use Rattle.store_api.specs.declared.shape.Shape.{Shape}
-use Rattle.extent_map.specs.Owners.{owner_of}
 use Rattle.extent_map.specs.declared.kind.Kind.{Kind}
 use Rattle.extent_map.specs.declared.space_notes.SpaceNotes.{SpaceNotes}
-use Rattle.entry_tree.specs.Forest.{Forest, leaf_entries, times}
-use Rattle.block_map.specs.MapLines.{pending_blocks}
+use Rattle.entry_tree.specs.Forest.{Forest, leaf_entries}
 use Rattle.block_map.proofs.MapLinesLemmas.{contains_more}
 use Rattle.block_index.specs.declared.listed_cells.CellBlock.{CellBlock}
-use Rattle.table_trees.specs.TreesBeside.{table_of_block}
 use Rattle.mdc_sound.specs.BlockRules.{IsSoundIndex, block_in_entry, entry_of_row}
 use Rattle.mdc_sound.specs.Placing.{AfterReturns, Spot, SpotsAfterReturns, rows_from_spot, rows_in_spot}
-use Rattle.mdc_sound.specs.Placing.Spot.{FreeBlock, OtherBlock, PendingBlock, UsedBlock}
-use Rattle.mdc_sound.specs.StandingTable.{ChangesTable, StandsTable, TableForests, forests_in_order, pages_of, spots_of}
+use Rattle.mdc_sound.specs.Placing.Spot.{FreeBlock, OtherBlock, UsedBlock}
+use Rattle.mdc_sound.specs.StandingTable.{StandsTable, TableForests, pages_of, spots_of}
 use Rattle.mdc_sound.specs.TableRows.{PlacedRow, rows_from_slot, rows_in_table}
 use Rattle.mdc_sound.proofs.BlockRulesLemmas.{each_of}
 use Rattle.mdc_sound.proofs.ChangedRowsLemmas.{rows_of_standing}
@@ -37,22 +33,13 @@ use Rattle.mdc_sound.proofs.TableSpotsLemmas.{length-spots}
 use Rattle.table_blocks.proofs.SpotChangesLemmas.{returns_change}
 use Rattle.mdc_table.proofs.KeptRoomsLemmas.{used_below}
 use Rattle.row_entries.specs.SoundEntries.{StayPending}
-use Rattle.row_entries.proofs.PendingSpotsLemmas.{stay_returned}
-use Rattle.row_entries.proofs.StandingRowsLemmas.{lie_apart, pending_by_spot}
-use Rattle.cell_change.specs.ExpectedTables.{HasSoundIndexes}
 use Rattle.cell_change.proofs.SpotStepsLemmas.{returns_leave, returns_then, set_both, used_back, used_on}
 use Rattle.cell_change.proofs.TableStepsLemmas.{changes_table_then}
-use Rattle.rollout.specs.RolledBlocks.{IsBlockOfCell, LosesRows, RollsBlock, is_chosen}
-use Rattle.rollout.specs.RollingCells.{RollsChosen}
+use Rattle.rollout.specs.RolledBlocks.{IsBlockOfCell, RollsBlock}
+use Rattle.rollout.specs.RolledSome.{RollsSome, freed, rows_of}
 use Rattle.rollout.specs.declared.rolling.RolledOut.{RolledOut}
-use Rattle.rollout.proofs.ChosenBlocksLemmas.{Chooses, alone, differ_more}
-use Rattle.rollout.proofs.LosingRowsLemmas.{apart_moved, loses_then, sound_behind}
-use Rattle.rollout.proofs.RollingBlockLemmas.{sound_all_moved}
-use Rattle.rollout.proofs.TurnedSpotsLemmas.{freed, turned_more, turned_other}
-
--- the rows of blocks
-abbrev pub rows_of : List Spot → List ℕ → List PlacedRow
-rows_of spots blocks = flat_map (λ b. rows_in_spot b (slice_index_or spots b OtherBlock)) blocks
+use Rattle.rollout.proofs.ChosenBlocksLemmas.{alone, differ_more}
+use Rattle.rollout.proofs.TurnedSpotsLemmas.{turned_more, turned_other}
 
 -- ---- numbers that differ, below a bound
 
@@ -123,160 +110,93 @@ module _ {S : Type 0} (g : Ghosts S) (shape : Shape) (def : TableDef) where
         IsPermutation-trans (mine ++ are) (mine ++ (cut.front ++ cut.back)) were (IsPermutation-append_right mine are (cut.front ++ cut.back) now)
         (IsPermutation-trans (mine ++ (cut.front ++ cut.back)) (cut.front ++ (mine ++ cut.back)) were (exchange mine cut.front cut.back) then)
 
-    -- the record indexes are sound for those
-    pub indexes_left : HasSoundIndexes g shape old def owners forests → HasSoundIndexes g shape new def rolls.owners_now rolls.forests_now
-    indexes_left sound =
-        let mine = rows_from_slot block 0 rolls.slots in
-        let were = rows_in_table shape (pages_of g old) def forests.map in
-        let are = rows_in_table shape (pages_of g new) def rolls.forests_now.map in
-        let moved = sound_all_moved def were (mine ++ are) (pending_blocks forests.map) (IsPermutation-sym (mine ++ are) were rows_left) def.indexes forests.indexes sound in
-        let left = sound_behind def forests.indexes rolls.forests_now.indexes mine are (pending_blocks forests.map) rolls.entries moved (apart_moved (mine ++ are) were rows_left (lie_apart g shape old def owners forests st)) in
-        more_pending def are (pending_blocks forests.map) (pending_blocks rolls.forests_now.map) stay def.indexes rolls.forests_now.indexes left
-      where
-        stay : StayPending (pending_blocks forests.map) (pending_blocks rolls.forests_now.map)
-        stay e there =
-            let is = (pending_by_spot g shape old def owners forests st e).0 there in
-            let other : e ≢ block = λ same. let wrong : UsedBlock rolls.slots ≡ PendingBlock = sym rolls.was ∙ (ap (λ (n : ℕ). slice_index_or spots_old n OtherBlock) (sym same) ∙ is) in absurd cc in
-            (pending_by_spot g shape new def rolls.owners_now rolls.forests_now rolls.changes.stands e).1
-            (stay_returned (set spots_old block FreeBlock) spots_new rolls.spots e (get_or-set_other spots_old block e FreeBlock OtherBlock other ∙ is))
-
 -- ---- some blocks
 
--- Of the blocks that are listed those whose rows qualify are Free, and so many rows and blocks went.
-pub record RollsSome {S : Type 0} (g : Ghosts S) (shape : Shape) (before noted : SpaceNotes) (old now : S) (def : TableDef) (pred : Option Pred) (found : List CellBlock) (rolled : RolledOut) (owners : List Kind) (forests : TableForests) : Type 0 where
-  pub owners_now : List Kind
-  pub forests_now : TableForests
-  pub changes : ChangesTable g shape before noted old now def owners forests owners_now forests_now
-  pub owned : (e : ℕ) → table_of_block (owner_of owners_now e) ≡ table_of_block (owner_of owners e)
-  pub pages : (p : ℕ) → 0 < sum_by (times p) (forests_in_order forests_now) → 0 < sum_by (times p) (forests_in_order forests)
-  pub blocks : List ℕ
-  pub chooses : Chooses (spots_of g shape old def owners forests) pred found blocks
-  pub once : AllPairs (λ a b. a ≢ b) blocks
-  pub within : (b : ℕ) → Contains blocks b → b < length (spots_of g shape old def owners forests)
-  pub spots : SpotsAfterReturns (freed blocks (spots_of g shape old def owners forests)) (spots_of g shape now def owners_now forests_now)
-  pub entries : LosesRows def forests.indexes (rows_of (spots_of g shape old def owners forests) blocks) forests_now.indexes
-  pub whole : IsPermutation (rows_of (spots_of g shape old def owners forests) blocks ++ rows_in_table shape (pages_of g now) def forests_now.map) (rows_in_table shape (pages_of g old) def forests.map)
-  pub rows : rolled.rows ≡ length (rows_of (spots_of g shape old def owners forests) blocks)
-  pub count : rolled.blocks ≡ length blocks
-  pub few : length (rows_of (spots_of g shape old def owners forests) blocks) ≤ 65535 * length blocks
-  pub sound : HasSoundIndexes g shape old def owners forests → HasSoundIndexes g shape now def owners_now forests_now
-
-module _ {S : Type 0} (g : Ghosts S) (shape : Shape) (def : TableDef) (pred : Option Pred) (old : S) (owners : List Kind) (forests : TableForests) where
+module _ {S : Type 0} (g : Ghosts S) (shape : Shape) (def : TableDef) (old : S) (owners : List Kind) (forests : TableForests) where
   abbrev spots_then : List Spot
   spots_then = spots_of g shape old def owners forests
 
   abbrev rows_then : List ℕ → List PlacedRow
   rows_then = rows_of spots_then
 
-  module _ {before noted : SpaceNotes} (now : S) (found : List CellBlock) (rolled : RolledOut) (some : RollsSome g shape before noted old now def pred found rolled owners forests) where
+  module _ {before noted : SpaceNotes} (now : S) (blocks : List ℕ) (rolled : RolledOut) (some : RollsSome g shape before noted old now def blocks rolled owners forests) where
     abbrev spots_now : List Spot
     spots_now = spots_of g shape now def some.owners_now some.forests_now
 
     -- a Used block that isn't one of them is as it was
-    pub spot_on : (block : ℕ) (slots : List (Option Row)) → (Contains some.blocks block → ⊥) → slice_index_or spots_then block OtherBlock ≡ UsedBlock slots → slice_index_or spots_now block OtherBlock ≡ UsedBlock slots
-    spot_on block slots out is = used_on returns_leave (freed some.blocks spots_then) spots_now some.spots block slots (turned_other FreeBlock some.blocks spots_then block out ∙ is)
+    pub spot_on : (block : ℕ) (slots : List (Option Row)) → (Contains blocks block → ⊥) → slice_index_or spots_then block OtherBlock ≡ UsedBlock slots → slice_index_or spots_now block OtherBlock ≡ UsedBlock slots
+    spot_on block slots out is = used_on returns_leave (freed blocks spots_then) spots_now some.spots block slots (turned_other FreeBlock blocks spots_then block out ∙ is)
 
-    pub spot_back : (block : ℕ) (slots : List (Option Row)) → (Contains some.blocks block → ⊥) → slice_index_or spots_now block OtherBlock ≡ UsedBlock slots → slice_index_or spots_then block OtherBlock ≡ UsedBlock slots
-    spot_back block slots out is = sym (turned_other FreeBlock some.blocks spots_then block out) ∙ used_back returns_leave (freed some.blocks spots_then) spots_now some.spots block slots is
+    pub spot_back : (block : ℕ) (slots : List (Option Row)) → (Contains blocks block → ⊥) → slice_index_or spots_now block OtherBlock ≡ UsedBlock slots → slice_index_or spots_then block OtherBlock ≡ UsedBlock slots
+    spot_back block slots out is = sym (turned_other FreeBlock blocks spots_then block out) ∙ used_back returns_leave (freed blocks spots_then) spots_now some.spots block slots is
 
-    pub block_on : (one : CellBlock) → (Contains some.blocks one.block → ⊥) → IsBlockOfCell g shape old def one owners forests → IsBlockOfCell g shape now def one some.owners_now some.forests_now
+    pub block_on : (one : CellBlock) → (Contains blocks one.block → ⊥) → IsBlockOfCell g shape old def one owners forests → IsBlockOfCell g shape now def one some.owners_now some.forests_now
     block_on one out is = record { slots = is.slots; spot = spot_on one.block is.slots out is.spot; row = is.row; there = is.there; cell = is.cell }
 
-    -- how many there may be
-    pub few_blocks : length some.blocks ≤ shape.extents
-    few_blocks = subst (λ n. length some.blocks ≤ n) (length-spots shape (pages_of g old) def owners forests.map) (few_of some.blocks (length spots_then) some.once some.within)
-
     -- the next one is rolled out
-    module _ {noted_now : SpaceNotes} (new : S) (one : CellBlock) (rows : ℕ) (out : Contains some.blocks one.block → ⊥) (longer : length (pages_of g old) ≤ length (pages_of g now)) (still_longer : length (pages_of g now) ≤ length (pages_of g new))
-        (r : RollsChosen g shape noted noted_now now new def pred one.block rows some.owners_now some.forests_now) where
-      slots_then : slice_index_or spots_then one.block OtherBlock ≡ UsedBlock r.rolls.slots
-      slots_then = spot_back one.block r.rolls.slots out r.rolls.was
+    module _ {noted_now : SpaceNotes} (new : S) (one : CellBlock) (rows : ℕ) (out : Contains blocks one.block → ⊥) (longer : length (pages_of g old) ≤ length (pages_of g now)) (still_longer : length (pages_of g now) ≤ length (pages_of g new))
+        (r : RollsBlock g shape noted noted_now now new def one.block rows some.owners_now some.forests_now) where
+      slots_then : slice_index_or spots_then one.block OtherBlock ≡ UsedBlock r.slots
+      slots_then = spot_back one.block r.slots out r.was
 
       low : one.block < length spots_then
-      low = used_below spots_then one.block r.rolls.slots slots_then
+      low = used_below spots_then one.block r.slots slots_then
 
       blocks_now : List ℕ
-      blocks_now = some.blocks ++ one.block ∷ []
+      blocks_now = blocks ++ one.block ∷ []
 
       once_now : AllPairs (λ a b. a ≢ b) blocks_now
       unfolding blocks_now
-      once_now = differ_more some.blocks one.block some.once out
+      once_now = differ_more blocks one.block some.once out
 
       within_now : (b : ℕ) → Contains blocks_now b → b < length spots_then
       unfolding blocks_now
-      within_now b there = elim (Contains-append_cases some.blocks (one.block ∷ []) b there) [
+      within_now b there = elim (Contains-append_cases blocks (one.block ∷ []) b there) [
         | inl early ↦ some.within b early
         | inr last ↦ subst (λ n. n < length spots_then) (alone b one.block last) low
       ]
 
       -- so that the counts fit
-      pub few_now : length some.blocks + 1 ≤ 65536
+      pub few_now : length blocks + 1 ≤ 65536
       unfolding blocks_now
-      few_now = omega (arith, few_of blocks_now (length spots_then) once_now within_now, length-append some.blocks (one.block ∷ []), length-spots shape (pages_of g old) def owners forests.map, few_extents shape)
+      few_now = omega (arith, few_of blocks_now (length spots_then) once_now within_now, length-append blocks (one.block ∷ []), length-spots shape (pages_of g old) def owners forests.map, few_extents shape)
 
-      rows_now_are : rows_then blocks_now ≡ rows_then some.blocks ++ rows_from_slot one.block 0 r.rolls.slots
+      rows_now_are : rows_then blocks_now ≡ rows_then blocks ++ rows_from_slot one.block 0 r.slots
       unfolding blocks_now
       rows_now_are =
-          flat_map-append (λ b. rows_in_spot b (slice_index_or spots_then b OtherBlock)) some.blocks (one.block ∷ [])
-          ∙ ap (λ last. rows_then some.blocks ++ last) (append-nil (rows_in_spot one.block (slice_index_or spots_then one.block OtherBlock)) ∙ ap (rows_in_spot one.block) slots_then)
+          flat_map-append (λ b. rows_in_spot b (slice_index_or spots_then b OtherBlock)) blocks (one.block ∷ [])
+          ∙ ap (λ last. rows_then blocks ++ last) (append-nil (rows_in_spot one.block (slice_index_or spots_then one.block OtherBlock)) ∙ ap (rows_in_spot one.block) slots_then)
 
-      count_now : length (rows_then blocks_now) ≡ length (rows_then some.blocks) + rows
-      count_now = omega (arith, ap length rows_now_are, length-append (rows_then some.blocks) (rows_from_slot one.block 0 r.rolls.slots), length-rows_from_slot one.block 0 r.rolls.slots, r.rolls.counted)
+      count_now : length (rows_then blocks_now) ≡ length (rows_then blocks) + rows
+      count_now = omega (arith, ap length rows_now_are, length-append (rows_then blocks) (rows_from_slot one.block 0 r.slots), length-rows_from_slot one.block 0 r.slots, r.counted)
 
       pub rolls_more : (rolled_now : RolledOut) → rows < 65536 → rolled_now.rows ≡ rolled.rows + rows → rolled_now.blocks ≡ rolled.blocks + 1
-          → RollsSome g shape before noted_now old new def pred (found ++ one ∷ []) rolled_now owners forests
+          → RollsSome g shape before noted_now old new def (blocks ++ one.block ∷ []) rolled_now owners forests
       unfolding blocks_now
       rolls_more rolled_now few rows_more blocks_more = record {
-        owners_now = r.rolls.owners_now;
-        forests_now = r.rolls.forests_now;
-        changes = changes_table_then g shape old now def owners forests some.owners_now some.forests_now some.changes new r.rolls.owners_now r.rolls.forests_now r.rolls.changes (λ e none. sym (some.owned e) ∙ none) longer still_longer;
-        owned = λ e. r.rolls.owned e ∙ some.owned e;
-        pages = λ p is. some.pages p (r.rolls.pages p is);
-        blocks = blocks_now;
-        chooses = Chooses.takes one some.chooses (λ slots is. r.all slots (spot_on one.block slots out is)) refl refl;
+        owners_now = r.owners_now;
+        forests_now = r.forests_now;
+        changes = changes_table_then g shape old now def owners forests some.owners_now some.forests_now some.changes new r.owners_now r.forests_now r.changes (λ e none. sym (some.owned e) ∙ none) longer still_longer;
+        owned = λ e. r.owned e ∙ some.owned e;
+        pages = λ p is. some.pages p (r.pages p is);
+        records = r.records ∙ some.records;
         once = once_now;
         within = within_now;
-        spots = subst (λ l. SpotsAfterReturns l (spots_of g shape new def r.rolls.owners_now r.rolls.forests_now)) (sym (turned_more FreeBlock some.blocks one.block spots_then))
-            (returns_then (set (freed some.blocks spots_then) one.block FreeBlock) (set spots_now one.block FreeBlock) (spots_of g shape new def r.rolls.owners_now r.rolls.forests_now)
-            (set_both AfterReturns (freed some.blocks spots_then) spots_now one.block FreeBlock (returns_change.stays FreeBlock) some.spots) r.rolls.spots);
-        entries = subst (λ l. LosesRows def forests.indexes l r.rolls.forests_now.indexes) (sym rows_now_are)
-            (loses_then def forests.indexes some.forests_now.indexes r.rolls.forests_now.indexes (rows_then some.blocks) (rows_from_slot one.block 0 r.rolls.slots) some.entries r.rolls.entries);
+        spots = subst (λ l. SpotsAfterReturns l (spots_of g shape new def r.owners_now r.forests_now)) (sym (turned_more FreeBlock blocks one.block spots_then))
+            (returns_then (set (freed blocks spots_then) one.block FreeBlock) (set spots_now one.block FreeBlock) (spots_of g shape new def r.owners_now r.forests_now)
+            (set_both AfterReturns (freed blocks spots_then) spots_now one.block FreeBlock (returns_change.stays FreeBlock) some.spots) r.spots);
         whole = whole_now;
         rows = omega (arith, rows_more, some.rows, count_now);
-        count = omega (arith, blocks_more, some.count, length-append some.blocks (one.block ∷ []));
-        few = omega (arith, count_now, few, some.few, length-append some.blocks (one.block ∷ []));
-        sound = λ sound. indexes_left g shape def now new one.block rows some.owners_now some.forests_now some.changes.stands r.rolls (some.sound sound);
+        count = omega (arith, blocks_more, some.count, length-append blocks (one.block ∷ []));
+        few = omega (arith, count_now, few, some.few, length-append blocks (one.block ∷ []));
       }
         where
-          whole_now : IsPermutation (rows_then blocks_now ++ rows_in_table shape (pages_of g new) def r.rolls.forests_now.map) (rows_in_table shape (pages_of g old) def forests.map)
+          whole_now : IsPermutation (rows_then blocks_now ++ rows_in_table shape (pages_of g new) def r.forests_now.map) (rows_in_table shape (pages_of g old) def forests.map)
           whole_now =
-              let mine = rows_from_slot one.block 0 r.rolls.slots in
+              let mine = rows_from_slot one.block 0 r.slots in
               let were = rows_in_table shape (pages_of g now) def some.forests_now.map in
-              let are = rows_in_table shape (pages_of g new) def r.rolls.forests_now.map in
-              let left = rows_left g shape def now new one.block rows some.owners_now some.forests_now some.changes.stands r.rolls in
-              subst (λ l. IsPermutation l (rows_in_table shape (pages_of g old) def forests.map)) (sym (append_assoc (rows_then some.blocks) mine are) ∙ ap (λ l. l ++ are) (sym rows_now_are))
-              (IsPermutation-trans (rows_then some.blocks ++ (mine ++ are)) (rows_then some.blocks ++ were) (rows_in_table shape (pages_of g old) def forests.map)
-              (IsPermutation-append_right (rows_then some.blocks) (mine ++ are) were left) some.whole)
-
-    -- the next one isn't
-    pub rolls_past : (one : CellBlock) → (Contains some.blocks one.block → ⊥)
-        → ((slots : List (Option Row)) → slice_index_or spots_now one.block OtherBlock ≡ UsedBlock slots → (row : Row) → Contains slots (Some row) → is_chosen pred row ≡ false)
-        → RollsSome g shape before noted old now def pred (found ++ one ∷ []) rolled owners forests
-    rolls_past one out nothing = record {
-      owners_now = some.owners_now;
-      forests_now = some.forests_now;
-      changes = some.changes;
-      owned = some.owned;
-      pages = some.pages;
-      blocks = some.blocks;
-      chooses = Chooses.leaves one some.chooses (λ slots is. nothing slots (spot_on one.block slots out is)) refl;
-      once = some.once;
-      within = some.within;
-      spots = some.spots;
-      entries = some.entries;
-      whole = some.whole;
-      rows = some.rows;
-      count = some.count;
-      few = some.few;
-      sound = some.sound;
-    }
+              let are = rows_in_table shape (pages_of g new) def r.forests_now.map in
+              let left = rows_left g shape def now new one.block rows some.owners_now some.forests_now some.changes.stands r in
+              subst (λ l. IsPermutation l (rows_in_table shape (pages_of g old) def forests.map)) (sym (append_assoc (rows_then blocks) mine are) ∙ ap (λ l. l ++ are) (sym rows_now_are))
+              (IsPermutation-trans (rows_then blocks ++ (mine ++ are)) (rows_then blocks ++ were) (rows_in_table shape (pages_of g old) def forests.map)
+              (IsPermutation-append_right (rows_then blocks) (mine ++ are) were left) some.whole)

@@ -25,10 +25,12 @@ use Rattle.table_blocks.proofs.OpeningLemmas.{used_spot_now}
 use Rattle.table_blocks.proofs.SpotChangesLemmas.{returns_change}
 use Rattle.cell_change.proofs.SpotStepsLemmas.{returns_leave, used_on}
 use Rattle.rollout.specs.Applying.{applies_to}
-use Rattle.rollout.specs.RolledBlocks.{LosesRows, is_chosen}
+use Rattle.rollout.specs.LostEntries.{LosesEntries, LosesRows}
+use Rattle.rollout.specs.RolledBlocks.{is_chosen}
 use Rattle.rollout.specs.RowByRow.{AreChosenRows, AreWholeBlocks, DeletesRows, TakesRows}
 use Rattle.rollout.proofs.CellRowsLemmas.{agree_on_dimensions}
 use Rattle.rollout.proofs.LosingRowsLemmas.{loses_then}
+use Rattle.rollout.proofs.LostEntriesLemmas.{all_lost}
 use Rattle.rollout.proofs.NamedDimensionsLemmas.{qualify_alike}
 use Rattle.rollout.proofs.RolledTableLemmas.{has_such, zip_from}
 
@@ -228,11 +230,15 @@ module _ {S : Type 0} (g : Ghosts S) (shape : Shape) (def : TableDef) where
   takes_deleted DeletesRows.none = TakesRows.none
   takes_deleted (DeletesRows.one placed deletes more) = TakesRows.one placed deletes.takes deletes.returns (takes_deleted more)
 
-  pub loses_deleted : {old new : S} {owners owners_now : List Kind} {forests forests_now : TableForests} {rows : List PlacedRow} → DeletesRows g shape def old owners forests rows new owners_now forests_now
+  loses_deleted : {old new : S} {owners owners_now : List Kind} {forests forests_now : TableForests} {rows : List PlacedRow} → DeletesRows g shape def old owners forests rows new owners_now forests_now
       → LosesRows def forests.indexes rows forests_now.indexes
   loses_deleted DeletesRows.none = LosesRows.none
   loses_deleted {forests = forests} {forests_now = forests_now} (DeletesRows.one {rows = rows} placed deletes more) =
       loses_then def forests.indexes deletes.forests_now.indexes forests_now.indexes (placed ∷ []) rows (LosesRows.one placed LosesRows.none deletes.entries refl) (loses_deleted more)
+
+  pub loses_entries : {old new : S} {owners owners_now : List Kind} {forests forests_now : TableForests} {rows : List PlacedRow} → DeletesRows g shape def old owners forests rows new owners_now forests_now
+      → length forests.indexes ≡ length def.indexes → LosesEntries def forests.indexes rows forests_now.indexes
+  loses_entries {forests = forests} {forests_now = forests_now} {rows = rows} deletes long = all_lost def forests.indexes rows forests_now.indexes long (loses_deleted deletes)
 
 -- rows that are chosen, in two orders
 pub same_chosen : {chosen : Row → Bool} {spots : List Spot} {rows others : List PlacedRow} → AreChosenRows chosen spots rows → AreChosenRows chosen spots others → (placed : PlacedRow) → Contains rows placed ↔ Contains others placed

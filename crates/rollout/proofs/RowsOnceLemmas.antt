@@ -68,14 +68,6 @@ module _ {S : Type 0} {g : Ghosts S} {Counted : ℕ → Type 0} where
     once = run.once;
   }
 
-  pub counted_fewer : {Fewer Kind : ℕ → Type 0} {old new : S} → BringsCountedOnce g Counted Kind old new → ((p : ℕ) → Fewer p → Counted p) → BringsCountedOnce g Fewer Kind old new
-  counted_fewer {Fewer} {Kind} run fewer = record {
-    pages = run.pages;
-    brought = run.brought;
-    kind = All-weaker (λ p. Counted p → Kind p) (λ p. Fewer p → Kind p) (λ p is counts. is (fewer p counts)) run.pages run.kind;
-    once = λ i j below within counts. run.once i j below within (fewer (get_or run.pages j 0) counts);
-  }
-
 -- a page of a tree of the table, or of the extent map, is none of its blocks
 pub no_row_page : {S : Type 0} {g : Ghosts S} (shape : Shape) (s : S) (def : TableDef) (owners : List Kind) (forests : TableForests) → StandsTable g shape s def owners forests → (p : ℕ) → IsBlockPageOf shape owners def.number p
     → 0 < sum_by (times p) (forests_in_order forests) ⊎ IsMapPage shape p → ⊥

@@ -4,17 +4,11 @@ use Rattle.std.specs.Prelude.{Contains}
 use Rattle.std.proofs.lemmas.Bool.{cases_eq}
 use Rattle.std.proofs.lemmas.List.{get_or-set_other, get_or-set_same, length-set}
 use Rattle.block_map.proofs.MapLinesLemmas.{contains_cases, contains_more}
-use Rattle.mdc_sound.specs.Placing.{Spot}
-use Rattle.mdc_sound.specs.Placing.Spot.{FreeBlock, OtherBlock}
-
--- the spots of these blocks are this one
-abbrev pub turned : Spot → List ℕ → List Spot → List Spot
-turned spot [] spots = spots
-turned spot (block ∷ blocks) spots = turned spot blocks (set spots block spot)
-
--- these blocks are Free
-abbrev pub freed : List ℕ → List Spot → List Spot
-freed = turned FreeBlock
+use Rattle.mdc_sound.specs.Placing.{AfterReturns, Spot, SpotsAfterReturns}
+use Rattle.mdc_sound.specs.Placing.Spot.{OtherBlock}
+use Rattle.table_blocks.proofs.SpotChangesLemmas.{returns_change}
+use Rattle.cell_change.proofs.SpotStepsLemmas.{set_both}
+use Rattle.rollout.specs.RolledSome.{turned}
 
 module _ (spot : Spot) where
   pub turned_more : (blocks : List ℕ) (block : ℕ) (spots : List Spot) → turned spot (blocks ++ block ∷ []) spots ≡ set (turned spot blocks spots) block spot
@@ -45,3 +39,8 @@ module _ (spot : Spot) where
     | inl here ↦ turned_still blocks (set spots b spot) e (omega (arith, low, length-set spots b spot)) (ap (λ i. get_or (set spots b spot) i OtherBlock) (sym here) ∙ get_or-set_same spots b spot OtherBlock (omega (arith, low, here)))
     | inr later ↦ turned_there blocks (set spots b spot) e later (omega (arith, low, length-set spots b spot))
   ]
+
+-- what trees give back of spots they give back of those of which the same are turned
+pub turned_after : (spot : Spot) (blocks : List ℕ) (old new : List Spot) → SpotsAfterReturns old new → SpotsAfterReturns (turned spot blocks old) (turned spot blocks new)
+turned_after spot [] old new after = after
+turned_after spot (b ∷ blocks) old new after = turned_after spot blocks (set old b spot) (set new b spot) (set_both AfterReturns old new b spot (returns_change.stays spot) after)

@@ -1,8 +1,13 @@
 pub mod Applying
 pub mod CellRows
+pub mod GoingCells
 pub mod LeavingRows
+pub mod LostEntries
 pub mod ReclaimedBlocks
 pub mod RolledBlocks
 pub mod RolledPages
-pub mod RollingCells
+pub mod RolledSome
+pub mod RolledSpace
 pub mod RowByRow
+pub mod SweptIndexes
+pub mod SweptPart

@@ -1,5 +1,5 @@
 -- What a rollout makes of a table: which blocks are Free afterwards, which rows are left, and which entries its record indexes lost.
-use Rattle.std.specs.Prelude.{◌≡◌, ◌≢◌, ◌↔◌, ◌<◌, ℕ, Bool, true, false, List, [], ◌∷◌, ◌++◌, AllPairs, Contains, IsPermutation, Option, Some, filter, length, not, slice_index_or, slice_set, sum_by}
+use Rattle.std.specs.Prelude.{◌≡◌, ◌≢◌, ◌↔◌, ◌<◌, ℕ, Bool, true, false, List, ◌++◌, AllPairs, Contains, IsPermutation, Option, Some, filter, length, not, slice_index_or, slice_set, sum_by}
 use Rattle.std.specs.List.{AllByRecursion}
 use Rattle.mdc_words.specs.ByteOrder.{Entry}
 use Rattle.mdc_ast.specs.declared.definition.TableDef.{TableDef}
@@ -12,9 +12,8 @@ use Rattle.store_api.specs.declared.pages.Pages.{Ghosts}
 use Rattle.store_api.specs.declared.shape.Shape.{Shape}
 use Rattle.extent_map.specs.declared.kind.Kind.{Kind}
 use Rattle.extent_map.specs.declared.space_notes.SpaceNotes.{SpaceNotes}
-use Rattle.entry_tree.specs.Forest.{Forest, times}
+use Rattle.entry_tree.specs.Forest.{times}
 use Rattle.row_page.specs.RowPage.{count_rows}
-use Rattle.block_index.specs.Listing.{LosesEntry}
 use Rattle.block_index.specs.declared.listed_cells.CellBlock.{CellBlock}
 use Rattle.table_trees.specs.RowCells.{IsCellOf}
 use Rattle.table_trees.specs.SpaceChanges.{MakesChanges, SpaceChange}
@@ -25,19 +24,10 @@ use Rattle.extent_map.specs.Owners.{owner_of}
 use Rattle.mdc_sound.specs.Placing.{HasChosenRow, RollsOut, SpotsAfterReturns}
 use Rattle.mdc_sound.specs.Placing.Spot.{FreeBlock, OtherBlock, UsedBlock}
 use Rattle.mdc_sound.specs.StandingTable.{AreRightRooms, ChangesTable, RoomNote, TableForests, forests_in_order, pages_of, spots_of}
-use Rattle.mdc_sound.specs.TableRows.{PlacedRow, rows_from_slot, rows_in_table}
-use Rattle.row_entries.specs.ChosenIndexes.{MoveChosen, all_chosen, entry_of}
+use Rattle.mdc_sound.specs.TableRows.{PlacedRow, rows_in_table}
 use Rattle.cell_change.specs.ExpectedTables.{HasSoundIndexes}
+use Rattle.rollout.specs.LostEntries.{KeepsEntries, LosesEntries}
 use Rattle.rollout.specs.declared.rolling.RolledOut.{RolledOut}
-
--- ---- entries
-
--- Each record index lost the entries of these rows, one row after the other, and nothing else.
-pub data LosesRows (def : TableDef) (trees : List Forest) : List PlacedRow → List Forest → Type 0 where
-  none : LosesRows def trees [] trees
-  one : {front rows : List PlacedRow} {mid after : List Forest} (placed : PlacedRow) → LosesRows def trees front mid
-      → MoveChosen LosesEntry (entry_of def placed.row placed.rid) (all_chosen def) def.indexes mid after → rows ≡ front ++ placed ∷ []
-      → LosesRows def trees rows after
 
 -- ---- space
 
@@ -49,7 +39,7 @@ TakesNothing (GiveBlock table block) = Unit {0}
 TakesNothing change = ⊥
 
 -- such changes were made, one after the other, and no other: space is given back or as it was
-pub record TakesNoSpace (shape : Shape) (old new : PageList) : Type 0 where
+pub record GivesBackSpace (shape : Shape) (old new : PageList) : Type 0 where
   pub changes : List SpaceChange
   pub each : AllByRecursion TakesNothing changes
   pub makes : MakesChanges shape old changes new
@@ -64,8 +54,7 @@ pub record IsBlockOfCell {S : Type 0} (g : Ghosts S) (shape : Shape) (s : S) (de
   pub there : Contains slots (Some row)
   pub cell : IsCellOf def one.cell row.values
 
--- A Used block is Free now, and trees may have given extents back. Each record index lost the entries of its rows, of which there were
--- so many, and nothing else.
+-- A Used block of so many rows is Free now, and trees may have given extents back. The record indexes have the trees that they had.
 pub record RollsBlock {S : Type 0} (g : Ghosts S) (shape : Shape) (before noted : SpaceNotes) (old new : S) (def : TableDef) (block rows : ℕ) (owners : List Kind) (forests : TableForests) : Type 0 where
   pub owners_now : List Kind
   pub forests_now : TableForests
@@ -75,7 +64,7 @@ pub record RollsBlock {S : Type 0} (g : Ghosts S) (shape : Shape) (before noted 
   pub changes : ChangesTable g shape before noted old new def owners forests owners_now forests_now
   pub owned : (e : ℕ) → table_of_block (owner_of owners_now e) ≡ table_of_block (owner_of owners e)
   pub pages : (p : ℕ) → 0 < sum_by (times p) (forests_in_order forests_now) → 0 < sum_by (times p) (forests_in_order forests)
-  pub entries : LosesRows def forests.indexes (rows_from_slot block 0 slots) forests_now.indexes
+  pub records : forests_now.indexes ≡ forests.indexes
   pub spots : SpotsAfterReturns (slice_set (spots_of g shape old def owners forests) block FreeBlock) (spots_of g shape new def owners_now forests_now)
 
 -- ---- all blocks
@@ -85,8 +74,8 @@ abbrev pub is_chosen : Option Pred → Row → Bool
 is_chosen pred row = qualifies pred row.values
 
 -- Each block in which a row qualifies is Free now, and trees may have given extents back. The rows that went all qualify, and none that
--- is left does. Each record index lost the entries of those that went, and nothing else. It was answered how many rows went, of how
--- many blocks. Record indexes that were sound are.
+-- is left does. As many entries left each record index as rows went, all of these rows, and none but such as name a block that went;
+-- exactly those of the rows, where it was sound, and it is sound then. It was answered how many rows went, of how many blocks.
 pub record RollsOutRows {S : Type 0} (g : Ghosts S) (shape : Shape) (before noted : SpaceNotes) (room_of : Entry → RoomNote) (old new : S) (def : TableDef) (pred : Option Pred) (rolled : RolledOut)
     (owners : List Kind) (forests : TableForests) : Type 0 where
   pub owners_now : List Kind
@@ -95,7 +84,7 @@ pub record RollsOutRows {S : Type 0} (g : Ghosts S) (shape : Shape) (before note
   pub rooms : AreRightRooms def room_of (spots_of g shape new def owners_now forests_now)
   pub rolls : RollsOut def Immediate (is_chosen pred) (spots_of g shape old def owners forests) (spots_of g shape new def owners_now forests_now)
   pub gone : List PlacedRow
-  pub entries : LosesRows def forests.indexes gone forests_now.indexes
+  pub entries : HasSoundIndexes g shape old def owners forests → LosesEntries def forests.indexes gone forests_now.indexes
   pub rows : IsPermutation (gone ++ rows_in_table shape (pages_of g new) def forests_now.map) (rows_in_table shape (pages_of g old) def forests.map)
   pub qualify : AllByRecursion (λ placed. is_chosen pred placed.row ≡ true) gone
   pub others : AllByRecursion (λ placed. is_chosen pred placed.row ≡ false) (rows_in_table shape (pages_of g new) def forests_now.map)
@@ -105,6 +94,7 @@ pub record RollsOutRows {S : Type 0} (g : Ghosts S) (shape : Shape) (before note
   pub blocks_are : (block : ℕ) → Contains blocks block ↔ HasChosenRow (is_chosen pred) (slice_index_or (spots_of g shape old def owners forests) block OtherBlock)
   pub once : AllPairs (λ a b. a ≢ b) blocks
   pub block_count : rolled.blocks ≡ length blocks
+  pub kept : KeepsEntries def blocks forests.indexes gone forests_now.indexes
 
 -- a plain table without the rows that qualify
 abbrev pub without_chosen : Option Pred → PlainTable → PlainTable

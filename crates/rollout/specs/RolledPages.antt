@@ -1,32 +1,42 @@
 -- Which pages a rollout brings to hand.
-use Rattle.std.specs.Prelude.{◌≡◌, ◌≢◌, ◌<◌, ◌⊎◌, ℕ, ⊤, true, All, List, [], Option, length, slice_index, slice_index_or}
+use Rattle.std.specs.Prelude.{◌≡◌, ◌≢◌, ◌<◌, ◌⊎◌, ◌↔◌, ℕ, ⊤, Bool, false, All, Contains, List, [], Option, length, slice_index, slice_index_or, sum_by}
 use Rattle.mdc_ast.specs.declared.definition.TableDef.{TableDef}
 use Rattle.mdc_ast.specs.declared.predicate.Pred.{Pred}
-use Rattle.mdc_ast.specs.Truth.{qualifies}
-use Rattle.mdc_values.specs.declared.value.Value.{Value}
-use Rattle.block_index.specs.declared.listed_cells.CellBlock.{CellBlock}
-use Rattle.table_trees.specs.RowCells.{IsCellOf}
+use Rattle.mdc_ast.specs.declared.row.Row.{Row}
 use Rattle.store_api.specs.Fetching.{Brought}
 use Rattle.store_api.specs.declared.pages.Pages.{Ghosts}
 use Rattle.store_api.specs.declared.shape.Shape.{Shape}
 use Rattle.extent_map.specs.declared.kind.Kind.{Kind}
-use Rattle.mdc_sound.specs.Placing.{HasChosenRow}
+use Rattle.block_map.specs.MapLines.{MapLine, lines_of_state}
+use Rattle.mdc_sound.specs.Placing.{HasChosenRow, Spot}
 use Rattle.mdc_sound.specs.Placing.Spot.{OtherBlock}
-use Rattle.mdc_sound.specs.StandingTable.{IsBlockPageOf, IsPageOfBlock, StandsTable, TableForests, spots_of}
+use Rattle.extent_map.specs.Map.{IsMapPage}
+use Rattle.entry_tree.specs.Forest.{times}
+use Rattle.block_index.specs.declared.listed_cells.CellBlock.{CellBlock}
+use Rattle.mdc_sound.specs.StandingTable.{IsBlockPageOf, StandsTable, TableForests, forests_in_order, spots_of}
 use Rattle.row_entries.specs.RowEntries.{IsTreeOrMapPageOfTable}
+use Rattle.rollout.specs.GoingCells.{ListsCells}
+use Rattle.rollout.specs.LeavingRows.{IsPageOfBlocks}
 use Rattle.rollout.specs.RolledBlocks.{is_chosen}
+use Rattle.rollout.specs.SweptPart.{goes_by_sweep}
 
--- a page of a block in which a row qualifies, where the table has a record index and was told to stand
+-- The blocks in which a row is chosen, of which it is a page, have too few rows for a sweep.
+pub record IsPageOfFew (shape : Shape) (spots : List Spot) (lines : List MapLine) (chosen : Row → Bool) (p : ℕ) : Type 0 where
+  pub blocks : List ℕ
+  pub are : (block : ℕ) → Contains blocks block ↔ HasChosenRow chosen (slice_index_or spots block OtherBlock)
+  pub page : IsPageOfBlocks shape blocks p
+  pub few : goes_by_sweep lines blocks ≡ false
+
+-- a page of such blocks with rows that qualify, where the table has a record index and was told to stand
 abbrev pub IsRolledRowPage : {S : Type 0} → Ghosts S → Shape → S → TableDef → Option Pred → ℕ → Type 0
 IsRolledRowPage g shape s def pred p =
     (def.indexes ≢ []) × ((owners : List Kind) (forests : TableForests) → StandsTable g shape s def owners forests
-    → (block : ℕ) × HasChosenRow (is_chosen pred) (slice_index_or (spots_of g shape s def owners forests) block OtherBlock) × IsPageOfBlock shape block p)
+    → IsPageOfFew shape (spots_of g shape s def owners forests) (lines_of_state 1 forests.map) (is_chosen pred) p)
 
--- the pages that rolling out the block of one cell brings to hand: its own row pages only where its rows qualify
-abbrev pub IsCellPage : {S : Type 0} → Ghosts S → Shape → S → TableDef → Option Pred → CellBlock → ℕ → Type 0
-IsCellPage g shape s def pred one p =
-    IsTreeOrMapPageOfTable g shape s def p
-    ⊎ ((def.indexes ≢ []) × IsPageOfBlock shape one.block p × ((values : List Value) → IsCellOf def one.cell values → qualifies pred values ≡ true))
+-- a page of the table's trees or of the extent map, where the table was told to stand and its composite index to list these cells
+abbrev pub IsPageWhereListed : {S : Type 0} → Ghosts S → Shape → S → TableDef → List CellBlock → ℕ → Type 0
+IsPageWhereListed g shape s def found p =
+    (owners : List Kind) (forests : TableForests) → StandsTable g shape s def owners forests → ListsCells def found owners forests → 0 < sum_by (times p) (forests_in_order forests) ⊎ IsMapPage shape p
 
 -- the pages that a rollout brings to hand: those of the table's trees and of the extent map, and those row pages
 abbrev pub IsRolloutPage : {S : Type 0} → Ghosts S → Shape → S → TableDef → Option Pred → ℕ → Type 0

@@ -1,5 +1,5 @@
 // A rollout beside the same rows deleted one by one.
-ghost use Rattle.std.specs.Prelude.{◌≡◌, Bool, List, length, true};
+ghost use Rattle.std.specs.Prelude.{◌≡◌, Bool, List, true};
 ghost use Rattle.std.specs.List.{AllZip};
 ghost use Rattle.mdc_words.specs.ByteOrder.{Entry};
 ghost use Rattle.mdc_ast.specs.TableLimits.{IsTableDef};
@@ -13,7 +13,8 @@ ghost use Rattle.mdc_sound.specs.Placing.{RollsOut, Spot, SpotsAfterReturns, row
 ghost use Rattle.mdc_sound.specs.StandingTable.{RoomNote, StandsTable, TableForests, spots_of};
 ghost use Rattle.mdc_sound.specs.TableRows.{PlacedRow};
 ghost use Rattle.rollout.specs.Applying.{applies_to};
-ghost use Rattle.rollout.specs.RolledBlocks.{LosesRows, RollsOutRows, is_chosen};
+ghost use Rattle.rollout.specs.LostEntries.{LosesEntries};
+ghost use Rattle.rollout.specs.RolledBlocks.{RollsOutRows, is_chosen};
 ghost use Rattle.rollout.specs.RowByRow.{AreChosenRows, AreWholeBlocks, DeletesRows, SameEntries, TakesRows};
 ghost use Rattle.rollout.specs.declared.rolling.RolledOut.{RolledOut};
 
@@ -29,10 +30,11 @@ pub fn whole_blocks_qualify<P: Pages>(shape: Shape, def: &TableDef, pred: &Optio
 
 /// Rows that calls delete one after the other are taken out of their blocks, and each record index loses their entries and nothing else.
 pub fn deleted_one_by_one<P: Pages>(shape: Shape, def: &TableDef, old: &P, new: &P)
+    requires defined { IsTableDef def.now.number def.now }
     ensures spots { (owners owners_now : List Kind) (forests forests_now : TableForests) (rows : List PlacedRow) → DeletesRows P.Pages shape def.now old.now owners forests rows new.now owners_now forests_now
         → TakesRows (spots_of P.Pages shape old.now def.now owners forests) rows (spots_of P.Pages shape new.now def.now owners_now forests_now) }
     ensures entries { (owners owners_now : List Kind) (forests forests_now : TableForests) (rows : List PlacedRow) → DeletesRows P.Pages shape def.now old.now owners forests rows new.now owners_now forests_now
-        → LosesRows def.now forests.indexes rows forests_now.indexes }
+        → StandsTable P.Pages shape old.now def.now owners forests → LosesEntries def.now forests.indexes rows forests_now.indexes }
 {}
 
 /// The rows that a rollout took out are those that qualify, each with its place.
@@ -55,6 +57,6 @@ pub fn as_row_by_row()
         → (rolls : RollsOut def Immediate chosen old new) → SpotsAfterReturns rolls.rolled by_row }
     ensures rows { (def : TableDef) (chosen : Row → Bool) (old by_row new : List Spot) (rows : List PlacedRow) → AreWholeBlocks chosen old → AreChosenRows chosen old rows → TakesRows old rows by_row
         → RollsOut def Immediate chosen old new → rows_from_spot 0 by_row ≡ rows_from_spot 0 new }
-    ensures entries { (def : TableDef) (chosen : Row → Bool) (old : List Spot) (trees by_row new : List Forest) (rows others : List PlacedRow) → length trees ≡ length def.indexes → AreChosenRows chosen old rows → AreChosenRows chosen old others
-        → LosesRows def trees rows by_row → LosesRows def trees others new → AllZip SameEntries by_row new }
+    ensures entries { (def : TableDef) (chosen : Row → Bool) (old : List Spot) (trees by_row new : List Forest) (rows others : List PlacedRow) → AreChosenRows chosen old rows → AreChosenRows chosen old others
+        → LosesEntries def trees rows by_row → LosesEntries def trees others new → AllZip SameEntries by_row new }
 {}

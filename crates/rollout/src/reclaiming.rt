@@ -12,7 +12,7 @@ ghost use Rattle.mdc_sound.specs.StandingTable.{BreaksExpected, BreaksTable, Kee
 ghost use Rattle.table_blocks.specs.BlockChanges.{IsTreeOrMapPageOfTable};
 ghost use Rattle.table_blocks.specs.BlockSteps.{HasFreeBlock, ReclaimsBlock};
 ghost use Rattle.rollout.specs.ReclaimedBlocks.{ReclaimsFree};
-ghost use Rattle.rollout.specs.RolledBlocks.{TakesNoSpace};
+ghost use Rattle.rollout.specs.RolledBlocks.{GivesBackSpace};
 
 use block_map::{BlockMap, BlockState};
 use extent_map::SpaceNotes;
@@ -37,7 +37,7 @@ pub fn reclaim<P: Pages>(
     ensures reclaims { IfOk result (λ count. (owners : List Kind) (forests : TableForests) → StandsTable P.Pages shape pages.old def.now owners forests
         → ReclaimsFree P.Pages shape notes.old notes.new pages.old pages.new def.now count owners forests) }
     ensures space { OnOk result ((owners : List Kind) (forests : TableForests) → StandsTable P.Pages shape pages.old def.now owners forests
-        → TakesNoSpace shape (pages_of P.Pages pages.old) (pages_of P.Pages pages.new)) }
+        → GivesBackSpace shape (pages_of P.Pages pages.old) (pages_of P.Pages pages.new)) }
     ensures sound { OnOk result ((owners : List Kind) (forests : TableForests) → StandsTable P.Pages shape pages.old def.now owners forests
         → IsSoundBetweenChanges shape def.now (pages_of P.Pages pages.old) → IsSoundBetweenChanges shape def.now (pages_of P.Pages pages.new)) }
     ensures stands_for { OnOk result ((owners : List Kind) (forests : TableForests) → StandsTable P.Pages shape pages.old def.now owners forests → IsSoundBetweenChanges shape def.now (pages_of P.Pages pages.old)
@@ -78,7 +78,7 @@ fn reclaim_listed<P: Pages>(
     ensures reclaims { OnOk result ((owners : List Kind) (forests : TableForests) → StandsTable P.Pages shape pages.old def.now owners forests → Contains (free_blocks forests.map) block
         → ReclaimsBlock P.Pages shape notes.old notes.new pages.old pages.new def.now block owners forests) }
     ensures space { OnOk result ((owners : List Kind) (forests : TableForests) → StandsTable P.Pages shape pages.old def.now owners forests → Contains (free_blocks forests.map) block
-        → TakesNoSpace shape (pages_of P.Pages pages.old) (pages_of P.Pages pages.new)) }
+        → GivesBackSpace shape (pages_of P.Pages pages.old) (pages_of P.Pages pages.new)) }
     ensures count { length (P.state pages.new).work ≡ length (P.state pages.old).work }
     ensures runs { RunsOverPages P.Pages (IsTreeOrMapPageOfTable P.Pages shape pages.old def.now) (IsTreeOrMapPageOfTable P.Pages shape pages.old def.now)
         (BreaksExpected P.Pages shape pages.old def.now (HasFreeBlock block)) pages.old pages.new (fault_of result) }
@@ -90,7 +90,7 @@ fn reclaim_listed<P: Pages>(
 }
 
 /// The fault of a block map that lists an extent that there isn't.
-fn no_extent(def: &TableDef) -> StoreFault
+pub(crate) fn no_extent(def: &TableDef) -> StoreFault
     ensures { result ≡ StoreFault.Damaged (record { page = def.now.roots.map; rule = 6 }) }
 {
     StoreFault::Damaged(Damage {

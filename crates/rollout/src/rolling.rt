@@ -1,8 +1,9 @@
 // Blocks that are rolled out.
-ghost use Rattle.std.specs.Prelude.{◌≡◌, ◌<◌, ◌+◌, List, None, false, true, length, IfOk, IfSome, IsTrue, OnOk};
+ghost use Rattle.std.specs.Prelude.{◌≡◌, ◌<◌, ◌≤◌, ◌+◌, All, List, [], false, true, length, IfOk, IsTrue, OnOk};
 ghost use Rattle.mdc_ast.specs.Database.{Database, changed_at};
 ghost use Rattle.mdc_ast.specs.declared.row.Row.{Row};
 ghost use Rattle.store_api.specs.Causes.{fault_of};
+ghost use Rattle.store_api.specs.Extents.{first_page_of};
 ghost use Rattle.store_api.specs.RunsOverPages.{RunsOverPages};
 ghost use Rattle.extent_map.specs.declared.kind.Kind.{Kind};
 ghost use Rattle.mdc_ast.specs.TableLimits.{IsTableDef};
@@ -10,29 +11,29 @@ ghost use Rattle.block_index.specs.Cells.{FitsCell};
 ghost use Rattle.block_rows.specs.HeldRows.{HasReadValues};
 ghost use Rattle.free_space.specs.RoomNotes.{room_of};
 ghost use Rattle.row_filter.specs.Filtering.{may_filter};
-ghost use Rattle.table_trees.specs.RowCells.{cell_places};
 ghost use Rattle.mdc_sound.specs.SoundDatabase.{IsSoundBetweenChanges, with_table_page};
 ghost use Rattle.mdc_sound.specs.StandsForDatabase.{PagesStandFor};
-ghost use Rattle.mdc_sound.specs.StandingTable.{BreaksExpected, IsPageOfBlock, KeepsBlocksBut, StandsTable, TableForests, pages_of};
+ghost use Rattle.mdc_sound.specs.StandingTable.{BreaksExpected, KeepsBlocksBut, StandsTable, TableForests, pages_of};
 ghost use Rattle.row_entries.specs.RowEntries.{IsTreeOrMapPageOfTable};
 ghost use Rattle.cell_change.specs.ExpectedTables.{HasSoundIndexes};
 ghost use Rattle.rollout.specs.Applying.{applies_to};
-ghost use Rattle.rollout.specs.LeavingRows.{IsLeavingPage};
-ghost use Rattle.rollout.specs.RolledBlocks.{IsBlockOfCell, RollsBlock, RollsOutRows, TakesNoSpace, without_chosen};
-ghost use Rattle.rollout.specs.RolledPages.{AnyPage, BringsRowsOnce, IsCellPage, IsRolloutPage};
-ghost use Rattle.rollout.specs.RollingCells.{ExpectsRolling, RollsCell};
+ghost use Rattle.rollout.specs.GoingCells.{ListsCells, going_numbers};
+ghost use Rattle.rollout.specs.RolledBlocks.{GivesBackSpace, IsBlockOfCell, RollsBlock, RollsOutRows, without_chosen};
+ghost use Rattle.rollout.specs.RolledPages.{AnyPage, BringsRowsOnce, IsPageWhereListed, IsRolloutPage};
+ghost use Rattle.rollout.specs.RolledSome.{RollsSome};
+ghost use Rattle.rollout.specs.RolledSpace.{RollsInSpace};
 
-use crate::cells::{cell_places, qualifies, row_of_cell};
-use crate::leaving::leave_rows_of_block;
+use crate::choosing::{going_blocks, going_cells};
+use crate::leaving::leave_entries;
+use crate::reclaiming::no_extent;
 use block_index::{CellBlock, cells};
 use block_map::{BlockRow, BlockState};
 use extent_map::SpaceNotes;
 use mdc_ast::{Pred, TableDef};
 use mdc_table::{Rooms, rows_of_line};
 use std::alloc::Global;
-use store_api::rules::BLOCK_INDEXES_RULE;
-use store_api::{Damage, Pages, Shape, StoreFault};
-use table_blocks::release_block;
+use store_api::{Pages, Shape, StoreFault};
+use table_blocks::{miscounted, release_block};
 
 /// How many rows a rollout took out, and of how many blocks.
 #[derive(Clone, Copy, Debug, PartialEq, Eq)]
@@ -42,8 +43,9 @@ pub struct RolledOut {
 }
 
 /// Takes all rows out that qualify, where the predicate names dimension columns alone: each Used block in whose cell it is true becomes
-/// Free, and the entries of its rows leave all record indexes. It claims no page, and no row page changes. Row pages come to hand only
-/// where the table has a record index, and of those blocks alone, each once. The notes of rooms are forgotten. After a fault `undo` goes back to a
+/// Free, and the entries of its rows leave all record indexes, each of which is swept once where a large part of the rows goes. It claims
+/// no page, and no row page changes; where no row qualifies nothing is changed. Row pages come to hand only where the table has a record
+/// index and fewer rows go, and of those blocks alone, each once. The notes of rooms are forgotten. After a fault `undo` goes back to a
 /// mark, and the notes of free space are to be forgotten too.
 pub fn roll_out<P: Pages>(
     alloc: Global,
@@ -61,7 +63,8 @@ pub fn roll_out<P: Pages>(
     ensures rolls { IfOk result (λ rolled. (owners : List Kind) (forests : TableForests) → StandsTable P.Pages shape pages.old def.now owners forests
         → RollsOutRows P.Pages shape notes.old notes.new (room_of rooms.new) pages.old pages.new def.now pred.now rolled owners forests) }
     ensures space { OnOk result ((owners : List Kind) (forests : TableForests) → StandsTable P.Pages shape pages.old def.now owners forests
-        → TakesNoSpace shape (pages_of P.Pages pages.old) (pages_of P.Pages pages.new)) }
+        → RollsInSpace shape def.now (pages_of P.Pages pages.old) (pages_of P.Pages pages.new)) }
+    ensures idle { IfOk result (λ rolled. rolled.rows ≡ 0 → (P.state pages.new).work ≡ (P.state pages.old).work) }
     ensures sound { OnOk result ((owners : List Kind) (forests : TableForests) → StandsTable P.Pages shape pages.old def.now owners forests
         → IsSoundBetweenChanges shape def.now (pages_of P.Pages pages.old) → IsSoundBetweenChanges shape def.now (pages_of P.Pages pages.new)) }
     ensures stands_for { OnOk result ((owners : List Kind) (forests : TableForests) → StandsTable P.Pages shape pages.old def.now owners forests → IsSoundBetweenChanges shape def.now (pages_of P.Pages pages.old)
@@ -75,78 +78,72 @@ pub fn roll_out<P: Pages>(
         (BreaksExpected P.Pages shape pages.old def.now (HasSoundIndexes P.Pages shape pages.old def.now)) pages.old pages.new (fault_of result) }
 {
     rooms.forget();
-    let places = cell_places(alloc, def)?;
     let found = cells(alloc, def, pages)?;
+    let going = going_cells(alloc, def, pred, found.as_slice())?;
+    let blocks = going_blocks(alloc, found.as_slice(), going.as_slice())?;
+    if blocks.as_slice().len() == 0 {
+        return Ok(RolledOut { rows: 0, blocks: 0 });
+    }
+    leave_entries(alloc, def, shape, notes, pages, &blocks)?;
+    roll_cells(
+        alloc,
+        def,
+        shape,
+        notes,
+        pages,
+        found.as_slice(),
+        going.as_slice(),
+    )
+}
+
+/// Makes the blocks of those cells Free that go, and counts these blocks and their rows. The record indexes stay as they are, and no row
+/// page comes to hand.
+fn roll_cells<P: Pages>(
+    alloc: Global,
+    def: &TableDef,
+    shape: Shape,
+    notes: &mut SpaceNotes,
+    pages: &mut P,
+    found: &[CellBlock],
+    going: &[bool],
+) -> Result<RolledOut, StoreFault>
+    requires defined { IsTableDef def.now.number def.now }
+    requires one_each { length going.now ≡ length found.now }
+    requires fit { All (λ one. FitsCell def.now one.cell.values) found.now }
+    requires going { (P.state pages.old).ended ≡ false }
+    ensures rolls { IfOk result (λ rolled. (owners : List Kind) (forests : TableForests) → StandsTable P.Pages shape pages.old def.now owners forests → ListsCells def.now found.now owners forests
+        → RollsSome P.Pages shape notes.old notes.new pages.old pages.new def.now (going_numbers found.now going.now) rolled owners forests) }
+    ensures some { IfOk result (λ rolled. rolled.rows ≡ 0 → going_numbers found.now going.now ≡ []) }
+    ensures space { OnOk result ((owners : List Kind) (forests : TableForests) → StandsTable P.Pages shape pages.old def.now owners forests → ListsCells def.now found.now owners forests
+        → GivesBackSpace shape (pages_of P.Pages pages.old) (pages_of P.Pages pages.new)) }
+    ensures count { length (P.state pages.new).work ≡ length (P.state pages.old).work }
+    ensures runs { RunsOverPages P.Pages (IsPageWhereListed P.Pages shape pages.old def.now found.now) (IsPageWhereListed P.Pages shape pages.old def.now found.now)
+        (BreaksExpected P.Pages shape pages.old def.now (ListsCells def.now found.now)) pages.old pages.new (fault_of result) }
+{
     let mut rolled = RolledOut { rows: 0, blocks: 0 };
-    for one in found.as_slice() {
-        let gone = roll_cell(
-            alloc,
-            def,
-            places.as_slice(),
-            shape,
-            notes,
-            pages,
-            pred,
-            one,
-        )?;
-        rolled = counted(rolled, gone);
+    for at in 0..found.len() {
+        if !going[at] {
+            continue;
+        }
+        let rows = roll_block(alloc, def, shape, notes, pages, &found[at])?;
+        rolled = counted(rolled, rows);
     }
     Ok(rolled)
 }
 
-/// The counts with those of a block that went, if one did. They stand still at their last number, which no table reaches.
-fn counted(rolled: RolledOut, gone: Option<u16>) -> RolledOut
-    ensures none { gone ≡ None → result ≡ rolled }
-    ensures some { IfSome gone (λ rows. rolled.rows + rows < 18446744073709551616 → rolled.blocks + 1 < 4294967296 → result ≡ record { rows = rolled.rows + rows; blocks = rolled.blocks + 1 }) }
+/// The counts with those of a block that went. They stand still at their last number, which no table reaches.
+fn counted(rolled: RolledOut, rows: u16) -> RolledOut
+    ensures sum { rolled.rows + rows < 18446744073709551616 → rolled.blocks + 1 < 4294967296 → result ≡ record { rows = rolled.rows + rows; blocks = rolled.blocks + 1 } }
+    ensures some { 0 < rows → 0 < result.rows }
 {
-    let Some(rows) = gone else {
-        return rolled;
-    };
     RolledOut {
         rows: rolled.rows.saturating_add(u64::from(rows)),
         blocks: rolled.blocks.saturating_add(1),
     }
 }
 
-/// Rolls the block out that the composite index lists under a cell, where the rows of the cell qualify, and answers how many rows it
-/// had. Nothing is answered, and nothing done, where they don't.
-fn roll_cell<P: Pages>(
-    alloc: Global,
-    def: &TableDef,
-    places: &[u8],
-    shape: Shape,
-    notes: &mut SpaceNotes,
-    pages: &mut P,
-    pred: &Option<Pred>,
-    one: &CellBlock,
-) -> Result<Option<u16>, StoreFault>
-    requires defined { IsTableDef def.now.number def.now }
-    requires places { places.now ≡ cell_places def.now }
-    requires judged { (row : Row) → HasReadValues def.now.columns row → IsTrue (may_filter pred.now row.values) }
-    requires applies { applies_to pred.now def.now ≡ true }
-    requires going { (P.state pages.old).ended ≡ false }
-    ensures rolls { IfOk result (λ gone. (owners : List Kind) (forests : TableForests) → StandsTable P.Pages shape pages.old def.now owners forests → IsBlockOfCell P.Pages shape pages.old def.now one.now owners forests
-        → RollsCell P.Pages shape notes.old notes.new pages.old pages.new def.now pred.now one.now.block gone owners forests) }
-    ensures few { IfOk result (λ gone. IfSome gone (λ rows. rows < 65536)) }
-    ensures space { OnOk result ((owners : List Kind) (forests : TableForests) → StandsTable P.Pages shape pages.old def.now owners forests → IsBlockOfCell P.Pages shape pages.old def.now one.now owners forests
-        → TakesNoSpace shape (pages_of P.Pages pages.old) (pages_of P.Pages pages.new)) }
-    ensures count { length (P.state pages.new).work ≡ length (P.state pages.old).work }
-    ensures once { OnOk result ((owners : List Kind) (forests : TableForests) → StandsTable P.Pages shape pages.old def.now owners forests → IsBlockOfCell P.Pages shape pages.old def.now one.now owners forests
-        → BringsRowsOnce P.Pages shape pages.old pages.new def.now owners (IsPageOfBlock shape one.now.block)) }
-    ensures runs { RunsOverPages P.Pages (IsTreeOrMapPageOfTable P.Pages shape pages.old def.now) (IsCellPage P.Pages shape pages.old def.now pred.now one.now)
-        (BreaksExpected P.Pages shape pages.old def.now (ExpectsRolling P.Pages shape pages.old def.now one.now)) pages.old pages.new (fault_of result) }
-{
-    let Some(row) = row_of_cell(alloc, def, places, &one.cell)? else {
-        return Err(no_cell(def));
-    };
-    if !qualifies(pred, &row) {
-        return Ok(None);
-    }
-    let rows = roll_block(alloc, def, shape, notes, pages, one)?;
-    Ok(Some(rows))
-}
-
-/// Rolls a Used block out, which is listed under a cell, and answers how many rows it had.
+/// Makes a Used block Free, which is listed under a cell, and answers how many rows it had, as its line counts them. Damaged where it
+/// counts none.
 fn roll_block<P: Pages>(
     alloc: Global,
     def: &TableDef,
@@ -160,22 +157,23 @@ fn roll_block<P: Pages>(
     requires going { (P.state pages.old).ended ≡ false }
     ensures rolls { IfOk result (λ rows. (owners : List Kind) (forests : TableForests) → StandsTable P.Pages shape pages.old def.now owners forests → IsBlockOfCell P.Pages shape pages.old def.now one.now owners forests
         → RollsBlock P.Pages shape notes.old notes.new pages.old pages.new def.now one.now.block rows owners forests) }
+    ensures some { IfOk result (λ rows. 0 < rows) }
     ensures few { IfOk result (λ rows. rows < 65536) }
     ensures space { OnOk result ((owners : List Kind) (forests : TableForests) → StandsTable P.Pages shape pages.old def.now owners forests → IsBlockOfCell P.Pages shape pages.old def.now one.now owners forests
-        → TakesNoSpace shape (pages_of P.Pages pages.old) (pages_of P.Pages pages.new)) }
+        → GivesBackSpace shape (pages_of P.Pages pages.old) (pages_of P.Pages pages.new)) }
     ensures count { length (P.state pages.new).work ≡ length (P.state pages.old).work }
-    ensures once { OnOk result ((owners : List Kind) (forests : TableForests) → StandsTable P.Pages shape pages.old def.now owners forests → IsBlockOfCell P.Pages shape pages.old def.now one.now owners forests
-        → BringsRowsOnce P.Pages shape pages.old pages.new def.now owners (IsPageOfBlock shape one.now.block)) }
-    ensures runs { RunsOverPages P.Pages (IsTreeOrMapPageOfTable P.Pages shape pages.old def.now) (IsLeavingPage P.Pages shape pages.old def.now one.now.block)
-        (BreaksExpected P.Pages shape pages.old def.now (ExpectsRolling P.Pages shape pages.old def.now one.now)) pages.old pages.new (fault_of result) }
+    ensures runs { RunsOverPages P.Pages (IsTreeOrMapPageOfTable P.Pages shape pages.old def.now) (IsTreeOrMapPageOfTable P.Pages shape pages.old def.now)
+        (BreaksExpected P.Pages shape pages.old def.now (IsBlockOfCell P.Pages shape pages.old def.now one.now)) pages.old pages.new (fault_of result) }
 {
     let rows = rows_of_line(alloc, def, shape, pages, one.block)?;
+    if rows == 0 {
+        return Err(no_row(def, shape, one.block));
+    }
     let line = BlockRow {
         block: one.block,
         state: BlockState::Used,
         rows,
     };
-    leave_rows_of_block(alloc, def, shape, notes, pages, one.block)?;
     release_block(
         alloc,
         def,
@@ -189,12 +187,13 @@ fn roll_block<P: Pages>(
     Ok(rows)
 }
 
-/// The fault of a composite index that lists a block under no cell of the table.
-fn no_cell(def: &TableDef) -> StoreFault
-    ensures { result ≡ StoreFault.Damaged (record { page = def.now.roots.composite; rule = 10 }) }
+/// The fault of a block map that counts no row in a Used block, or names one that there isn't.
+fn no_row(def: &TableDef, shape: Shape, block: u32) -> StoreFault
+    ensures there { block < shape.extents → result ≡ StoreFault.Damaged (record { page = first_page_of shape.extents shape.extent_pages block; rule = 8 }) }
+    ensures not { shape.extents ≤ block → result ≡ StoreFault.Damaged (record { page = def.now.roots.map; rule = 6 }) }
 {
-    StoreFault::Damaged(Damage {
-        page: def.roots.composite,
-        rule: BLOCK_INDEXES_RULE,
-    })
+    if block >= shape.extents {
+        return no_extent(def);
+    }
+    miscounted(shape, block)
 }

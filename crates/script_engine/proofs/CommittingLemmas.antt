@@ -17,7 +17,7 @@ use Rattle.store_api.specs.declared.fault.StoreFault.{StoreFault}
 use Rattle.store_api.specs.declared.fault.StoreFault.TheVariants.{Damaged, Device}
 use Rattle.store_api.specs.declared.pages.Pages.{Ghosts}
 use Rattle.store_api.specs.declared.shape.Shape.{Shape}
-use Rattle.store_api.proofs.FetchingLemmas.{once_fetch, only_none, only_once, only_then}
+use Rattle.store_api.proofs.FetchingLemmas.{once_fetch, only_none, only_once, only_same, only_then, only_wider}
 use Rattle.store_api.proofs.MomentsLemmas.{base_or_now-steady}
 use Rattle.store_api.proofs.WorksLemmas.{steady_none, works_fetch}
 use Rattle.table_trees.specs.ToldPages.{PageList}
@@ -29,6 +29,10 @@ use Rattle.script_engine.proofs.RootLemmas.{some_page, states_count}
 
 -- ---- page 0
 
+-- what leaves the log brings no page
+pub brings_same : {S : Type 0} (g : Ghosts S) (Kind : ℕ → Type 0) (old new : S) → (g.state new).fetched ≡ (g.state old).fetched → BringsOnly g Kind old new
+brings_same g Kind old new same = only_same same
+
 -- looking at page 0 brings it alone
 pub brings_root : {S : Type 0} {g : Ghosts S} {old new : S} → Fetches 0 (g.state old) (g.state new) → BringsOnly g (OnlyPage 0) old new
 brings_root fetches = only_once (once_fetch (Ok tt) 0 fetches tt)
@@ -37,7 +41,7 @@ module _ {S : Type 0} (g : Ghosts S) where
   -- there is no page
   pub no_pages : (s : S) → length (g.state s).work ≡ 0 → CountsPages g (Ok false) s s
   no_pages s none = record {
-    reads = record { steady = steady_none; work = refl; marked = refl };
+    reads = record { steady = steady_none; work = refl; marked = refl; brings = only_none };
     brings = only_none;
     counted = λ is. absurd (cc);
     miscounted = λ is root. some_page root.shape (g.state s).work root.sound none;
@@ -50,7 +54,7 @@ module _ {S : Type 0} (g : Ghosts S) where
       (disk : CountsFault (IsErrOf {T = Unit {0}} (Ok tt) page.Device) (g.disk_faults old) (g.disk_faults new)) (say : g.say_faults new ≡ g.say_faults old)
       (time : OverTime g.clock g.left (OnlyBase (g.state old)) old new) (is_count : count ≡ length (g.state old).work) (hand : (g.state new).hand ≡ Some bytes) (is_stated : stated ≡ stated_in bytes) where
     reads_root : OnlyReads g old new
-    reads_root = record { steady = (works_fetch (Ok tt) 0 fetches tt disk.later say time).steady; work = ap (λ s. s.work) fetches.2; marked = ap (λ s. s.marked) fetches.2 }
+    reads_root = record { steady = (works_fetch (Ok tt) 0 fetches tt disk.later say time).steady; work = ap (λ s. s.work) fetches.2; marked = ap (λ s. s.marked) fetches.2; brings = only_wider (brings_root fetches) (λ p zero. tt) }
 
     -- its bytes are those of the page at hand
     is_read : IsTrue (g.state old).is_told → bytes ≡ page_at (g.state old).work 0
@@ -96,10 +100,13 @@ module _ {S : Type 0} (g : Ghosts S) where
 
   -- pages were read alone, and a stop came
   commits_none : (stop : StoreFault) (old new : S) → OnlyReads g old new → CountsFault (IsErrOf {T = Unit {0}} (Err stop) Device) (g.disk_faults old) (g.disk_faults new)
-      → ((damage : Damage) → stop ≡ Damaged damage → HasSoundRoot g old → ⊥) → CommitsWork {X = Unit {0}} g (Err stop) old new
-  commits_none stop old new reads device damaged = record {
+      → ((damage : Damage) → stop ≡ Damaged damage → HasSoundRoot g old → ⊥) → (HasSoundRoot g old → BringsOnly g (OnlyPage 0) old new)
+      → CommitsWork {X = Unit {0}} g (Err stop) old new
+  commits_none stop old new reads device damaged sound = record {
     work = reads.work;
     brings = tt;
+    sound = sound;
+    log = reads.brings;
     base = tt;
     either = inl reads.steady.base;
     kept = λ other. reads.steady.base;
@@ -119,13 +126,13 @@ module _ {S : Type 0} (g : Ghosts S) where
   pub commits_unread : (result : Result (Unit {0}) StoreFault) (stop : StoreFault) (old new : S) → IsErrAnd result (λ e. e ≡ stop) → CountsPages g (Err stop) old new → CommitsWork g result old new
   commits_unread (Ok x) stop old new is counts = absurd is
   commits_unread (Err e) stop old new is counts = subst (λ (x : StoreFault). CommitsWork {X = Unit {0}} g (Err x) old new) (sym is)
-      (commits_none stop old new counts.reads (counts_fault_as (λ r. cc) (λ r. cc) counts.device) (λ damage r. absurd (counts.whole damage (cc))))
+      (commits_none stop old new counts.reads (counts_fault_as (λ r. cc) (λ r. cc) counts.device) (λ damage r. absurd (counts.whole damage (cc))) (λ root. counts.brings))
 
   -- it wasn't that of the pages, and they were judged then
   module _ (shape : Shape) (stop : StoreFault) (old mid new : S) (counts : CountsPages g (Ok false) old mid) (judges : JudgesDamage g shape stop mid new) where
     pub commits_judged : CommitsWork {X = Unit {0}} g (Err stop) old new
     commits_judged = commits_none stop old new (reads_then g counts.reads judges.reads)
-        (counts_fault_as (λ is. cc) (λ is. cc) (counts_fault_then (counts.device.still (λ is. absurd (cc))) judges.device)) (λ damage is. counts.miscounted refl)
+        (counts_fault_as (λ is. cc) (λ is. cc) (counts_fault_then (counts.device.still (λ is. absurd (cc))) judges.device)) (λ damage is. counts.miscounted refl) (λ root. absurd (counts.miscounted refl root))
 
     pub exact_judged : NamesExactly {X = Unit {0}} g shape (Err stop) new
     exact_judged damage is = judges.exact damage (cc) (λ told sound. counts.miscounted refl (record {
@@ -141,7 +148,9 @@ module _ {S : Type 0} (g : Ghosts S) where
       let steady = reads.steady in
       record {
         work = commits.work ∙ reads.work;
-        brings = brings_both result counts.brings commits.brings;
+        brings = brings_both result commits.brings;
+        sound = λ root. only_then counts.brings (commits.sound (root_along old mid reads root));
+        log = only_then reads.brings commits.log;
         base = base_both result commits.base;
         either = elim commits.either [ inl same ↦ inl (same ∙ steady.base) | inr work ↦ inr (work ∙ reads.work) ];
         kept = kept_both result commits.kept;
@@ -161,9 +170,9 @@ module _ {S : Type 0} (g : Ghosts S) where
             )));
       }
     where
-      brings_both : (result : Result (Unit {0}) StoreFault) → BringsOnly g (OnlyPage 0) old mid → OnOk result (BringsOnly g (OnlyPage 0) mid new) → OnOk result (BringsOnly g (OnlyPage 0) old new)
-      brings_both (Ok x) first second = only_then first second
-      brings_both (Err e) first second = tt
+      brings_both : (result : Result (Unit {0}) StoreFault) → OnOk result (BringsOnly g (OnlyPage 0) mid new) → OnOk result (BringsOnly g (OnlyPage 0) old new)
+      brings_both (Ok x) then = only_then counts.brings then
+      brings_both (Err e) then = tt
 
       base_both : (result : Result (Unit {0}) StoreFault) → OnOk result ((g.state new).base ≡ (g.state mid).work) → OnOk result ((g.state new).base ≡ (g.state old).work)
       base_both (Ok x) is = is ∙ counts.reads.work

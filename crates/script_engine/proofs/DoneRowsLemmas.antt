@@ -1,5 +1,5 @@
 -- What queries and DELETEs do to ready pages, and what any change of rows does.
-use Rattle.std.proofs.Common.{◌≡◌, ◌∙◌, ℕ, false, List, ◌∷◌, length, map, refl, sym, ap, subst, Option, Some, None}
+use Rattle.std.proofs.Common.{◌≡◌, ◌∙◌, ℕ, Bool, false, List, ◌∷◌, length, map, refl, sym, ap, subst, Option, Some, None}
 use Rattle.std.specs.Prelude.{filter, not}
 use Rattle.std.proofs.lemmas.List.{length-map}
 use Rattle.std.proofs.lemmas.Option.{same_Some}
@@ -36,9 +36,9 @@ use Rattle.extent_map.specs.declared.space_notes.SpaceNotes.{SpaceNotes}
 use Rattle.block_rows.specs.HeldRows.{placed_row}
 use Rattle.block_rows.specs.declared.hit.Hit.{Hit}
 use Rattle.table_trees.specs.SpaceChanges.{SpaceChange}
-use Rattle.mdc_sound.specs.Placing.{Spot, block_slot_count}
+use Rattle.mdc_sound.specs.Placing.{block_slot_count}
 use Rattle.mdc_sound.specs.BlockRules.{AreTableIndexesSound}
-use Rattle.mdc_sound.specs.StandingTable.{RoomNote, StandsTable, TableForests, pages_of, view_of}
+use Rattle.mdc_sound.specs.StandingTable.{RoomNote, StandsTable, TableForests, pages_of, spots_of, view_of}
 use Rattle.mdc_sound.specs.StandsForDatabase.{PagesStandFor, rootless}
 use Rattle.mdc_sound.specs.TableRows.{PlacedRow}
 use Rattle.cell_change.proofs.RowChangesLemmas.{indexes_here}
@@ -49,7 +49,7 @@ use Rattle.row_checks.proofs.QueryLemmas.{query_refused, query_replies}
 use Rattle.statement_rows.specs.RowsAndSpace.{TakesRowsBy}
 use Rattle.statement_rows.specs.RowsOfStatement.{AnyPage, BreaksReady, ChangesRowsOf, HasTheseRows, IsReadyBetween, without_rows}
 use Rattle.table_query.specs.QueryAnswers.{AreQueryRows}
-use Rattle.script_engine.specs.Doing.{DoesStatement, PlacesOnPages, PlacesRows, changed_place, goes_by_blocks}
+use Rattle.script_engine.specs.Doing.{DoesStatement, MakesAsked, MakesSpace, PlacesOnPages, PlacesRows, changed_place, goes_by_blocks}
 use Rattle.script_engine.specs.NotedRooms.{KeepsOtherRooms, rooms_at}
 use Rattle.script_engine.specs.Others.{KeepsOthers}
 use Rattle.script_engine.specs.Ready.{AreServed, BreaksDatabase, IsReady}
@@ -57,7 +57,7 @@ use Rattle.script_engine.specs.declared.tables.Tables.{Tables}
 use Rattle.script_engine.proofs.KeptKeysLemmas.{KeepsKeys, keeps_fewer}
 use Rattle.script_engine.proofs.OthersLemmas.{keeps_others_itself, others_changed, touched_is}
 use Rattle.script_engine.proofs.PlainChangesLemmas.{qualifying_taken}
-use Rattle.script_engine.proofs.ReadyTablesLemmas.{change_ends_unwritten, page_is_written, places_shown, ready_between, served_def}
+use Rattle.script_engine.proofs.ReadyTablesLemmas.{ChangesOneTable, change_ends_unwritten, one_table, page_is_written, places_shown, ready_between, served_def}
 use Rattle.script_engine.proofs.ScannedTablesLemmas.{FindsIfSound, HasHits, HasQueryRows, found_if_sound, hits_of, qualifying, query_rows_of, ready_still, stands_ready, these_rows}
 use Rattle.script_engine.proofs.StoredDefsLemmas.{stored_defs, stored_table}
 
@@ -148,20 +148,21 @@ module _ {S : Type 0} (g : Ghosts S) (old mid new : S) (before now : Tables) (pl
 
   module _ (ready : IsReady g old before) (owners : List Kind) (forests : TableForests) (mid_ready : IsReadyBetween g before.shape before.notes room mid def owners forests)
       (statement : Bound) (change : PlainTable → PlainTable) {room_now : Entry → RoomNote} (left : rooms_at now.rooms place ≡ room_now)
-      (changed : ChangesRowsOf g before.shape before.notes now.notes room_now mid new def def owners forests (λ was space is. PlacesRows before.settings.rollout def (block_slot_count before.shape def) was space is statement) change)
+      (changed : ChangesOneTable g before.shape before.notes now.notes room_now mid new def def owners forests change) (space : List SpaceChange)
+      (rows : PlacesRows before.settings.rollout def (block_slot_count before.shape def) (spots_of g before.shape mid def owners forests) space (spots_of g before.shape new def changed.owners_now changed.forests_now) statement)
+      (makes : MakesAsked before.shape before.settings.rollout def statement (pages_of g mid) space (pages_of g new))
       (catalog : now.catalog ≡ before.catalog) (shape : now.shape ≡ before.shape) (rooms : KeepsOtherRooms before.rooms now.rooms place) (keys : KeepsKeys before.shape (pages_of g mid) place change) where
     pub rows_done : (outcome : Outcome) → changed_place statement ≡ Some place
         → ((db : Database) → PagesStandFor before.shape (pages_of g mid) db → (changed_at db place change ≡ (done db statement).0) × ((done db statement).1 ≡ answer_of outcome))
         → DoesStatement g old new before now statement outcome
     rows_done outcome is_changed means =
-        let Places : List Spot → List SpaceChange → List Spot → Type 0 = λ was space is. PlacesRows before.settings.rollout def (block_slot_count before.shape def) was space is statement in
         let still = ready_still g old mid told same before ready in
-        let ends = change_ends_unwritten g mid new before now place def owners forests Places change served shape still at
-        (subst (λ (r : Entry → RoomNote). ChangesRowsOf g before.shape before.notes now.notes r mid new def def owners forests Places change) (sym left) changed) catalog rooms keys in
+        let ends = change_ends_unwritten g mid new before now place def owners forests change served shape still at
+        (subst (λ (r : Entry → RoomNote). ChangesOneTable g before.shape before.notes now.notes r mid new def def owners forests change) (sym left) changed) catalog rooms keys in
         let at_now : def_at now.catalog place ≡ Some def = ap (λ defs. def_at defs place) catalog ∙ at in
         let served_now : AreServed now.catalog = subst AreServed (sym catalog) served in
         let written = sym (page_is_written g new now place def served_now ends.ready at_now) in
-        let shown = places_shown g mid new new before now def def owners forests Places change statement still refl mid_ready changed written (λ was space is puts. puts) in record {
+        let shown = places_shown g mid new new before now def def owners forests change statement refl mid_ready changed written space rows makes in record {
           ready = ends.ready;
           stands = λ db stands.
               let midway : PagesStandFor before.shape (pages_of g mid) db = subst (λ pages. PagesStandFor before.shape pages db) (sym same) stands in
@@ -222,18 +223,8 @@ delete_does {room_now = room_now} g old mid new before now place def pred found 
     let here = stored_table db before.catalog place def (stored_defs before.shape (pages_of g mid) before.catalog db still.stored stands) at in
     hits_of g before.shape mid def owners forests st pred found hits_here mid_ready.between.sound before.catalog place db here.0 still.stored at stands here.1) in
     rows_done g old mid new before now place def served at lent told same ready owners forests mid_ready.between (bound.Delete place pred) (without_rows (map (λ (hit : Hit). hit.row) found)) left
-    (record {
-      owners_now = changed.owners_now;
-      forests_now = changed.forests_now;
-      changes = changed.changes;
-      now = changed.now;
-      space = changed.space;
-      makes = changed.makes;
-      places = PlacesRows.delete (map placed_row found) by_rows (qualifying g before.shape mid def owners forests st pred found hits_here mid_ready.between.sound) changed.places;
-      stands_for = changed.stands_for;
-      table_pages = changed.table_pages;
-      others = changed.others;
-    }) catalog shape rooms
+    (one_table changed) changed.space (PlacesRows.delete (map placed_row found) by_rows (qualifying g before.shape mid def owners forests st pred found hits_here mid_ready.between.sound) changed.places)
+    (subst (λ (goes : Bool). MakesSpace goes before.shape def (pages_of g mid) changed.space (pages_of g new)) (sym by_rows) changed.makes) catalog shape rooms
     (keeps_fewer before.shape (pages_of g mid) still.view place (without_rows (map (λ (hit : Hit). hit.row) found)) (λ row. not (qualifies pred row.values)) still.sound
     (λ db stands table is. hits_taken db place def pred found (has db stands) table is)) (said.Done (reply.Deleted count)) refl
     (λ db stands.

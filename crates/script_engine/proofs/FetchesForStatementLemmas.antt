@@ -1,6 +1,6 @@
 -- Which pages a statement brings to hand: by no call, by finding rows, by rolling them out, between a mark and its end, and with a commit.
 use Rattle.std.proofs.Common.{◌≡◌, ◌∙◌, ℕ, List, Option, Some, false, true, inl, inr, subst, sym}
-use Rattle.std.specs.Prelude.{IsTrue, slice_index_or}
+use Rattle.std.specs.Prelude.{IsTrue}
 use Rattle.std.proofs.lemmas.Bool.{false≢true}
 use Rattle.mdc_ast.specs.declared.bound.Bound.{Bound}
 use Rattle.mdc_ast.specs.declared.bound.Bound.TheVariants as bound
@@ -18,8 +18,8 @@ use Rattle.store_api.specs.declared.shape.Shape.{Shape}
 use Rattle.store_api.proofs.FetchingLemmas.{only_none, only_same, only_then, only_wider}
 use Rattle.block_rows.specs.HeldRows.{HasReadValues}
 use Rattle.row_filter.specs.Filtering.{may_filter}
-use Rattle.mdc_sound.specs.Placing.{HasChosenRow, table_spots}
-use Rattle.mdc_sound.specs.Placing.Spot.{OtherBlock}
+use Rattle.block_map.specs.MapLines.{lines_of_state}
+use Rattle.mdc_sound.specs.Placing.{table_spots}
 use Rattle.mdc_sound.specs.StandingTable.{pages_of}
 use Rattle.mdc_sound.proofs.StandingTableLemmas.{stands_same}
 use Rattle.plan_chooser.specs.Rule.{plan_of}
@@ -28,7 +28,8 @@ use Rattle.executor.proofs.ChosenPlansLemmas.{few_pages}
 use Rattle.executor.proofs.PlanPagesLemmas.{chosen_page_before, list_page_before, plan_page_before}
 use Rattle.row_checks.specs.Served.{IsDefined, MayJudge, MayShowRows}
 use Rattle.rollout.specs.RolledBlocks.{is_chosen}
-use Rattle.rollout.specs.RolledPages.{IsRolloutPage}
+use Rattle.rollout.specs.RolledPages.{IsPageOfFew, IsRolloutPage}
+use Rattle.statement_rows.specs.RowsOfStatement.{AnyPage}
 use Rattle.table_query.specs.QueryPages.{IsQueryPage}
 use Rattle.script_engine.specs.Doing.{goes_by_blocks}
 use Rattle.script_engine.specs.Fetching.{FetchesForStatement, IsOfFewBlocksByMode, IsPageForExplain, IsPageForQuery, IsPageForRollout, IsPageOfFewBlocks}
@@ -58,6 +59,10 @@ module _ {S : Type 0} {g : Ghosts S} (shape : Shape) (s : S) (def : TableDef) (m
   query_page p page = inr (page, query_few p page)
 
 -- ---- statements
+
+-- no call brings no page
+pub brings_none : {S : Type 0} (g : Ghosts S) (s : S) → BringsOnly g AnyPage s s
+brings_none g s = only_none
 
 module _ {S : Type 0} (g : Ghosts S) (shape : Shape) (defs : Definitions) (settings : Settings) where
   -- no call
@@ -119,8 +124,8 @@ module _ {S : Type 0} (g : Ghosts S) (shape : Shape) (defs : Definitions) (setti
     rollout_page_before def pred p (inr (indexed, row)) = inr (
       indexed,
       λ owners forests st.
-          let (block, has, page) = row owners forests (stands_same shape old marked def owners forests told same st) in
-          (block, subst (λ (pages : List (List ℕ)). HasChosenRow (is_chosen pred) (slice_index_or (table_spots shape pages def owners forests.map) block OtherBlock)) same has, page),
+          subst (λ (pages : List (List ℕ)). IsPageOfFew shape (table_spots shape pages def owners forests.map) (lines_of_state 1 forests.map) (is_chosen pred) p) same
+          (row owners forests (stands_same shape old marked def owners forests told same st)),
     )
 
     query_marked : (def : TableDef) (select : BoundSelect) (p : ℕ) → IsPageForQuery g shape marked def settings.plan select p → IsPageForQuery g shape old def settings.plan select p

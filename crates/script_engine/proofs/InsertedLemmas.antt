@@ -42,7 +42,7 @@ use Rattle.script_engine.proofs.KeptKeysLemmas.{KeepsKeys, keeps_by_causes}
 use Rattle.script_engine.proofs.OthersLemmas.{others_written}
 use Rattle.script_engine.proofs.PuttingTuplesLemmas.{numbers_left, own_number, put_where_it_stands}
 use Rattle.script_engine.proofs.ReadyKeysLemmas.{nothing_of_keys}
-use Rattle.script_engine.proofs.ReadyTablesLemmas.{EndsChange, change_ends, places_shown, ready_between, served_def}
+use Rattle.script_engine.proofs.ReadyTablesLemmas.{EndsChange, change_ends, one_table, places_shown, ready_between, served_def}
 use Rattle.script_engine.proofs.ServedDefsLemmas.{def_at_set, served_below}
 
 -- its page was there before the rows were put, so it is there now
@@ -144,8 +144,8 @@ module _ {S : Type 0} (g : Ghosts S) (old mid new : S) (before now : Tables) (pl
 
     ends : EndsChange g old new before now place (appended tuples)
     ends =
-        change_ends g old mid new before now place def def_now ready.view.owners between.0 Puts (appended tuples) is.served is.shape ready is.at refl (numbers_left def tuples is.unsaid)
-        changed (subst IsTrue (sym is.told_new) mid_tells) written is.catalog is.rooms keys
+        change_ends g old mid new before now place def def_now ready.view.owners between.0 (appended tuples) is.served is.shape ready is.at refl (numbers_left def tuples is.unsaid)
+        (one_table changed) (subst IsTrue (sym is.told_new) mid_tells) written is.catalog is.rooms keys
 
     done_is : (db : Database) → PagesStandFor before.shape (pages_of g old) db
         → done db (bound.Insert place tuples) ≡ (changed_at db place (appended tuples), Replied (reply.Inserted (length tuples)))
@@ -153,8 +153,8 @@ module _ {S : Type 0} (g : Ghosts S) (old mid new : S) (before now : Tables) (pl
 
     here : PlacesOnPages before.shape (pages_of g old) (pages_of g new) before.settings.rollout def (bound.Insert place tuples)
     here =
-        places_shown g old mid new before now def def_now ready.view.owners between.0 Puts (appended tuples) (bound.Insert place tuples)
-        ready refl between.1 changed written (λ was space is puts. PlacesRows.insert puts)
+        places_shown g old mid new before now def def_now ready.view.owners between.0 (appended tuples) (bound.Insert place tuples) refl between.1 (one_table changed) written changed.space
+        (PlacesRows.insert changed.places) changed.makes
 
     -- then the INSERT is done
     pub inserted : DoesStatement g old new before now (bound.Insert place tuples) (said.Done (reply.Inserted count))

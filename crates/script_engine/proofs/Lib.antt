@@ -13,6 +13,7 @@ pub mod ExplainLemmas
 pub mod ExplainingLemmas
 pub mod FetchesForListingLemmas
 pub mod FetchesForStatementLemmas
+pub mod FetchesOnceLemmas
 pub mod FullBeyondLemmas
 pub mod FullStepsLemmas
 pub mod GivenBackLemmas
@@ -41,6 +42,7 @@ pub mod ReadyKeysLemmas
 pub mod ReadyTablesLemmas
 pub mod ReclaimedBlocksLemmas
 pub mod ReloadingLemmas
+pub mod RepliesLemmas
 pub mod RestingLemmas
 pub mod RetryingLemmas
 pub mod RolledRowsLemmas
@@ -61,6 +63,7 @@ pub mod TightCreatesLemmas
 pub mod TightIndexesLemmas
 pub mod TightInsertsLemmas
 pub mod TightStepsLemmas
+pub mod TouchesForStatementLemmas
 pub mod TryingLemmas
 pub mod TurnedKeysLemmas
 pub mod TurnedRowsLemmas

@@ -25,9 +25,11 @@ use Rattle.stored_catalog.specs.StoredDefinitions.{AreStored}
 use Rattle.script_engine.specs.Breaking.{IsExactDamage, NamesExactly}
 use Rattle.script_engine.specs.Committing.{CommitsWork}
 use Rattle.script_engine.specs.Controls.{AnswersControl, AnswersSetting}
+use Rattle.script_engine.specs.Doing.{SaysNoRow}
 use Rattle.script_engine.specs.Held.{HeldPages}
 use Rattle.script_engine.specs.OnAnyPages.{ChangesPages, DoesOnAny, ExecutesOnAny, IsGoingEngine, LeftWithinOnAny, MayBeLeftOnAny, MayCommit, StaysAsHeld, StepsOnAny, StopsAtDamage, judged_pages}
 use Rattle.script_engine.specs.Reloading.{Reloads}
+use Rattle.script_engine.specs.Replies.{IsDoneAs, IsReplyOf}
 use Rattle.script_engine.specs.Roles.{Begins, Commits, Explains, GoesBack, Lists, Queries, Role, Sets, is_built_form, is_control, is_going_back, is_tried, only_reads, role_of}
 use Rattle.script_engine.specs.Serving.{held_by}
 use Rattle.script_engine.specs.Trying.{Tries, TriesStep}
@@ -103,9 +105,9 @@ module _ {S : Type 0} (g : Ghosts S) where
     pub steps_any : (old new : Engine S) (outcome : Outcome) → Executes g stmt (Ok outcome) old new → IsGoingEngine g old
         → ((reply : Reply) → outcome ≡ said.Done reply → DoesOnAny (g.state old.store).is_told (role_of stmt) (held_by g old) (held_by g new))
         → ((refusal : Refusal) → outcome ≡ said.Refused refusal → StaysAsHeld (g.state old.store).is_told (held_by g old) (held_by g new))
-        → (is_built_form stmt ≡ false → outcome ≡ said.Refused (refusal_of NotBuilt))
+        → (is_built_form stmt ≡ false → outcome ≡ said.Refused (refusal_of NotBuilt)) → IsDoneAs (IsReplyOf stmt) outcome → (SaysNoRow outcome → StaysAsHeld (g.state old.store).is_told (held_by g old) (held_by g new))
         → StepsOnAny (g.state old.store).is_told (held_by g old) stmt outcome (held_by g new) × IsGoingEngine g new
-    steps_any old new outcome does going done refused unbuilt = (
+    steps_any old new outcome does going done refused unbuilt kind idle = (
       record {
         done = done;
         refused = refused;
@@ -113,6 +115,8 @@ module _ {S : Type 0} (g : Ghosts S) where
         settings = subst (λ (served : Bool). AnswersSetting (role_of stmt) served old.tables.settings outcome new.tables.settings) going.by_forms does.settings;
         unbuilt_form = unbuilt;
         unbuilt_tables = λ other form. does.unserved (going.by_forms ∙ form) other outcome refl;
+        kind = kind;
+        idle = idle;
       },
       record { may = does.may; by_forms = does.built going.by_forms; committed = (does.keeps going.committed).closed },
     )
@@ -221,6 +225,8 @@ module _ {S : Type 0} (g : Ghosts S) where
       settings = settings;
       unbuilt_form = form;
       unbuilt_tables = tables;
+      kind = tt;
+      idle = λ none. absurd none;
     },
     going,
   )
@@ -243,6 +249,8 @@ module _ {S : Type 0} (g : Ghosts S) where
       settings = refl;
       unbuilt_form = λ e. absurd (cc);
       unbuilt_tables = λ e. absurd (cc);
+      kind = refl;
+      idle = λ none. absurd none;
     },
     record {
       may = record { going = going.may.going; unmarked = going.may.unmarked; served = going.may.served };
@@ -258,7 +266,7 @@ module _ {S : Type 0} (g : Ghosts S) where
       let new : Engine S = record old { store = store; is_open = false } in
       any_commits statement.Commit old new old.store steady_none (said.Done reply.Done) commits (steps_any statement.Commit old new (said.Done reply.Done) does going
       (λ reply e. same_held (record (held_by g old) { open_ = false; base = (g.state old.store).work }) (held_by g new) commits.base commits.work refl refl (same_settings refl refl))
-      (λ refusal e. absurd (cc)) (λ e. absurd (cc)))
+      (λ refusal e. absurd (cc)) (λ e. absurd (cc)) refl (λ none. absurd none))
 
   pub commit_stops_any : (result : Result Outcome StoreFault) (stop : StoreFault) (old : Engine S) (store : S) → old.is_open ≡ true → IsErrAnd result (λ e. e ≡ stop)
       → CommitsWork {X = Unit {0}} g (Err stop) old.store store → NamesExactly {X = Unit {0}} g old.tables.shape (Err stop) store → IsGoingEngine g old
@@ -280,7 +288,7 @@ module _ {S : Type 0} (g : Ghosts S) where
         same = same_held (record (held_by g old) { open_ = false; work = (g.state old.store).base; defs = tables.catalog }) (held_by g new) reloads.steady.base reloads.work refl refl (same_settings reloads.settings refl);
         stored = reloads.stored;
       })
-      (λ refusal e. absurd (cc)) (λ e. absurd (cc)))
+      (λ refusal e. absurd (cc)) (λ e. absurd (cc)) refl (λ none. absurd none))
 
   pub roll_back_stops_any : (result : Result Outcome StoreFault) (stop : StoreFault) (old : Engine S) (store : S) (tables : Tables) → IsErrAnd result (λ e. e ≡ stop)
       → Reloads g (Err stop) old.store store old.tables tables → NamesExactly {X = Bool} g old.tables.shape (Err stop) store → IsGoingEngine g old
@@ -317,7 +325,10 @@ module _ {S : Type 0} (g : Ghosts S) where
           (λ reply e. does_other (g.state old.store).is_told (held_by g old) (held_by g new) (role_of stmt) other
           (λ reads. held_left g old mid tables tries.steady (tries.reads reads) tries.settings)
           (λ changing. record { is_open = refl; base = does.keeps going.committed; settings = tries.settings; pass = refl }))
-          (λ refusal e. as_it_was (g.state old.store).is_told (held_by g old) (held_by g new) (held_left g old mid tables tries.steady (tries.refused refusal (ap Ok e)) tries.settings)) tries.unbuilt)
+          (λ refusal e. as_it_was (g.state old.store).is_told (held_by g old) (held_by g new) (held_left g old mid tables tries.steady (tries.refused refusal (ap Ok e)) tries.settings)) tries.unbuilt tries.kind
+          (λ none.
+          let left = tries.idle none in
+          as_held (g.state old.store).is_told (held_by g old) (held_by g new) tries.steady.base left.pages refl (same_settings tries.settings refl) left.defs))
 
       module _ (changing : only_reads (role_of stmt) ≡ false) (shut : old.is_open ≡ false) (done : is_refusal outcome ≡ false) (store : S) where
         abbrev new : Engine S
@@ -331,7 +342,10 @@ module _ {S : Type 0} (g : Ghosts S) where
             (λ reply e. does_other (g.state old.store).is_told (held_by g old) (held_by g new) (role_of stmt) other
             (λ reads. let wrong : true ≡ false = sym reads ∙ changing in absurd (cc))
             (λ changes. record { is_open = refl; base = does.keeps going.committed; settings = tries.settings; pass = refl }))
-            (λ refusal e. absurd (not_refused outcome refusal done e)) tries.unbuilt)
+            (λ refusal e. absurd (not_refused outcome refusal done e)) tries.unbuilt tries.kind
+            (λ none.
+            let left = tries.idle none in
+            as_held (g.state old.store).is_told (held_by g old) (held_by g new) (commits.base ∙ (left.pages ∙ sym (going.committed shut))) (commits.work ∙ left.pages) refl (same_settings tries.settings refl) left.defs))
 
         -- the commit stopped, and not at damage
         pub change_stops_any : (result : Result Outcome StoreFault) (stop : StoreFault) → IsErrAnd result (λ e. e ≡ stop) → CommitsWork {X = Unit {0}} g (Err stop) mid store

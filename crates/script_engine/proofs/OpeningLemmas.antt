@@ -1,8 +1,9 @@
 -- An engine that was just opened.
-use Rattle.std.proofs.Common.{◌≡◌, true, false, List, Some, None, Result, Err, sym, ap, subst, ◌∙◌}
+use Rattle.std.proofs.Common.{◌≡◌, ℕ, true, false, List, Some, None, Result, Err, sym, ap, subst, ◌∙◌}
 use Rattle.std.specs.Prelude.{IsTrue}
 use Rattle.mdc_words.specs.Time.{ReachesBack}
 use Rattle.mdc_ast.specs.Definitions.{Definitions}
+use Rattle.store_api.specs.Fetching.{BringsOnly}
 use Rattle.store_api.specs.Frame.{NoPage}
 use Rattle.store_api.specs.RunsOverPages.{RunsOverPages}
 use Rattle.store_api.specs.Works.{Rests}
@@ -58,6 +59,9 @@ module _ {S : Type 0} (g : Ghosts S) where
 
     opened_pages : KeepsPages g old engine.store
     opened_pages = subst (λ (s : S). KeepsPages g old s) (sym store_is) (keeps_read old read reads)
+
+    pub opened_brings : {Kind : ℕ → Type 0} → BringsOnly g Kind old read → BringsOnly g Kind old engine.store
+    opened_brings {Kind} brings = subst (λ (s : S). BringsOnly g Kind old s) (sym store_is) brings
 
     pub opened_rests : ReachesBack g.clock g.left read → (g.state old).ended ≡ false → Rests g old → Rests g engine.store
     opened_rests back going was = subst (λ (s : S). Rests g s) (sym store_is) (rests_steady back going reads.steady was)

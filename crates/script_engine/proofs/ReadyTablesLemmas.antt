@@ -1,10 +1,12 @@
 -- A table of ready pages: it stands, and once its rows were changed and its page is written the pages are ready again.
-use Rattle.std.proofs.Common.{◌≡◌, ◌≢◌, ◌<◌, ◌+◌, ℕ, zero, suc, List, [], ◌∷◌, Option, Some, set, refl, ap, arith, sym, ◌∙◌, subst}
+use Rattle.std.proofs.Common.{◌≡◌, ◌≢◌, ◌<◌, ◌+◌, ℕ, zero, suc, Bool, true, false, List, [], ◌∷◌, Option, Some, set, refl, ap, arith, sym, ◌∙◌, subst}
 use Rattle.std.specs.Prelude.{IsTrue, slice_get}
 use Rattle.std.proofs.lemmas.Option.{same_Some}
 use Rattle.mdc_words.specs.ByteOrder.{Entry}
 use Rattle.mdc_ast.specs.declared.bound.Bound.{Bound}
+use Rattle.mdc_ast.specs.declared.bound.Bound.TheVariants as bound
 use Rattle.mdc_ast.specs.declared.definition.TableDef.{TableDef}
+use Rattle.mdc_ast.specs.declared.statement.RolloutMode.{RolloutMode}
 use Rattle.mdc_ast.specs.Database.{Database, PlainTable, changed_at, table_at}
 use Rattle.statement_meaning.proofs.DatabaseLemmas.{table_at-changed}
 use Rattle.mdc_ast.specs.Definitions.{Definitions, def_at, with_def}
@@ -12,9 +14,10 @@ use Rattle.store_api.specs.declared.pages.Pages.{Ghosts}
 use Rattle.store_api.specs.declared.shape.Shape.{Shape}
 use Rattle.extent_map.specs.Owners.{AreRightNotes}
 use Rattle.extent_map.specs.declared.kind.Kind.{Kind}
+use Rattle.extent_map.specs.declared.space_notes.SpaceNotes.{SpaceNotes}
 use Rattle.mdc_ast.specs.TableLimits.{IsTableDef}
 use Rattle.table_page.proofs.TablePageLemmas.{one_definition}
-use Rattle.table_trees.specs.SpaceChanges.{MakesChanges, SpaceChange}
+use Rattle.table_trees.specs.SpaceChanges.{IsSameSpace, SpaceChange}
 use Rattle.table_trees.specs.TableTrees.{map_place}
 use Rattle.table_trees.specs.ToldPages.{HasTree, PageList, told_pages}
 use Rattle.table_trees.proofs.SpaceChainsLemmas.{changes_to}
@@ -23,7 +26,7 @@ use Rattle.mdc_sound.specs.Placing.{Spot, block_slot_count, table_spots}
 use Rattle.mdc_sound.specs.RunningFull.{ShowsTableSpots}
 use Rattle.mdc_sound.specs.SoundDatabase.{KeepAllRules, with_table_page}
 use Rattle.mdc_sound.specs.SpaceRules.{DatabaseView}
-use Rattle.mdc_sound.specs.StandingTable.{AreRightRooms, IsReadyTable, RoomNote, StandsTable, TableForests, pages_of, spots_of}
+use Rattle.mdc_sound.specs.StandingTable.{AreRightRooms, ChangesTable, IsReadyTable, RoomNote, StandsTable, TableForests, pages_of, spots_of}
 use Rattle.mdc_sound.specs.StandsForDatabase.{PagesStandFor}
 use Rattle.mdc_sound.specs.TablePages.{DefinesTable, table_page_at}
 use Rattle.mdc_sound.proofs.SoundDatabaseLemmas.{page_at-with_table_page}
@@ -34,8 +37,10 @@ use Rattle.stored_catalog.specs.StoredDefinitions.{AreStored, IsWithinLimits}
 use Rattle.stored_catalog.proofs.AroundTableLemmas.{stored_but}
 use Rattle.stored_catalog.proofs.LeftDefinitionsLemmas.{def_there, limits_at, stored_at}
 use Rattle.stored_catalog.proofs.LoadingLemmas.{put_as_it_is}
-use Rattle.statement_rows.specs.RowsOfStatement.{ChangesRowsOf, IsReadyBetween}
-use Rattle.script_engine.specs.Doing.{PlacesOnPages, PlacesRows}
+use Rattle.rollout.proofs.RolledSpaceLemmas.{rolls_in_space_to}
+use Rattle.statement_rows.specs.OtherTables.{KeepsOtherTables}
+use Rattle.statement_rows.specs.RowsOfStatement.{ChangesRowsOf, IsReadyBetween, KeepsTablePages}
+use Rattle.script_engine.specs.Doing.{MakesAsked, MakesSpace, PlacesOnPages, PlacesRows, goes_by_blocks}
 use Rattle.script_engine.specs.NotedRooms.{AreForgotten, KeepsOtherRooms, rooms_at}
 use Rattle.script_engine.specs.Ready.{AreServed, IsReady}
 use Rattle.script_engine.specs.declared.tables.Tables.{Tables}
@@ -95,18 +100,44 @@ ready_of_sound g s tables view served told sound stored notes rooms = record {
       ready_table g tables.shape tables.notes s view table def (rooms_at tables.rooms table) told sound notes is.below (stored_at (pages_of g s) tables.catalog table def stored at) (rooms table is.below);
 }
 
+-- The rows of one table were changed: all that is said of it but where they went, and of the space that they asked for.
+pub record ChangesOneTable {S : Type 0} (g : Ghosts S) (shape : Shape) (before noted : SpaceNotes) (room_of : Entry → RoomNote) (old new : S) (def def_now : TableDef)
+    (owners : List Kind) (forests : TableForests) (change : PlainTable → PlainTable) : Type 0 where
+  pub owners_now : List Kind
+  pub forests_now : TableForests
+  pub changes : ChangesTable g shape before noted old new def owners forests owners_now forests_now
+  pub now : IsReadyBetween g shape noted room_of new def_now owners_now forests_now
+  pub stands_for : (db : Database) → PagesStandFor shape (with_table_page def (pages_of g old)) db
+      → PagesStandFor shape (with_table_page def_now (pages_of g new)) (changed_at db def.number change)
+  pub table_pages : KeepsTablePages (pages_of g old) (pages_of g new)
+  pub others : KeepsOtherTables shape (pages_of g old) (pages_of g new) def.number
+
+-- so it is of rows that were changed one after the other
+abbrev pub one_table : {S : Type 0} {g : Ghosts S} {shape : Shape} {before noted : SpaceNotes} {room_of : Entry → RoomNote} {old new : S} {def def_now : TableDef} {owners : List Kind} {forests : TableForests}
+    {Places : List Spot → List SpaceChange → List Spot → Type 0} {change : PlainTable → PlainTable} → ChangesRowsOf g shape before noted room_of old new def def_now owners forests Places change
+    → ChangesOneTable g shape before noted room_of old new def def_now owners forests change
+one_table changed = record {
+  owners_now = changed.owners_now;
+  forests_now = changed.forests_now;
+  changes = changed.changes;
+  now = changed.now;
+  stands_for = changed.stands_for;
+  table_pages = changed.table_pages;
+  others = changed.others;
+}
+
 -- what the pages are once the rows of the table in a place were changed and its page is written
 pub record EndsChange {S : Type 0} (g : Ghosts S) (old new : S) (before now : Tables) (place : ℕ) (change : PlainTable → PlainTable) : Type 0 where
   pub ready : IsReady g new now
   pub stands_for : (db : Database) → PagesStandFor before.shape (pages_of g old) db → PagesStandFor now.shape (pages_of g new) (changed_at db place change)
 
 -- an INSERT: the page of the table is written with its new definition
-pub change_ends : {S : Type 0} (g : Ghosts S) (old mid new : S) (before now : Tables) (place : ℕ) (def def_now : TableDef) (owners : List Kind) (forests : TableForests) (Places : List Spot → List SpaceChange → List Spot → Type 0) (change : PlainTable → PlainTable)
+pub change_ends : {S : Type 0} (g : Ghosts S) (old mid new : S) (before now : Tables) (place : ℕ) (def def_now : TableDef) (owners : List Kind) (forests : TableForests) (change : PlainTable → PlainTable)
     → AreServed before.catalog → now.shape ≡ before.shape → IsReady g old before → def_at before.catalog place ≡ Some def → def_now ≡ record def { next = def_now.next } → def_now.next < 18446744073709551616
-    → ChangesRowsOf g before.shape before.notes now.notes (rooms_at now.rooms place) old mid def def_now owners forests Places change
+    → ChangesOneTable g before.shape before.notes now.notes (rooms_at now.rooms place) old mid def def_now owners forests change
     → IsTrue (g.state new).is_told → pages_of g new ≡ with_table_page def_now (pages_of g mid)
     → now.catalog ≡ with_def before.catalog place def_now → KeepsOtherRooms before.rooms now.rooms place → KeepsKeys before.shape (pages_of g old) place change → EndsChange g old new before now place change
-change_ends g old mid new before now place def def_now owners forests Places change served shape ready at same small changed told written catalog rooms keys = record {
+change_ends g old mid new before now place def def_now owners forests change served shape ready at same small changed told written catalog rooms keys = record {
   ready = ready_beside g old new before now changed.now.sound.sound.view served shape ready told rules stored (subst (AreRightNotes before.shape now.notes) one_owners changed.now.ready.notes) place still_elsewhere
       (λ t other apart was. kept_written g old mid before now place def.number is.number served ready changed.others new def_now changed.now.sound.sound.view number is.below rules stored written t other apart was
       (still_elsewhere t apart ∙ was))
@@ -190,15 +221,15 @@ put_there (first ∷ defs) zero def at = ap (λ (d : Option TableDef). d ∷ def
 put_there (first ∷ defs) (suc place) def at = ap (λ (rest : Definitions). first ∷ rest) (put_there defs place def at)
 
 -- a DELETE or an UPDATE: the page of the table stays
-pub change_ends_unwritten : {S : Type 0} (g : Ghosts S) (old new : S) (before now : Tables) (place : ℕ) (def : TableDef) (owners : List Kind) (forests : TableForests) (Places : List Spot → List SpaceChange → List Spot → Type 0) (change : PlainTable → PlainTable)
+pub change_ends_unwritten : {S : Type 0} (g : Ghosts S) (old new : S) (before now : Tables) (place : ℕ) (def : TableDef) (owners : List Kind) (forests : TableForests) (change : PlainTable → PlainTable)
     → AreServed before.catalog → now.shape ≡ before.shape → IsReady g old before → def_at before.catalog place ≡ Some def
-    → ChangesRowsOf g before.shape before.notes now.notes (rooms_at now.rooms place) old new def def owners forests Places change
+    → ChangesOneTable g before.shape before.notes now.notes (rooms_at now.rooms place) old new def def owners forests change
     → now.catalog ≡ before.catalog → KeepsOtherRooms before.rooms now.rooms place → KeepsKeys before.shape (pages_of g old) place change → EndsChange g old new before now place change
-change_ends_unwritten g old new before now place def owners forests Places change served shape ready at changed catalog rooms keys =
+change_ends_unwritten g old new before now place def owners forests change served shape ready at changed catalog rooms keys =
     let is = served_def before.catalog place def served at in
     let was = stored_at (pages_of g old) before.catalog place def ready.stored at in
     let defines : DefinesTable (pages_of g new) place def = record { limits = was.limits; printed = changed.table_pages.each place is.below ∙ was.printed } in
-    change_ends g old new new before now place def def owners forests Places change served shape ready at refl was.limits.next changed changed.now.ready.stands.told
+    change_ends g old new new before now place def def owners forests change served shape ready at refl was.limits.next changed changed.now.ready.stands.told
     (sym (written_already (pages_of g new) place def is.number defines))
     (catalog ∙ sym (put_as_it_is before.catalog place def was.limits ∙ put_there before.catalog place def (def_there before.catalog place def at)))
     rooms keys
@@ -219,21 +250,31 @@ shown_written g shape mid pages def def_now owners forests same low stands writt
       spots_are = spots ∙ (shown.spots_are ∙ ap (λ (d : TableDef). table_spots shape pages d shown.owners shown.map_tree) same);
     }
 
+-- what was asked for of space was made of it where the pages behind have the same space
+makes_to : (shape : Shape) (mode : RolloutMode) (def : TableDef) (statement : Bound) (old mid new : PageList) (space : List SpaceChange) → MakesAsked shape mode def statement old space mid → IsSameSpace shape mid new
+    → MakesAsked shape mode def statement old space new
+makes_to shape mode def (bound.Delete place pred) old mid new space makes same = by_blocks (goes_by_blocks mode pred def) makes
+  where
+    by_blocks : (goes : Bool) → MakesSpace goes shape def old space mid → MakesSpace goes shape def old space new
+    by_blocks true rolls = rolls_in_space_to shape def old mid new rolls same
+    by_blocks false made = changes_to shape old mid new space made same
+makes_to shape mode def statement old mid new space makes same = changes_to shape old mid new space makes same
+
 -- rows went where the statement's placing says, on the pages as they are shown
-pub places_shown : {S : Type 0} {room room_now : Entry → RoomNote} (g : Ghosts S) (old mid new : S) (before now : Tables) (def def_now : TableDef) (owners : List Kind) (forests : TableForests) (Places : List Spot → List SpaceChange → List Spot → Type 0) (change : PlainTable → PlainTable) (statement : Bound)
-    → IsReady g old before → def_now ≡ record def { next = def_now.next } → IsReadyBetween g before.shape before.notes room old def owners forests
-    → ChangesRowsOf g before.shape before.notes now.notes room_now old mid def def_now owners forests Places change
-    → pages_of g new ≡ with_table_page def_now (pages_of g mid) → ((was : List Spot) (space : List SpaceChange) (is : List Spot) → Places was space is → PlacesRows before.settings.rollout def (block_slot_count before.shape def) was space is statement)
-    → PlacesOnPages before.shape (pages_of g old) (pages_of g new) before.settings.rollout def statement
-places_shown g old mid new before now def def_now owners forests Places change statement ready same between changed written turns = record {
+pub places_shown : {S : Type 0} {room room_now : Entry → RoomNote} (g : Ghosts S) (old mid new : S) (before now : Tables) (def def_now : TableDef) (owners : List Kind) (forests : TableForests) (change : PlainTable → PlainTable) (statement : Bound)
+    → def_now ≡ record def { next = def_now.next } → IsReadyBetween g before.shape before.notes room old def owners forests
+    → (changed : ChangesOneTable g before.shape before.notes now.notes room_now old mid def def_now owners forests change) → pages_of g new ≡ with_table_page def_now (pages_of g mid) → (space : List SpaceChange)
+    → PlacesRows before.settings.rollout def (block_slot_count before.shape def) (spots_of g before.shape old def owners forests) space (spots_of g before.shape mid def_now changed.owners_now changed.forests_now) statement
+    → MakesAsked before.shape before.settings.rollout def statement (pages_of g old) space (pages_of g mid) → PlacesOnPages before.shape (pages_of g old) (pages_of g new) before.settings.rollout def statement
+places_shown g old mid new before now def def_now owners forests change statement same between changed written space places makes = record {
   was = spots_of g before.shape old def owners forests;
   is = spots_of g before.shape mid def_now changed.owners_now changed.forests_now;
   shown_before = shows_spots g before.shape old def owners forests between.ready.stands;
   shown_after = shown_written g before.shape mid (pages_of g new) def def_now changed.owners_now changed.forests_now same (number_is_low before.shape def_now (pages_of g mid) changed.now.sound.sound) changed.now.ready.stands written;
-  space = changed.space;
-  places = turns (spots_of g before.shape old def owners forests) changed.space (spots_of g before.shape mid def_now changed.owners_now changed.forests_now) changed.places;
-  makes = subst (λ (pages : PageList). MakesChanges before.shape (pages_of g old) changed.space pages) (sym written)
-      (changes_to before.shape (pages_of g old) (pages_of g mid) (with_table_page def_now (pages_of g mid)) changed.space changed.makes
+  space = space;
+  places = places;
+  makes = subst (λ (pages : PageList). MakesAsked before.shape before.settings.rollout def statement (pages_of g old) space pages) (sym written)
+      (makes_to before.shape before.settings.rollout def statement (pages_of g old) (pages_of g mid) (with_table_page def_now (pages_of g mid)) space makes
       (space_written g before.shape mid def_now changed.owners_now changed.forests_now (number_is_low before.shape def_now (pages_of g mid) changed.now.sound.sound) changed.now.ready.stands));
   defined = (
     def_now.next,

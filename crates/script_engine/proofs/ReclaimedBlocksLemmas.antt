@@ -23,7 +23,7 @@ use Rattle.statement_rows.specs.RowsOfStatement.{AnyPage}
 use Rattle.statement_rows.proofs.OtherTablesLemmas.{others_kept}
 use Rattle.statement_rows.proofs.TablePagesLemmas.{table_pages_kept}
 use Rattle.rollout.specs.ReclaimedBlocks.{ReclaimsFree}
-use Rattle.rollout.specs.RolledBlocks.{TakesNoSpace}
+use Rattle.rollout.specs.RolledBlocks.{GivesBackSpace}
 use Rattle.rollout.proofs.SoundRolledLemmas.{in_space}
 use Rattle.script_engine.specs.Doing.{DoesStatement, PlacesRows}
 use Rattle.script_engine.specs.NotedRooms.{rooms_at}
@@ -47,7 +47,7 @@ changed_at-itself (table ∷ db) (suc place) = ap (λ rest. table ∷ rest) (cha
 module _ {S : Type 0} (g : Ghosts S) (old new : S) (before now : Tables) (place : ℕ) (def : TableDef) (count : ℕ) (served : AreServed before.catalog) (at : def_at before.catalog place ≡ Some def) where
   pub reclaimed_does :
       ((owners : List Kind) (forests : TableForests) → StandsTable g before.shape old def owners forests → ReclaimsFree g before.shape before.notes now.notes old new def count owners forests)
-      → ((owners : List Kind) (forests : TableForests) → StandsTable g before.shape old def owners forests → TakesNoSpace before.shape (pages_of g old) (pages_of g new))
+      → ((owners : List Kind) (forests : TableForests) → StandsTable g before.shape old def owners forests → GivesBackSpace before.shape (pages_of g old) (pages_of g new))
       → ((owners : List Kind) (forests : TableForests) → StandsTable g before.shape old def owners forests → IsSoundBetweenChanges before.shape def (pages_of g old) → IsSoundBetweenChanges before.shape def (pages_of g new))
       → ((owners : List Kind) (forests : TableForests) → StandsTable g before.shape old def owners forests → IsSoundBetweenChanges before.shape def (pages_of g old) → (db : Database)
       → PagesStandFor before.shape (with_table_page def (pages_of g old)) db → PagesStandFor before.shape (with_table_page def (pages_of g new)) db)
@@ -72,14 +72,11 @@ module _ {S : Type 0} (g : Ghosts S) (old new : S) (before now : Tables) (place 
           ready = record { stands = r.changes.stands; notes = r.changes.notes mid_ready.between.ready.notes; rooms = r.rooms room mid_ready.between.ready.rooms };
           sound = sound owners forests st mid_ready.between.sound;
         };
-        space = less.changes;
-        places = PlacesRows.reclaim r.spots less.each;
-        makes = less.makes;
         stands_for = λ db stands.
             subst (PagesStandFor before.shape (with_table_page def (pages_of g new))) (sym (changed_at-itself db def.number)) (stands_for owners forests st mid_ready.between.sound db stands);
         table_pages = table_pages_kept g before.shape old new def owners forests st works wide;
         others = others_kept g before.shape old new def owners r.owners_now forests r.forests_now mid_ready.between.sound.sound st r.changes wide longer;
-      }) catalog shape (λ other apart. ap (λ rooms. rooms_at rooms other) rooms)
+      }) less.changes (PlacesRows.reclaim r.spots less.each) less.makes catalog shape (λ other apart. ap (λ rooms. rooms_at rooms other) rooms)
       (keeps_fewer before.shape (pages_of g old) ready.view place (λ (table : PlainTable). table) (λ row. true) ready.sound (λ db stands table is. ap (λ rows. record table { rows = rows }) (sym (kept_all table.rows))))
       (said.Done reply.Done) refl (λ db stands. (changed_at-itself db place, refl))
 

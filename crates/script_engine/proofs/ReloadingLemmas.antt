@@ -10,6 +10,7 @@ use Rattle.store_api.specs.declared.fault.Damage.{Damage}
 use Rattle.store_api.specs.declared.fault.StoreFault.{StoreFault}
 use Rattle.store_api.specs.declared.fault.StoreFault.TheVariants.{Damaged}
 use Rattle.store_api.specs.declared.pages.Pages.{Ghosts}
+use Rattle.store_api.proofs.FetchingLemmas.{only_same, only_then}
 use Rattle.store_api.proofs.WorksLemmas.{steady_rollback, steady_then}
 use Rattle.extent_map.specs.Owners.{AreRightNotes}
 use Rattle.store_api.specs.declared.shape.Shape.{Shape}
@@ -54,6 +55,7 @@ module _ {S : Type 0} (g : Ghosts S) where
       unmarked = loads.reads.marked ∙ ap (λ s. s.marked) rolls;
       shape = same_shape;
       settings = same_settings;
+      brings = only_then (only_same (ap (λ s. s.fetched) rolls)) loads.reads.brings;
       notes = notes;
       rooms = rooms;
       stored = tt;
@@ -71,6 +73,7 @@ module _ {S : Type 0} (g : Ghosts S) where
       unmarked = loads.reads.marked ∙ ap (λ s. s.marked) rolls;
       shape = same_shape;
       settings = same_settings;
+      brings = only_then (only_same (ap (λ s. s.fetched) rolls)) loads.reads.brings;
       notes = notes;
       rooms = rooms;
       stored = λ told. subst (λ (pages : PageList). AreStored pages now.catalog) base_again (loads.stored (subst IsTrue (sym went_back.is_told) told));

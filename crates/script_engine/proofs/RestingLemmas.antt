@@ -39,6 +39,7 @@ settles_still g engine may = record {
   say_faults = refl;
   is_told = refl;
   told = refl;
+  fetched = refl;
   beside = refl;
   time = over_time_none;
   at_rest = λ back going rests. rests;

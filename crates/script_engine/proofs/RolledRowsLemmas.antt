@@ -1,6 +1,6 @@
 -- What a DELETE that goes by blocks does to ready pages.
 use Rattle.std.proofs.Common.{◌≡◌, ◌≤◌, ◌∙◌, ℕ, true, false, List, [], ◌∷◌, ◌++◌, length, map, refl, sym, ap, subst, arith}
-use Rattle.std.specs.Prelude.{Bool, Option, Some, IsPermutation, filter, not}
+use Rattle.std.specs.Prelude.{Bool, Option, Some, filter, not}
 use Rattle.std.specs.List.{AllByRecursion}
 use Rattle.std.proofs.lemmas.List.{length-map}
 use Rattle.std.proofs.lemmas.List.Sorted.{length_permutation}
@@ -13,7 +13,7 @@ use Rattle.mdc_ast.specs.declared.reply.Reply.TheVariants as reply
 use Rattle.mdc_ast.specs.declared.row.Row.{Row}
 use Rattle.mdc_ast.specs.declared.statement.RolloutMode.{RolloutMode}
 use Rattle.mdc_ast.specs.declared.statement.RolloutMode.TheVariants.{Immediate}
-use Rattle.mdc_ast.specs.Database.{Database, changed_at, table_at}
+use Rattle.mdc_ast.specs.Database.{Database, changed_at}
 use Rattle.mdc_ast.specs.Definitions.{def_at}
 use Rattle.mdc_ast.specs.Truth.{qualifies}
 use Rattle.statement_meaning.specs.Doing.{hits, left_table}
@@ -40,10 +40,11 @@ use Rattle.statement_rows.proofs.TablePagesLemmas.{table_pages_kept}
 use Rattle.table_scan.proofs.ScannedRowsLemmas.{perm_filter}
 use Rattle.table_scan.proofs.ScanningLemmas.{filter_first, filter_past}
 use Rattle.rollout.specs.Applying.{applies_to}
-use Rattle.rollout.specs.RolledBlocks.{RollsOutRows, TakesNoSpace, is_chosen, without_chosen}
+use Rattle.rollout.specs.RolledBlocks.{RollsOutRows, is_chosen, without_chosen}
+use Rattle.rollout.specs.RolledSpace.{RollsInSpace}
 use Rattle.rollout.specs.declared.rolling.RolledOut.{RolledOut}
 use Rattle.rollout.proofs.SoundRolledLemmas.{in_space}
-use Rattle.script_engine.specs.Doing.{DoesStatement, PlacesRows, goes_by_blocks}
+use Rattle.script_engine.specs.Doing.{DoesStatement, MakesSpace, PlacesRows, goes_by_blocks}
 use Rattle.script_engine.specs.NotedRooms.{KeepsOtherRooms, rooms_at}
 use Rattle.script_engine.specs.Ready.{AreServed, BreaksDatabase, IsReady}
 use Rattle.script_engine.specs.declared.tables.Tables.{Tables}
@@ -80,7 +81,7 @@ module _ {S : Type 0} {room room_now : Entry → RoomNote} (g : Ghosts S) (old n
     (at : def_at before.catalog place ≡ Some def) (lent : rooms_at before.rooms place ≡ room) (left : rooms_at now.rooms place ≡ room_now) where
   pub rolled_does : goes_by_blocks before.settings.rollout pred def ≡ true
       → ((owners : List Kind) (forests : TableForests) → StandsTable g before.shape old def owners forests → RollsOutRows g before.shape before.notes now.notes room_now old new def pred rolled owners forests)
-      → ((owners : List Kind) (forests : TableForests) → StandsTable g before.shape old def owners forests → TakesNoSpace before.shape (pages_of g old) (pages_of g new))
+      → ((owners : List Kind) (forests : TableForests) → StandsTable g before.shape old def owners forests → RollsInSpace before.shape def (pages_of g old) (pages_of g new))
       → ((owners : List Kind) (forests : TableForests) → StandsTable g before.shape old def owners forests → IsSoundBetweenChanges before.shape def (pages_of g old) → IsSoundBetweenChanges before.shape def (pages_of g new))
       → ((owners : List Kind) (forests : TableForests) → StandsTable g before.shape old def owners forests → IsSoundBetweenChanges before.shape def (pages_of g old) → (db : Database)
       → PagesStandFor before.shape (with_table_page def (pages_of g old)) db → PagesStandFor before.shape (with_table_page def (pages_of g new)) (changed_at db def.number (without_chosen pred)))
@@ -93,7 +94,6 @@ module _ {S : Type 0} {room room_now : Entry → RoomNote} (g : Ghosts S) (old n
       let forests = mid_ready.forests in
       let st = mid_ready.between.ready.stands in
       let r = rolls owners forests st in
-      let less = space owners forests st in
       let longer : length (pages_of g old) ≤ length (pages_of g new) = omega (arith, count) in
       let wide = touches_wider touches (in_space g before.shape old def) in
       let mode = sym (by_mode before.settings.rollout pred def by_blocks) in
@@ -106,13 +106,11 @@ module _ {S : Type 0} {room room_now : Entry → RoomNote} (g : Ghosts S) (old n
           ready = record { stands = r.changes.stands; notes = r.changes.notes mid_ready.between.ready.notes; rooms = r.rooms };
           sound = sound owners forests st mid_ready.between.sound;
         };
-        space = less.changes;
-        places = PlacesRows.roll by_blocks (subst (λ (m : RolloutMode). RollsOut def m (is_chosen pred) (spots_of g before.shape old def owners forests) (spots_of g before.shape new def r.owners_now r.forests_now)) mode r.rolls) less.each;
-        makes = less.makes;
         stands_for = stands_for owners forests st mid_ready.between.sound;
         table_pages = table_pages_kept g before.shape old new def owners forests st works wide;
         others = others_kept g before.shape old new def owners r.owners_now forests r.forests_now mid_ready.between.sound.sound st r.changes wide longer;
-      }) catalog shape rooms
+      }) [] (PlacesRows.roll by_blocks (subst (λ (m : RolloutMode). RollsOut def m (is_chosen pred) (spots_of g before.shape old def owners forests) (spots_of g before.shape new def r.owners_now r.forests_now)) mode r.rolls) refl)
+      (subst (λ (goes : Bool). MakesSpace goes before.shape def (pages_of g old) [] (pages_of g new)) (sym by_blocks) (space owners forests st)) catalog shape rooms
       (keeps_fewer before.shape (pages_of g old) ready.view place (left_table pred) (λ row. not (qualifies pred row.values)) ready.sound (λ db stands table is. refl)) (said.Done (reply.Deleted rolled.rows)) refl
       (λ db stands.
       let here = stored_table db before.catalog place def (stored_defs before.shape (pages_of g old) before.catalog db ready.stored stands) at in

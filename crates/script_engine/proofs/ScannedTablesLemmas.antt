@@ -33,7 +33,7 @@ use Rattle.mdc_sound.specs.BlockRules.{AreBlockRowsSound, AreTableIndexesSound}
 use Rattle.mdc_ast.specs.FittingRows.{RowFits}
 use Rattle.mdc_sound.specs.Placing.{rows_from_spot, table_spots}
 use Rattle.mdc_sound.specs.SoundDatabase.{IsSoundBetweenChanges, KeepAllRules}
-use Rattle.mdc_sound.specs.StandingTable.{AreRightRooms, BreaksTable, StandsTable, TableForests, pages_of, spots_of, view_of}
+use Rattle.mdc_sound.specs.StandingTable.{AreRightRooms, BreaksExpected, BreaksTable, StandsTable, TableForests, pages_of, spots_of, view_of}
 use Rattle.mdc_sound.specs.StandsForDatabase.{HoldsTable, PagesStandFor, rootless}
 use Rattle.mdc_sound.specs.TablePages.{DefinesTable, table_page_at}
 use Rattle.mdc_sound.specs.TableRows.{PlacedRow, rows_in_block, rows_in_table}
@@ -44,12 +44,13 @@ use Rattle.mdc_sound.proofs.PlainTableLemmas.{IsPlainTable}
 use Rattle.mdc_sound.proofs.StandingTableLemmas.{forests_of, stands_of_sound, stands_same}
 use Rattle.mdc_sound.proofs.StandsForLemmas.{one_tree_at}
 use Rattle.table_blocks.specs.BlockSteps.{HasThisRow}
+use Rattle.row_entries.specs.SoundEntries.{HasSoundIndexes}
 use Rattle.cell_change.proofs.RowChangesLemmas.{indexes_here, numbers_here}
 use Rattle.stored_catalog.specs.StoredDefinitions.{AreStored}
 use Rattle.stored_catalog.proofs.LeftDefinitionsLemmas.{stored_at}
-use Rattle.statement_rows.specs.RowsOfStatement.{AnyPage, HasTheseRows}
+use Rattle.statement_rows.specs.RowsOfStatement.{AnyPage, HasTheseRows, LieApart}
 use Rattle.row_checks.specs.Served.{IsDefined}
-use Rattle.executor.specs.Planned.{QualifyInTable}
+use Rattle.executor.specs.Planned.{LieInTable, QualifyInTable}
 use Rattle.executor.proofs.PlanPagesLemmas.{indexes_still}
 use Rattle.table_query.specs.QueryAnswers.{AreQueryRows}
 use Rattle.table_scan.specs.FoundRows.{FindsRows}
@@ -202,6 +203,16 @@ module _ {S : Type 0} (g : Ghosts S) (shape : Shape) (s : S) (def : TableDef) (o
       each_in (λ (hit : Hit). IsTrue (fits_all def.columns hit.row.values)) hits
       (λ hit there. (row_fits (placed_row hit) (qualifying_there pred (placed_row hit) (lie (placed_row hit) (in_map placed_row hits hit there))).0).values)
 
+  -- and lie in their places, apart
+  pub lying_apart : (pred : Option Pred) (hits : List Hit) → LieInTable g shape s def pred hits forests → LieApart g shape s def hits owners forests
+  lying_apart pred hits lies = record {
+    each = each_in (λ (hit : Hit). HasThisRow g shape s def hit.rid hit.row owners forests) hits
+        (λ hit there.
+        let lies_there = row_lies g shape s def owners forests st (placed_row hit) (qualifying_there pred (placed_row hit) (lies.lie (placed_row hit) (in_map placed_row hits hit there))).0 in
+        record { slots = lies_there.0; lies = lies_there.1 });
+    apart = lies.apart;
+  }
+
   module _ (pred : Option Pred) (hits : List Hit) (found : FindsRows g shape s def pred hits forests) where
     lie : QualifyInTable g shape s def pred hits forests
     lie placed there =
@@ -282,7 +293,15 @@ stands_ready g s tables place def served ready at =
       indexes = indexes_here g tables.shape s def between.sound.view.owners (forests_of between.sound.table) between stands;
     }
 
--- looking at its rows meets damage where they weren't, whichever pages are looked at
+-- looking at its rows by a plan meets damage where they weren't, or where a record index wasn't sound, whichever pages are looked at
+pub runs_by_plan : {S : Type 0} (g : Ghosts S) (old new : S) (tables : Tables) (place : ℕ) (def : TableDef) {Looks : ℕ → Type 0} {fault : Option StoreFault} → AreServed tables.catalog
+    → def_at tables.catalog place ≡ Some def → RunsOverPages g NoPage Looks (BreaksExpected g tables.shape old def (HasSoundIndexes g tables.shape old def)) old new fault
+    → RunsOverPages g NoPage AnyPage (BreaksDatabase g old tables) old new fault
+runs_by_plan g old new tables place def served at run =
+    runs_wider run (λ p there none. none) (λ p of. tt)
+    (λ damage breaks ready. let st = stands_ready g old tables place def served ready at in breaks.broken st.owners st.forests st.stands st.indexes)
+
+-- looking at all of them does so where they weren't
 pub runs_scan : {S : Type 0} (g : Ghosts S) (old new : S) (tables : Tables) (place : ℕ) (def : TableDef) {Looks : ℕ → Type 0} {fault : Option StoreFault} → AreServed tables.catalog
     → def_at tables.catalog place ≡ Some def → RunsOverPages g NoPage Looks (BreaksTable g tables.shape old def) old new fault → RunsOverPages g NoPage AnyPage (BreaksDatabase g old tables) old new fault
 runs_scan g old new tables place def served at run =

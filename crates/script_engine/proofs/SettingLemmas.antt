@@ -16,6 +16,7 @@ use Rattle.statement_meaning.specs.Cause.{NotBuilt, refusal_of}
 use Rattle.statement_meaning.specs.Session.{Session, set_to, turn}
 use Rattle.statement_meaning.specs.Step.{Answer, Refused, Replied}
 use Rattle.store_api.specs.declared.pages.Pages.{Ghosts}
+use Rattle.store_api.proofs.FetchingLemmas.{only_none}
 use Rattle.store_api.proofs.WorksLemmas.{steady_none}
 use Rattle.script_engine.specs.Controls.{AnswersControl, AnswersSetting, answer_to_setting}
 use Rattle.script_engine.specs.Doing.{changed_place}
@@ -31,10 +32,13 @@ use Rattle.script_engine.specs.declared.class.Setting.TheVariants as setting
 use Rattle.script_engine.specs.declared.engine.Engine.{Engine}
 use Rattle.script_engine.proofs.FetchesForListingLemmas.{lists_none}
 use Rattle.script_engine.proofs.FetchesForStatementLemmas.{fetches_none}
+use Rattle.script_engine.proofs.FetchesOnceLemmas.{once_none}
 use Rattle.script_engine.proofs.LeavingLemmas.{leaves_still}
 use Rattle.script_engine.proofs.LeavingOthersLemmas.{leaves_others_still}
 use Rattle.script_engine.proofs.OnAnyLemmas.{any_answered, as_it_was, steps_any}
+use Rattle.script_engine.proofs.RepliesLemmas.{kind_set}
 use Rattle.script_engine.proofs.StoredDefsLemmas.{same_built, stored_defs}
+use Rattle.script_engine.proofs.TouchesForStatementLemmas.{held_still}
 use Rattle.script_engine.proofs.TurnsLemmas.{outside_steady}
 
 -- ---- the statement
@@ -123,7 +127,10 @@ module _ {S : Type 0} (g : Ghosts S) (old : Engine S) (stmt : Stmt) (set : Setti
       built = λ was. was;
       leaves = λ ready. leaves_still g stmt old old refl;
       fetches = λ ready. fetches_none g old.tables.shape old.tables.catalog old.tables.settings old.store (bound_of old.tables.catalog stmt);
+      once = λ ok ready. once_none g old.tables.shape old.tables.catalog old.tables.settings old.store (bound_of old.tables.catalog stmt);
       lists = λ ready. lists_none g old.tables.catalog old.store (role_of stmt);
+      brings = only_none;
+      touches = λ all. held_still g stmt old.store old.store old.tables refl refl;
       unserved = λ unserved other outcome e. let same : said.Refused refusal ≡ outcome = cc in sym same ∙ outcome_is;
       damaged = λ damage e ready. absurd (cc);
       exact = λ damage e. absurd (cc);
@@ -134,7 +141,7 @@ module _ {S : Type 0} (g : Ghosts S) (old : Engine S) (stmt : Stmt) (set : Setti
 
     pub set_refused_any : Executes g stmt (Ok (said.Refused refusal)) old old → IsGoingEngine g old → ExecutesOnAny g stmt (Ok (said.Refused refusal)) old old
     set_refused_any does going = any_answered g stmt old old (said.Refused refusal) steady_none (steps_any g stmt old old (said.Refused refusal) does going (λ reply e. absurd (cc))
-        (λ other e. as_it_was (g.state old.store).is_told (held_by g old) (held_by g old) refl) (λ form. outcome_is))
+        (λ other e. as_it_was (g.state old.store).is_told (held_by g old) (held_by g old) refl) (λ form. outcome_is) tt (λ none. absurd none))
 
   -- ---- it is taken
 
@@ -182,7 +189,10 @@ module _ {S : Type 0} (g : Ghosts S) (old : Engine S) (stmt : Stmt) (set : Setti
       built = λ was. was;
       leaves = λ ready. leaves_still g stmt old set_engine refl;
       fetches = λ ready. fetches_none g old.tables.shape old.tables.catalog old.tables.settings old.store (bound_of old.tables.catalog stmt);
+      once = λ ok ready. once_none g old.tables.shape old.tables.catalog old.tables.settings old.store (bound_of old.tables.catalog stmt);
       lists = λ ready. lists_none g old.tables.catalog old.store (role_of stmt);
+      brings = only_none;
+      touches = λ all. held_still g stmt old.store old.store old.tables refl refl;
       unserved = λ unserved other outcome e. let wrong : true ≡ false = sym served ∙ unserved in absurd (cc);
       damaged = λ damage e ready. absurd (cc);
       exact = λ damage e. absurd (cc);
@@ -194,4 +204,4 @@ module _ {S : Type 0} (g : Ghosts S) (old : Engine S) (stmt : Stmt) (set : Setti
     pub set_any : Executes g stmt (Ok (said.Done reply.Done)) old set_engine → IsGoingEngine g old → ExecutesOnAny g stmt (Ok (said.Done reply.Done)) old set_engine
     set_any does going = any_answered g stmt old set_engine (said.Done reply.Done) steady_none (steps_any g stmt old set_engine (said.Done reply.Done) does going
         (λ reply e. subst (λ (role : Role). DoesOnAny (g.state old.store).is_told role (held_by g old) (held_by g set_engine)) (sym is) refl)
-        (λ refusal e. absurd (cc)) (λ unbuilt. let wrong : true ≡ false = sym form ∙ (sym (ap (λ (role : Role). is_built_as role (is_built_step stmt)) is) ∙ unbuilt) in absurd (cc)))
+        (λ refusal e. absurd (cc)) (λ unbuilt. let wrong : true ≡ false = sym form ∙ (sym (ap (λ (role : Role). is_built_as role (is_built_step stmt)) is) ∙ unbuilt) in absurd (cc)) (kind_set stmt set is) (λ none. absurd none))

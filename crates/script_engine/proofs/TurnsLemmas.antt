@@ -20,11 +20,13 @@ use Rattle.statement_meaning.specs.Session.{Session, committed, is_refusal, roll
 use Rattle.statement_meaning.specs.Step.{Answer, step}
 use Rattle.statement_meaning.specs.declared.pass.Pass.{Pass}
 use Rattle.statement_meaning.specs.declared.settings.Settings.{Settings}
+use Rattle.store_api.specs.Fetching.{BringsOnly}
 use Rattle.store_api.specs.Works.{Rests, Steady}
 use Rattle.store_api.specs.declared.fault.Damage.{Damage}
 use Rattle.store_api.specs.declared.fault.StoreFault.{StoreFault}
 use Rattle.store_api.specs.declared.fault.StoreFault.TheVariants.{Damaged, Device}
 use Rattle.store_api.specs.declared.pages.Pages.{Ghosts}
+use Rattle.store_api.proofs.FetchingLemmas.{only_then}
 use Rattle.store_api.proofs.MomentsLemmas.{base_or_now-steady}
 use Rattle.store_api.proofs.WorksLemmas.{rests_steady, steady_none, steady_then}
 use Rattle.store_api.specs.declared.shape.Shape.{Shape}
@@ -32,11 +34,13 @@ use Rattle.table_trees.specs.ToldPages.{PageList}
 use Rattle.mdc_sound.specs.SoundDatabase.{IsSoundDatabase, KeepAllRules}
 use Rattle.mdc_sound.specs.StandingTable.{pages_of}
 use Rattle.mdc_sound.specs.StandsForDatabase.{PagesStandFor}
+use Rattle.statement_rows.specs.RowsOfStatement.{AnyPage}
 use Rattle.stored_catalog.specs.StoredDefinitions.{AreStored}
 use Rattle.script_engine.specs.Breaking.{NamesExactly, StaysAtDamage}
 use Rattle.script_engine.specs.Committing.{CommitsWork, HasSoundRoot}
 use Rattle.script_engine.specs.Controls.{AnswersControl, AnswersSetting, answer_in_state}
 use Rattle.script_engine.specs.Doing.{DoesReady, DoesStep, LeavesAll, PlacesOnPages, StandsAfter, TellsPages, changed_place}
+use Rattle.script_engine.specs.Fetching.{FetchesForListing, FetchesForStatement}
 use Rattle.script_engine.specs.Held.{HeldPages, KeepsBase, KeepsWork, StandsForSession, StandsForTurn, StepsOnPages}
 use Rattle.script_engine.specs.Held.StepsOnPages.{full, turns}
 use Rattle.script_engine.specs.Leaving.{IsAllCommitted, MayBeLeft}
@@ -53,12 +57,14 @@ use Rattle.script_engine.specs.declared.tables.Tables.{Tables}
 use Rattle.script_engine.proofs.CatalogLemmas.{built_defs, one_catalog, served_of}
 use Rattle.script_engine.proofs.FetchesForListingLemmas.{lists_changing}
 use Rattle.script_engine.proofs.FetchesForStatementLemmas.{fetches_counted}
+use Rattle.script_engine.proofs.FetchesOnceLemmas.{once_counted}
 use Rattle.script_engine.proofs.FullStepsLemmas.{step_beyond}
 use Rattle.script_engine.proofs.LeavingLemmas.{leaves_steady, leaves_then}
 use Rattle.script_engine.proofs.LeavingOthersLemmas.{leaves_others_done, leaves_others_still}
 use Rattle.script_engine.proofs.ReadyTablesLemmas.{ready_of_sound}
 use Rattle.script_engine.proofs.SameWorkLemmas.{ready_same}
 use Rattle.script_engine.proofs.TightStepsLemmas.{leaves_tight}
+use Rattle.script_engine.proofs.TouchesForStatementLemmas.{held_then}
 use Rattle.script_engine.proofs.TryingLemmas.{ready_tried}
 
 -- ---- what is held
@@ -198,6 +204,12 @@ commit_steps shape old new is_open shut base work defs set = turns
 abbrev pub same_settings : {old new : HeldPages} → new.settings ≡ old.settings → new.pass ≡ old.pass → KeepsSettings old new
 same_settings settings pass = record { settings = settings; pass = pass }
 
+-- which pages came to hand with a statement, on ready pages and on any
+pub record BringsPages {S : Type 0} (g : Ghosts S) (stmt : Stmt) (old new : Engine S) : Type 0 where
+  pub fetches : IsReadyEngine g old → FetchesForStatement g old.tables.shape old.store new.store old.tables.catalog old.tables.settings (bound_of old.tables.catalog stmt)
+  pub lists : IsReadyEngine g old → FetchesForListing g old.store new.store old.tables.catalog (role_of stmt)
+  pub any : BringsOnly g AnyPage old.store new.store
+
 module _ {S : Type 0} (g : Ghosts S) where
   -- a step on pages, from what it does to the work and what becomes of the base
   steps_done : (old : Engine S) (new : HeldPages) (mid : S) (now : Tables) (stmt : Stmt) (outcome : Outcome) → AreStored (pages_of g old.store) old.tables.catalog → AreServed old.tables.catalog → is_tried (role_of stmt) ≡ true → tells_pages (role_of stmt) ≡ false → DoesStep g old.store mid old.tables now stmt outcome
@@ -321,10 +333,10 @@ module _ {S : Type 0} (g : Ghosts S) where
 
   pub executes_stop : {X Y : Type 0} (stmt : Stmt) (result : Result Outcome StoreFault) (stop : StoreFault) (old new : Engine S) → IsErrAnd result (λ e. e ≡ stop)
       → ((damage : Damage) → stop ≡ Damaged damage → IsReadyEngine g old → ⊥) → NamesExactly {X = Y} g old.tables.shape (Err stop) new.store → ((damage : Damage) → stop ≡ Damaged damage → StaysAtDamage g old new)
-      → (IsReadyEngine g old → LeavesCommitted g stmt old new) → new.tables.shape ≡ old.tables.shape → new.tables.settings ≡ old.tables.settings
+      → (IsReadyEngine g old → LeavesCommitted g stmt old new) → BringsPages g stmt old new → new.tables.shape ≡ old.tables.shape → new.tables.settings ≡ old.tables.settings
       → LeavesOutside {X = X} g (Err stop) old new → Executes g stmt result old new
-  executes_stop stmt (Ok outcome) stop old new is damaged exact stays leaves shape settings left = absurd is
-  executes_stop stmt (Err e) stop old new is damaged exact stays leaves shape settings left = subst (λ (x : StoreFault). Executes g stmt (Err x) old new) (sym is) (record {
+  executes_stop stmt (Ok outcome) stop old new is damaged exact stays leaves brings shape settings left = absurd is
+  executes_stop stmt (Err e) stop old new is damaged exact stays leaves brings shape settings left = subst (λ (x : StoreFault). Executes g stmt (Err x) old new) (sym is) (record {
     steps = tt;
     may = tt;
     keeps = tt;
@@ -332,8 +344,11 @@ module _ {S : Type 0} (g : Ghosts S) where
     settings = settings;
     built = tt;
     leaves = leaves;
-    fetches = tt;
-    lists = tt;
+    fetches = brings.fetches;
+    once = λ ok. absurd (cc);
+    lists = brings.lists;
+    brings = brings.any;
+    touches = tt;
     unserved = λ served other outcome e. absurd (cc);
     damaged = λ damage e ready. damaged damage (cc) ready;
     exact = λ damage e. exact damage (cc);
@@ -377,7 +392,7 @@ module _ {S : Type 0} (g : Ghosts S) where
       let new : Engine S = record old { store = store } in
       executes_stop {Y = Unit {0}} statement.Commit result stop old new is (λ damage e ready. commits.damaged damage (ap Err e) (sound_root old.store old.tables ready.work)) exact
       (λ damage e. let halts = commits.halts damage (ap Err e) in stays_steady old new halts.steady (halts.marked ∙ may.unmarked) may.going refl)
-      (λ ready. leaves_then g (Err stop) statement.Commit old new old.store steady_none commits (work_left old may is_open ready)) refl refl (outside_commit (Err stop) old new commits rests)
+      (λ ready. leaves_then g (Err stop) statement.Commit old new old.store steady_none commits (work_left old may is_open ready)) (record { fetches = λ ready. tt; lists = λ ready. tt; any = commits.log }) refl refl (outside_commit (Err stop) old new commits rests)
 
   pub commit_done : (old : Engine S) (store : S) → MayCall g old → old.is_open ≡ true → CommitsWork {X = Unit {0}} g (Ok tt) old.store store
       → (Rests g old.store → Rests g store) → Executes g statement.Commit (Ok (said.Done reply.Done)) old (record old { store = store; is_open = false })
@@ -392,7 +407,10 @@ module _ {S : Type 0} (g : Ghosts S) where
         built = λ was. was;
         leaves = λ ready. leaves_then g (Ok tt) statement.Commit old new old.store steady_none commits (work_left old may is_open ready);
         fetches = λ ready. tt;
+        once = λ ok ready. tt;
         lists = λ ready. tt;
+        brings = commits.log;
+        touches = λ all. record { defs = old.tables.catalog; are = inl refl; touches = tt };
         unserved = λ served other outcome e. absurd (cc);
         damaged = λ damage e ready. absurd (cc);
         exact = λ damage e. absurd (cc);
@@ -412,7 +430,7 @@ module _ {S : Type 0} (g : Ghosts S) where
       executes_stop {X = Bool} {Y = Bool} statement.Rollback result stop old new is
       (λ damage e ready. damaged damage e ready.work.told (ready.base_view, ready.base_sound)) exact
       (λ damage e. stays_steady old new reloads.steady reloads.unmarked may.going refl)
-      (λ ready. leaves_steady g statement.Rollback old new reloads.steady) reloads.shape reloads.settings (outside_steady (Err stop) old new reloads.steady reloads.device)
+      (λ ready. leaves_steady g statement.Rollback old new reloads.steady) (record { fetches = λ ready. tt; lists = λ ready. tt; any = reloads.brings }) reloads.shape reloads.settings (outside_steady (Err stop) old new reloads.steady reloads.device)
 
   roll_back_steps : (old : Engine S) (store : S) (tables : Tables) (served : Bool) → old.is_open ≡ true → Reloads g (Ok served) old.store store old.tables tables
       → StepsOnPages old.tables.shape (held_by g old) statement.Rollback (said.Done reply.Done) (held_by g (record old { store = store; tables = tables; served = served; is_open = false }))
@@ -471,7 +489,10 @@ module _ {S : Type 0} (g : Ghosts S) where
         built = λ was. reloads.built;
         leaves = λ ready. leaves_steady g statement.Rollback old new reloads.steady;
         fetches = λ ready. tt;
+        once = λ ok ready. tt;
         lists = λ ready. tt;
+        brings = reloads.brings;
+        touches = λ all. record { defs = old.tables.catalog; are = inl refl; touches = tt };
         unserved = λ served other outcome e. absurd (cc);
         damaged = λ damage e ready. absurd (cc);
         exact = λ damage e. absurd (cc);
@@ -539,7 +560,10 @@ module _ {S : Type 0} (g : Ghosts S) where
           built = λ was. served ∙ sym tries.served.built;
           leaves = λ ready. leaves_steady g stmt old kept_engine tries.steady;
           fetches = λ ready. tried.fetches ready.work;
+          once = λ ok ready. tried.once refl ready.work;
           lists = λ ready. tried.lists ready.work;
+          brings = tries.brings;
+          touches = λ all. tries.touches;
           unserved = λ unserved other outcome is. let wrong : true ≡ false = sym served ∙ unserved in absurd (cc);
           damaged = λ damage e ready. absurd (cc);
           exact = λ damage e. absurd (cc);
@@ -580,6 +604,16 @@ module _ {S : Type 0} (g : Ghosts S) where
       abbrev changed_engine : Engine S
       changed_engine = record old { store = store; tables = tables }
 
+      -- behind what the statement looked at page 0 came to hand, where its pages are sound
+      counted_so_far : {result : Result (Unit {0}) StoreFault} → CommitsWork g result mid store → BringsPages g stmt old changed_engine
+      counted_so_far commits = record {
+        fetches = λ ready.
+            fetches_counted g old.tables.shape old.tables.catalog old.tables.settings old.store mid store (bound_of old.tables.catalog stmt) (tried.fetches ready.work)
+            (commits.sound (sound_root mid tables (ready_tried g old.store mid old.tables tables stmt outcome (tried.does ready.work))));
+        lists = λ ready. lists_changing g old.tables.catalog old.store store (role_of stmt) changing;
+        any = only_then tried.tries.brings commits.log;
+      }
+
       pub change_committed : MayCall g old → old.served ≡ true → CommitsWork {X = Unit {0}} g (Ok tt) mid store → (Rests g mid → Rests g store) → Executes g stmt (Ok outcome) old changed_engine
       change_committed may served commits rests =
           let tries = tried.tries in
@@ -594,8 +628,11 @@ module _ {S : Type 0} (g : Ghosts S) where
             settings = sets_other (role_of stmt) old.served old.tables.settings outcome tables.settings other tries.settings;
             built = λ was. served ∙ sym tries.served.built;
             leaves = λ ready. leaves_then g (Ok tt) stmt old changed_engine mid tries.steady commits (made_left (may.served served) ready);
-            fetches = λ ready. fetches_counted g old.tables.shape old.tables.catalog old.tables.settings old.store mid store (bound_of old.tables.catalog stmt) (tried.fetches ready.work) commits.brings;
-            lists = λ ready. lists_changing g old.tables.catalog old.store store (role_of stmt) changing;
+            fetches = (counted_so_far commits).fetches;
+            once = λ ok ready. once_counted g old.tables.shape old.tables.catalog old.tables.settings old.store mid store (bound_of old.tables.catalog stmt) (tried.once refl ready.work) commits.brings;
+            lists = (counted_so_far commits).lists;
+            brings = (counted_so_far commits).any;
+            touches = λ all. held_then g stmt old.store mid store old.tables commits.is_told commits.work tries.touches;
             unserved = λ unserved other outcome is. let wrong : true ≡ false = sym served ∙ unserved in absurd (cc);
             damaged = λ damage e ready. absurd (cc);
             exact = λ damage e. absurd (cc);
@@ -614,7 +651,7 @@ module _ {S : Type 0} (g : Ghosts S) where
           (λ damage e.
           let halts = commits.halts damage (ap Err e) in
           stays_steady old changed_engine (steady_then tries.steady halts.steady) (halts.marked ∙ tries.unmarked) may.going refl)
-          (λ ready. leaves_then g (Err stop) stmt old changed_engine mid tries.steady commits (made_left (may.served ready.served) ready)) tries.shape tries.settings
+          (λ ready. leaves_then g (Err stop) stmt old changed_engine mid tries.steady commits (made_left (may.served ready.served) ready)) (counted_so_far commits) tries.shape tries.settings
           (outside_then (Err stop) old changed_engine mid tries.steady still_counted commits rests)
 
   -- the execution stopped
@@ -626,7 +663,7 @@ module _ {S : Type 0} (g : Ghosts S) where
       let new : Engine S = record old { store = store; tables = tables } in
       executes_stop {X = Outcome} {Y = Outcome} stmt result stop old new is (λ damage e ready. tried.damaged damage (ap Err e) ready.work) exact
       (λ damage e. stays_steady old new tries.steady (tries.back damage (ap Err e)).unmarked may.going refl)
-      (λ ready. leaves_steady g stmt old new tries.steady) tries.shape tries.settings
+      (λ ready. leaves_steady g stmt old new tries.steady) (record { fetches = λ ready. tried.fetches ready.work; lists = λ ready. tried.lists ready.work; any = tries.brings }) tries.shape tries.settings
       (outside_steady (Err stop) old new tries.steady tries.device)
 
   -- a statement that reads alone was tried

@@ -48,7 +48,7 @@ use Rattle.executor.specs.Planned.{LieInTable}
 use Rattle.script_engine.specs.Doing.{DoesStatement, PlacesRows, RunsFullAlone, StatementRunsFull, with_changed}
 use Rattle.script_engine.specs.Inserting.{IsSaidFirst, SaysNothing, first_refusal}
 use Rattle.script_engine.specs.NotedRooms.{KeepsOtherRooms, rooms_at}
-use Rattle.script_engine.specs.Ready.{AreServed, IsNoStandingTable, IsReady}
+use Rattle.script_engine.specs.Ready.{AreServed, IsNoSoundTable, IsReady}
 use Rattle.script_engine.specs.SetKeys.{JudgesSet}
 use Rattle.script_engine.specs.declared.tables.Tables.{Tables}
 use Rattle.script_engine.proofs.KeptKeysLemmas.{KeepsKeys, keeps_by_causes}
@@ -57,6 +57,7 @@ use Rattle.script_engine.proofs.BehindLooksLemmas.{refused_behind}
 use Rattle.script_engine.proofs.DoneRowsLemmas.{changed_alike, count_is, ready_mid, rows_done}
 use Rattle.script_engine.proofs.PuttingTuplesLemmas.{none_said, refused_in_front}
 use Rattle.script_engine.proofs.ReadyKeysLemmas.{nothing_of_keys}
+use Rattle.script_engine.proofs.ReadyTablesLemmas.{one_table}
 use Rattle.script_engine.proofs.ScannedTablesLemmas.{FindsIfSound, found_if_sound, hits_qualify, lying_fit, qualifying, these_rows}
 use Rattle.script_engine.proofs.TurnedKeysLemmas.{found_qualify, found_there, set_keys}
 use Rattle.script_engine.proofs.TurnedRowsLemmas.{each_passes, turned_changed, turned_hit, turned_news, turned_places}
@@ -157,18 +158,8 @@ module _ {S : Type 0} (g : Ghosts S) (old mid new : S) (before now : Tables) (pl
       subst (λ r. TurnsRowsBy def (block_slot_count before.shape def) (spots_of g before.shape mid def owners forests) r changed.space (spots_of g before.shape new def changed.owners_now changed.forests_now))
       (turned_changed sets pred items found made q) changed.places in
       rows_done g old mid new before now place def served at lent told same ready owners forests mid_ready.between (bound.Update place sets pred) (with_rows (map (λ (t : Turned). t.row) items)) left
-      (record {
-        owners_now = changed.owners_now;
-        forests_now = changed.forests_now;
-        changes = changed.changes;
-        now = changed.now;
-        space = changed.space;
-        makes = changed.makes;
-        places = PlacesRows.update (map placed_row found) (qualifying g before.shape mid def owners forests st pred found hits_here mid_ready.between.sound) placed;
-        stands_for = changed.stands_for;
-        table_pages = changed.table_pages;
-        others = changed.others;
-      }) catalog shape rooms (keeps ready) (said.Done (reply.Updated count)) refl
+      (one_table changed) changed.space (PlacesRows.update (map placed_row found) (qualifying g before.shape mid def owners forests st pred found hits_here mid_ready.between.sound) placed) changed.makes
+      catalog shape rooms (keeps ready) (said.Done (reply.Updated count)) refl
       (λ db stands. let ends = ends_so ready db (subst (λ pages. PagesStandFor before.shape pages db) same stands) in
       (becomes ready db stands ∙ sym (ap (λ e. e.0) ends), ap (λ e. e.1) ends ∙ ap (λ n. Replied (reply.Updated n)) (sym counts)))
 
@@ -200,10 +191,10 @@ module _ {S : Type 0} (g : Ghosts S) (old mid new : S) (before now : Tables) (pl
   update_stops (Full cap) full = (full.0, λ ready. record { full = update_full ready full.1; faultless = silent ready })
   update_stops (Store fault) full = tt
 
--- a hit that doesn't fit shows that the table doesn't stand
+-- a hit that doesn't fit shows that the table doesn't stand, whatever its record indexes are
 pub unfit_breaks : {S : Type 0} (g : Ghosts S) (shape : Shape) (s : S) (def : TableDef) (pred : Option Pred) (found : List Hit) (damage : Damage)
     → ((owners : List Kind) (forests : TableForests) → StandsTable g shape s def owners forests → LieInTable g shape s def pred found forests)
-    → list_all (λ hit. fits_all def.columns hit.row.values) found ≡ false → IsNoStandingTable g shape s def damage
-unfit_breaks g shape s def pred found damage lies unfit owners forests st =
+    → list_all (λ hit. fits_all def.columns hit.row.values) found ≡ false → IsNoSoundTable g shape s def damage
+unfit_breaks g shape s def pred found damage lies unfit owners forests st sound =
     let fit = each_passes (λ (hit : Hit). fits_all def.columns hit.row.values) found (lying_fit g shape s def owners forests st pred found (lies owners forests st).lie) in
     absurd (cc (fit, unfit))

@@ -2,6 +2,7 @@
 use Rattle.std.specs.Prelude.{◌≡◌, false, IsTrue, IfOk, IsErrOf, None, Result, Err}
 use Rattle.mdc_words.specs.Faults.{CountsFault}
 use Rattle.mdc_ast.specs.Definitions.{Definitions}
+use Rattle.store_api.specs.Fetching.{BringsOnly}
 use Rattle.store_api.specs.Works.{Steady}
 use Rattle.store_api.specs.declared.fault.Damage.{Damage}
 use Rattle.store_api.specs.declared.fault.StoreFault.{StoreFault}
@@ -10,6 +11,7 @@ use Rattle.store_api.specs.declared.pages.Pages.{Ghosts}
 use Rattle.store_api.specs.declared.shape.Shape.{Shape}
 use Rattle.mdc_sound.specs.Breaks.{IsFirstBreak}
 use Rattle.mdc_sound.specs.SoundDatabase.{IsSoundDatabase}
+use Rattle.statement_rows.specs.RowsOfStatement.{AnyPage}
 use Rattle.stored_catalog.specs.StoredDefinitions.{AreStored, AreWithinLimits}
 use Rattle.script_engine.specs.Ready.{DoNamesDiffer}
 use Rattle.script_engine.specs.declared.engine.Engine.{Engine}
@@ -22,11 +24,12 @@ IsExactDamage g shape s damage = IsTrue (g.state s).is_told → IsFirstBreak sha
 abbrev pub NamesExactly : {S X : Type 0} → Ghosts S → Shape → Result X StoreFault → S → Type 0
 NamesExactly g shape result s = (damage : Damage) → result ≡ Err (Damaged damage) → IsExactDamage g shape s damage
 
--- Pages were read alone: all is as it was, but for the page at hand.
+-- Pages were read alone: all is as it was, but for the page at hand, and which came to hand is told where it was.
 pub record OnlyReads {S : Type 0} (g : Ghosts S) (old new : S) : Type 0 where
   pub steady : Steady g old new
   pub work : (g.state new).work ≡ (g.state old).work
   pub marked : (g.state new).marked ≡ (g.state old).marked
+  pub brings : BringsOnly g AnyPage old new
 
 -- The pages were judged: the damage that is named is exact, where they aren't sound.
 pub record JudgesDamage {S : Type 0} (g : Ghosts S) (shape : Shape) (stop : StoreFault) (old new : S) : Type 0 where

@@ -12,6 +12,7 @@ use Rattle.store_api.specs.declared.fault.StoreFault.TheVariants.{Damaged, Devic
 use Rattle.store_api.specs.declared.pages.Pages.{Ghosts}
 use Rattle.store_api.specs.declared.shape.Shape.{Shape}
 use Rattle.mdc_sound.specs.SpaceRules.{IsRootSound}
+use Rattle.statement_rows.specs.RowsOfStatement.{AnyPage}
 use Rattle.script_engine.specs.Breaking.{OnlyReads}
 
 -- the pages are told, and the root page is sound
@@ -24,7 +25,7 @@ pub record HasSoundRoot {S : Type 0} (g : Ghosts S) (s : S) : Type 0 where
 -- came to hand, and none was changed.
 pub record CountsPages {S : Type 0} (g : Ghosts S) (result : Result Bool StoreFault) (old new : S) : Type 0 where
   pub reads : OnlyReads g old new
-  pub brings : OnOk result (BringsOnly g (OnlyPage 0) old new)
+  pub brings : BringsOnly g (OnlyPage 0) old new
   pub counted : IfOk result (λ counts. counts ≡ true → IsTrue (g.state old).is_told → stated_count (g.state old).work ≡ length (g.state old).work)
   pub miscounted : IfOk result (λ counts. counts ≡ false → HasSoundRoot g old → ⊥)
   pub device : CountsFault (IsErrOf result Device) (g.disk_faults old) (g.disk_faults new)
@@ -32,10 +33,12 @@ pub record CountsPages {S : Type 0} (g : Ghosts S) (result : Result Bool StoreFa
 
 -- The work was made the base, or a stop came, which leaves the base or the work as the base, the base where no call of the disk
 -- failed. Damage is named where page 0 doesn't state the count, and pages were read alone then. No other page came to hand where the
--- work was made the base.
+-- work was made the base, or the root page is sound.
 pub record CommitsWork {S X : Type 0} (g : Ghosts S) (result : Result X StoreFault) (old new : S) : Type 0 where
   pub work : (g.state new).work ≡ (g.state old).work
   pub brings : OnOk result (BringsOnly g (OnlyPage 0) old new)
+  pub sound : HasSoundRoot g old → BringsOnly g (OnlyPage 0) old new
+  pub log : BringsOnly g AnyPage old new
   pub base : OnOk result ((g.state new).base ≡ (g.state old).work)
   pub either : ((g.state new).base ≡ (g.state old).base) ⊎ ((g.state new).base ≡ (g.state old).work)
   pub kept : OnErr result ((IsErrOf result Device → ⊥) → (g.state new).base ≡ (g.state old).base)

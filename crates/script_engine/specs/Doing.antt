@@ -8,6 +8,7 @@ use Rattle.mdc_ast.specs.declared.definition.TableDef.{TableDef}
 use Rattle.mdc_ast.specs.declared.predicate.Pred.{Pred}
 use Rattle.mdc_ast.specs.declared.reply.Outcome.{Outcome}
 use Rattle.mdc_ast.specs.declared.reply.Outcome.TheVariants as said
+use Rattle.mdc_ast.specs.declared.reply.Reply.TheVariants as reply
 use Rattle.mdc_ast.specs.declared.row.Row.{Row}
 use Rattle.mdc_ast.specs.declared.statement.RolloutMode.{RolloutMode}
 use Rattle.mdc_ast.specs.declared.statement.RolloutMode.TheVariants.{Immediate}
@@ -33,6 +34,7 @@ use Rattle.mdc_sound.specs.TableRows.{PlacedRow}
 use Rattle.row_checks.specs.Executing.{answer_of, done}
 use Rattle.rollout.specs.Applying.{applies_to}
 use Rattle.rollout.specs.RolledBlocks.{TakesNothing, is_chosen}
+use Rattle.rollout.specs.RolledSpace.{RollsInSpace}
 use Rattle.statement_rows.specs.RowsAndSpace.{PutsRowsBy, TakesRowsBy, TurnsRowsBy}
 use Rattle.script_engine.specs.Listing.{PagesTell}
 use Rattle.script_engine.specs.Others.{KeepsOthers, touched_place}
@@ -66,16 +68,26 @@ goes_by_blocks mode pred def = false
 
 -- Where the rows of a statement that is done went, in blocks of n slots, and the changes of space that they ask for: an INSERT puts
 -- them in order, a DELETE takes them out, an UPDATE turns them, each by row number. A DELETE that goes by blocks makes each block Free
--- that has a row that qualifies, and only gives space back. RECLAIM gives the Free blocks back, and no other.
+-- that has a row that qualifies, and asks for no space. RECLAIM gives the Free blocks back, and no other.
 pub data PlacesRows (mode : RolloutMode) (def : TableDef) (n : ℕ) (was : List Spot) (space : List SpaceChange) (is : List Spot) : Bound → Type 0 where
   insert : {place : ℕ} {tuples : _} → PutsRowsBy def n was (numbered def.next tuples) space is → PlacesRows mode def n was space is (bound.Insert place tuples)
   delete : {place : ℕ} {pred : Option Pred} (rows : List PlacedRow) → goes_by_blocks mode pred def ≡ false → AreQualifying was pred rows → TakesRowsBy def was rows space is
       → PlacesRows mode def n was space is (bound.Delete place pred)
-  roll : {place : ℕ} {pred : Option Pred} → goes_by_blocks mode pred def ≡ true → RollsOut def mode (is_chosen pred) was is → AllByRecursion TakesNothing space
+  roll : {place : ℕ} {pred : Option Pred} → goes_by_blocks mode pred def ≡ true → RollsOut def mode (is_chosen pred) was is → space ≡ []
       → PlacesRows mode def n was space is (bound.Delete place pred)
   reclaim : {place : ℕ} → SpotsAfterReturns (map reclaimed_spot was) is → AllByRecursion TakesNothing space → PlacesRows mode def n was space is (bound.Reclaim place)
   update : {place : ℕ} {sets : List BoundSet} {pred : Option Pred} (rows : List PlacedRow) → AreQualifying was pred rows
       → TurnsRowsBy def n was (with_changed sets pred rows) space is → PlacesRows mode def n was space is (bound.Update place sets pred)
+
+-- these changes of space were made, one after the other, or, where blocks were released at once, space was given back or left
+abbrev pub MakesSpace : Bool → Shape → TableDef → PageList → List SpaceChange → PageList → Type 0
+MakesSpace true shape def old space new = RollsInSpace shape def old new
+MakesSpace false shape def old space new = MakesChanges shape old space new
+
+-- the same of a statement, which releases blocks at once where it is a DELETE that goes by blocks
+abbrev pub MakesAsked : Shape → RolloutMode → TableDef → Bound → PageList → List SpaceChange → PageList → Type 0
+MakesAsked shape mode def (bound.Delete place pred) old space new = MakesSpace (goes_by_blocks mode pred def) shape def old space new
+MakesAsked shape mode def statement old space new = MakesChanges shape old space new
 
 -- The same on pages: they show the table's spots before and after, trees took no more space than these changes, and the table's
 -- definition stays but for its next row number.
@@ -86,7 +98,7 @@ pub record PlacesOnPages (shape : Shape) (old new : PageList) (mode : RolloutMod
   pub shown_after : ShowsTableSpots shape new def is
   pub space : List SpaceChange
   pub places : PlacesRows mode def (block_slot_count shape def) was space is statement
-  pub makes : MakesChanges shape old space new
+  pub makes : MakesAsked shape mode def statement old space new
   pub defined : (n : ℕ) × DefinesTable new def.number (record def { next = n })
 
 -- the place of the table whose rows or blocks a statement changes, if it changes any
@@ -121,6 +133,12 @@ pub record DoesStep {S : Type 0} (g : Ghosts S) (old new : S) (before now : Tabl
 pub record LeavesAll {S : Type 0} (g : Ghosts S) (old new : S) (before now : Tables) : Type 0 where
   pub pages : pages_of g new ≡ pages_of g old
   pub catalog : now.catalog ≡ before.catalog
+
+-- it is told that no row went, or that none was changed
+abbrev pub SaysNoRow : Outcome → Type 0
+SaysNoRow (said.Done (reply.Deleted count)) = count ≡ 0
+SaysNoRow (said.Done (reply.Updated count)) = count ≡ 0
+SaysNoRow outcome = ⊥
 
 -- LIST BLOCKS or EXPLAIN was executed on ready pages: nothing changed, it turns no session that they stand for, and it was answered as lists of
 -- rows answer it, or as the pages tell.

@@ -1,5 +1,5 @@
 -- Which pages a query, EXPLAIN, a DELETE that goes by blocks and LIST BLOCKS bring to hand.
-use Rattle.std.specs.Prelude.{◌≡◌, ◌⊎◌, ℕ, true, Option, Some}
+use Rattle.std.specs.Prelude.{◌≡◌, ◌⊎◌, ℕ, true, List, Option, Some}
 use Rattle.mdc_ast.specs.declared.bound.Bound.{Bound}
 use Rattle.mdc_ast.specs.declared.bound.Bound.TheVariants as bound
 use Rattle.mdc_ast.specs.declared.bound.BoundSelect.{BoundSelect}
@@ -11,13 +11,15 @@ use Rattle.statement_meaning.specs.declared.settings.Settings.{Settings}
 use Rattle.store_api.specs.Fetching.{BringsOnly}
 use Rattle.store_api.specs.declared.pages.Pages.{Ghosts}
 use Rattle.store_api.specs.declared.shape.Shape.{Shape}
+use Rattle.extent_map.specs.declared.kind.Kind.{Kind}
 use Rattle.table_trees.specs.TableTrees.{map_place}
 use Rattle.table_trees.specs.TreesBeside.{IsTreePageAt}
+use Rattle.mdc_sound.specs.StandingTable.{StandsTable, TableForests}
 use Rattle.plan_chooser.specs.Rule.{goes_by_cells, plan_of}
 use Rattle.plan_lists.specs.PlanTrees.{IsListPage}
 use Rattle.table_scan.specs.FoundRows.{IsChoicePage}
 use Rattle.executor.specs.Planned.{IsChosenPageIfSound, IsPlanPage}
-use Rattle.rollout.specs.RolledPages.{IsRolloutPage}
+use Rattle.rollout.specs.RolledPages.{AnyPage, BringsRowsOnce, IsRolloutPage}
 use Rattle.table_query.specs.QueryPages.{IsQueryPage}
 use Rattle.script_engine.specs.Doing.{goes_by_blocks}
 use Rattle.script_engine.specs.Roles.{Lists, Role}
@@ -57,6 +59,14 @@ FetchesForStatement g shape old new defs settings (bound.Explain select) =
 FetchesForStatement g shape old new defs settings (bound.Delete place pred) =
     (def : TableDef) → def_at defs place ≡ Some def → goes_by_blocks settings.rollout pred def ≡ true → BringsOnly g (IsPageForRollout g shape old def pred) old new
 FetchesForStatement g shape old new defs settings statement = Unit {0}
+
+-- with a DELETE that goes by blocks, over a table that is there, no page of the table's blocks came to hand twice; of another statement
+-- nothing is said
+abbrev pub FetchesRowsOnce : {S : Type 0} → Ghosts S → Shape → S → S → Definitions → Settings → Bound → Type 0
+FetchesRowsOnce g shape old new defs settings (bound.Delete place pred) =
+    (def : TableDef) → def_at defs place ≡ Some def → goes_by_blocks settings.rollout pred def ≡ true
+    → (owners : List Kind) (forests : TableForests) → StandsTable g shape old def owners forests → BringsRowsOnce g shape old new def owners AnyPage
+FetchesRowsOnce g shape old new defs settings statement = Unit {0}
 
 -- of LIST BLOCKS of a table that is there, only pages of its block map came to hand; of another statement nothing is said
 abbrev pub FetchesForListing : {S : Type 0} → Ghosts S → S → S → Definitions → Role → Type 0

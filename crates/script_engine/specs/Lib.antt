@@ -16,9 +16,11 @@ pub mod Others
 pub mod PuttingStatements
 pub mod Ready
 pub mod Reloading
+pub mod Replies
 pub mod Resting
 pub mod Roles
 pub mod Serving
 pub mod SetKeys
+pub mod Touching
 pub mod Trying
 pub mod Turns

@@ -18,8 +18,10 @@ use Rattle.table_trees.specs.ToldPages.{PageList}
 use Rattle.mdc_sound.specs.Breaks.{IsFirstBreak}
 use Rattle.stored_catalog.specs.StoredDefinitions.{AreStored}
 use Rattle.script_engine.specs.Controls.{AnswersControl, AnswersSetting}
+use Rattle.script_engine.specs.Doing.{SaysNoRow}
 use Rattle.script_engine.specs.Held.{HeldPages, KeepsBase}
 use Rattle.script_engine.specs.Leaving.{IsAllCommitted}
+use Rattle.script_engine.specs.Replies.{IsDoneAs, IsReplyOf}
 use Rattle.script_engine.specs.Roles.{Begins, Changes, Commits, Explains, GoesBack, Lists, Queries, Role, Sets, is_built_form, is_control, is_going_back, role_of, set_on}
 use Rattle.script_engine.specs.Serving.{MayCall, held_by}
 use Rattle.script_engine.specs.declared.engine.Engine.{Engine}
@@ -56,8 +58,8 @@ DoesOnAny told Queries old new = new ≡ old
 DoesOnAny told role old new = ChangesPages old new
 
 -- What a statement that has an outcome does to what is held, whatever the pages are: a refusal, a query, LIST BLOCKS and EXPLAIN change
--- nothing, BEGIN, COMMIT and ROLLBACK do as the state of the transaction has it, a setting changes what the run is set to and nothing else,
--- and what isn't built is refused with 14.
+-- nothing, nor does what tells that no row went or was changed, BEGIN, COMMIT and ROLLBACK do as the state of the transaction has it, a
+-- setting changes what the run is set to and nothing else, what isn't built is refused with 14, and what is done is answered as its kind is.
 pub record StepsOnAny (told : Bool) (old : HeldPages) (stmt : Stmt) (outcome : Outcome) (new : HeldPages) : Type 0 where
   pub done : (reply : Reply) → outcome ≡ said.Done reply → DoesOnAny told (role_of stmt) old new
   pub refused : (refusal : Refusal) → outcome ≡ said.Refused refusal → StaysAsHeld told old new
@@ -65,6 +67,8 @@ pub record StepsOnAny (told : Bool) (old : HeldPages) (stmt : Stmt) (outcome : O
   pub settings : AnswersSetting (role_of stmt) (are_built old.defs) old.settings outcome new.settings
   pub unbuilt_form : is_built_form stmt ≡ false → outcome ≡ said.Refused (refusal_of NotBuilt)
   pub unbuilt_tables : is_control (role_of stmt) ≡ false → are_built old.defs ≡ false → outcome ≡ said.Refused (refusal_of NotBuilt)
+  pub kind : IsDoneAs (IsReplyOf stmt) outcome
+  pub idle : SaysNoRow outcome → StaysAsHeld told old new
 
 -- ---- a stop, and a crash
 

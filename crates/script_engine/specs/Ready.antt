@@ -12,6 +12,7 @@ use Rattle.extent_map.specs.declared.kind.Kind.{Kind}
 use Rattle.mdc_sound.specs.SoundDatabase.{KeepAllRules}
 use Rattle.mdc_sound.specs.SpaceRules.{DatabaseView}
 use Rattle.mdc_sound.specs.StandingTable.{IsReadyTable, StandsTable, TableForests, pages_of}
+use Rattle.row_entries.specs.SoundEntries.{HasSoundIndexes}
 use Rattle.stored_catalog.specs.StoredDefinitions.{AreStored, AreWithinLimits}
 use Rattle.script_engine.specs.NotedRooms.{rooms_at}
 use Rattle.script_engine.specs.declared.tables.Tables.{Tables}
@@ -41,9 +42,9 @@ pub record IsReady {S : Type 0} (g : Ghosts S) (s : S) (tables : Tables) : Type 
 abbrev pub BreaksDatabase : {S : Type 0} → Ghosts S → S → Tables → Damage → Type 0
 BreaksDatabase g s tables damage = IsReady g s tables → ⊥
 
--- the table wasn't told to stand
-abbrev pub IsNoStandingTable : {S : Type 0} → Ghosts S → Shape → S → TableDef → Damage → Type 0
-IsNoStandingTable g shape s def damage = (owners : List Kind) (forests : TableForests) → StandsTable g shape s def owners forests → ⊥
+-- the table wasn't told to stand with sound record indexes
+abbrev pub IsNoSoundTable : {S : Type 0} → Ghosts S → Shape → S → TableDef → Damage → Type 0
+IsNoSoundTable g shape s def damage = (owners : List Kind) (forests : TableForests) → StandsTable g shape s def owners forests → HasSoundIndexes g shape s def owners forests → ⊥
 
 -- A statement left the shape of the database, what the run is set to, and definitions of built forms; after a fault they are those that there were.
 pub record KeepsServed {X E : Type 0} (result : Result X E) (old new : Tables) : Type 0 where

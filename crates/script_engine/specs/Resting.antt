@@ -108,8 +108,8 @@ abbrev pub TakesStepsOnAny : {S : Type 0} → Ghosts S → Result (Unit {0}) Sto
 TakesStepsOnAny g result old new = TakesStepsBy g (RestsOnceOnAny (g.state old.store).is_told) (IsGoingEngine g) result old new
 
 -- The engine did what is left to be done after an answer: steps that leave it sound, or, whatever the pages are, such as may go on. A
--- transaction stays open or none, all that was committed is, nothing is told, and the file reopens; no damage is named of sound pages,
--- and damage that is named is exact.
+-- transaction stays open or none, all that was committed is, nothing is told, no page comes to hand, and the file reopens; no damage is
+-- named of sound pages, and damage that is named is exact.
 pub record Settles {S : Type 0} (g : Ghosts S) (result : Result (Unit {0}) StoreFault) (old new : Engine S) : Type 0 where
   pub takes : IsReadyEngine g old → TakesSteps g result old new
   pub takes_any : IsGoingEngine g old → TakesStepsOnAny g result old new
@@ -127,6 +127,7 @@ pub record Settles {S : Type 0} (g : Ghosts S) (result : Result (Unit {0}) Store
   pub say_faults : g.say_faults new.store ≡ g.say_faults old.store
   pub is_told : (g.state new.store).is_told ≡ (g.state old.store).is_told
   pub told : (g.state new.store).told ≡ (g.state old.store).told
+  pub fetched : (g.state new.store).fetched ≡ (g.state old.store).fetched
   pub beside : (g.state new.store).beside ≡ (g.state old.store).beside
   pub time : OverTime g.clock g.left (LeftTold (g.state old.store)) old.store new.store
   pub at_rest : KeepsTime g → (g.state old.store).ended ≡ false → Rests g old.store → Rests g new.store

@@ -1,5 +1,5 @@
 -- What each call on an engine does: to what it holds, to its store, and to what is outside.
-use Rattle.std.specs.Prelude.{◌≡◌, false, true, IfOk, MatchResult, OnOk, IsErrOf, Result, Ok, Err}
+use Rattle.std.specs.Prelude.{◌≡◌, false, true, IfOk, IsOk, MatchResult, OnOk, IsErrOf, Result, Ok, Err}
 use Rattle.mdc_words.specs.Faults.{CountsFault}
 use Rattle.mdc_words.specs.Time.{OverTime, ReachesBack}
 use Rattle.mdc_ast.specs.declared.reply.Outcome.{Outcome}
@@ -7,20 +7,23 @@ use Rattle.mdc_ast.specs.declared.reply.Outcome.TheVariants as said
 use Rattle.mdc_ast.specs.declared.statement.Stmt.{Stmt}
 use Rattle.statement_meaning.specs.Binding.{bound_of}
 use Rattle.statement_meaning.specs.Cause.{NotBuilt, refusal_of}
+use Rattle.store_api.specs.Fetching.{BringsOnly}
 use Rattle.store_api.specs.Moments.{BaseOrNow}
 use Rattle.store_api.specs.Works.{Rests, Steady}
 use Rattle.store_api.specs.declared.fault.Damage.{Damage}
 use Rattle.store_api.specs.declared.fault.StoreFault.{StoreFault}
 use Rattle.store_api.specs.declared.fault.StoreFault.TheVariants.{Damaged, Device}
 use Rattle.store_api.specs.declared.pages.Pages.{Ghosts}
+use Rattle.statement_rows.specs.RowsOfStatement.{AnyPage}
 use Rattle.script_engine.specs.Breaking.{NamesExactly, StaysAtDamage}
 use Rattle.script_engine.specs.Controls.{AnswersControl, AnswersSetting}
-use Rattle.script_engine.specs.Fetching.{FetchesForListing, FetchesForStatement}
+use Rattle.script_engine.specs.Fetching.{FetchesForListing, FetchesForStatement, FetchesRowsOnce}
 use Rattle.script_engine.specs.Held.{KeepsBase, StepsOnPages}
 use Rattle.script_engine.specs.Leaving.{IsAllCommitted, LeftWithin, MayBeLeft}
 use Rattle.statement_meaning.specs.Built.{are_built}
 use Rattle.script_engine.specs.Roles.{is_control, role_of}
 use Rattle.script_engine.specs.Serving.{IsReadyEngine, MayCall, held_by}
+use Rattle.script_engine.specs.Touching.{TouchesAsHeld}
 use Rattle.script_engine.specs.declared.engine.Engine.{Engine}
 
 -- the engine serves statements exactly where all its tables are of built forms
@@ -48,7 +51,8 @@ pub record LeavesCommitted {S : Type 0} (g : Ghosts S) (stmt : Stmt) (old new : 
   pub base : MayBeLeft old.tables.shape (held_by g old) stmt (g.state new.store).base
 
 -- What a statement did to an engine: it steps on sound pages, no damage is named of sound pages, and damage that is named is exact.
--- On any pages BEGIN, COMMIT and ROLLBACK do as the transaction's state has it, and only a setting changes what the run is set to.
+-- On any pages BEGIN, COMMIT and ROLLBACK do as the transaction's state has it, only a setting changes what the run is set to, and only
+-- pages change that such a statement changes.
 pub record Executes {S : Type 0} (g : Ghosts S) (stmt : Stmt) (result : Result Outcome StoreFault) (old new : Engine S) : Type 0 where
   pub steps : IfOk result (λ outcome. IsReadyEngine g old → StepsOnPages old.tables.shape (held_by g old) stmt outcome (held_by g new) × IsReadyEngine g new)
   pub may : OnOk result (MayCall g new)
@@ -57,8 +61,11 @@ pub record Executes {S : Type 0} (g : Ghosts S) (stmt : Stmt) (result : Result O
   pub settings : MatchResult result (λ outcome. AnswersSetting (role_of stmt) old.served old.tables.settings outcome new.tables.settings) (λ stop. new.tables.settings ≡ old.tables.settings)
   pub built : OnOk result (IsServedByForms old → IsServedByForms new)
   pub leaves : IsReadyEngine g old → LeavesCommitted g stmt old new
-  pub fetches : OnOk result (IsReadyEngine g old → FetchesForStatement g old.tables.shape old.store new.store old.tables.catalog old.tables.settings (bound_of old.tables.catalog stmt))
-  pub lists : OnOk result (IsReadyEngine g old → FetchesForListing g old.store new.store old.tables.catalog (role_of stmt))
+  pub fetches : IsReadyEngine g old → FetchesForStatement g old.tables.shape old.store new.store old.tables.catalog old.tables.settings (bound_of old.tables.catalog stmt)
+  pub once : IsOk result → IsReadyEngine g old → FetchesRowsOnce g old.tables.shape old.store new.store old.tables.catalog old.tables.settings (bound_of old.tables.catalog stmt)
+  pub lists : IsReadyEngine g old → FetchesForListing g old.store new.store old.tables.catalog (role_of stmt)
+  pub brings : BringsOnly g AnyPage old.store new.store
+  pub touches : OnOk result (IsAllCommitted (held_by g old) → TouchesAsHeld g stmt old.store new.store old.tables)
   pub unserved : old.served ≡ false → is_control (role_of stmt) ≡ false → (outcome : Outcome) → result ≡ Ok outcome → outcome ≡ said.Refused (refusal_of NotBuilt)
   pub damaged : (damage : Damage) → result ≡ Err (Damaged damage) → IsReadyEngine g old → ⊥
   pub exact : NamesExactly g old.tables.shape result new.store
@@ -78,3 +85,4 @@ pub record ComesUnready {S : Type 0} (g : Ghosts S) (first now : Engine S) : Typ
   pub settings : now.tables.settings ≡ first.tables.settings
   pub pass : now.pass ≡ first.pass
   pub shape : now.tables.shape ≡ first.tables.shape
+  pub brings : BringsOnly g AnyPage first.store now.store

@@ -35,6 +35,7 @@ pub(crate) fn commit_work<S: Store>(tables: &Tables, store: &mut S) -> Result<()
 }
 
 /// Whether page 0 states how many pages there are.
+#[tactic(auto, using(crate::proofs::CommittingLemmas::brings_same))]
 pub(crate) fn is_counted<S: Store>(store: &mut S) -> Result<bool, StoreFault>
     requires going { (S.state store.old).ended ≡ false }
     ensures counts { CountsPages S.Pages result store.old store.new }
@@ -51,6 +52,7 @@ pub(crate) fn is_counted<S: Store>(store: &mut S) -> Result<bool, StoreFault>
 }
 
 /// Makes the work the base, whose page 0 states how many pages there are.
+#[tactic(auto, using(crate::proofs::CommittingLemmas::brings_same))]
 pub(crate) fn commit_counted<S: Store>(store: &mut S) -> Result<(), StoreFault>
     requires going { (S.state store.old).ended ≡ false }
     requires unmarked { (S.state store.old).marked ≡ None }

@@ -1,7 +1,9 @@
 // Damage that is met, and what it is exactly: the first rule that the pages break, and the lowest page that breaks it.
 ghost use Rattle.std.specs.Prelude.{◌≡◌, false, IsTrue, None, OnOk, Err};
+ghost use Rattle.store_api.specs.Fetching.{BringsOnly};
 ghost use Rattle.store_api.specs.declared.fault.Damage.{Damage};
 ghost use Rattle.mdc_sound.specs.SoundDatabase.{IsSoundDatabase};
+ghost use Rattle.stored_catalog.specs.StoredDefinitions.{IsAnyTablePage};
 ghost use Rattle.script_engine.specs.Breaking.{JudgesDamage, LoadsExactly, NamesExactly};
 ghost use Rattle.script_engine.specs.Held.{IsWritten};
 ghost use Rattle.script_engine.specs.Ready.{AreServed};
@@ -41,7 +43,8 @@ pub(crate) fn stop_at<P: Pages>(
     }
 }
 
-/// The catalog of the table pages.
+/// The catalog of the table pages. No other page comes to hand where it is read, nor where the pages are sound.
+#[tactic(auto, using(crate::proofs::BreakingLemmas::brings_any))]
 pub(crate) fn load_exactly<P: Pages>(
     alloc: Global,
     shape: Shape,
@@ -49,6 +52,8 @@ pub(crate) fn load_exactly<P: Pages>(
 ) -> Result<Catalog, StoreFault>
     requires going { (P.state pages.old).ended ≡ false }
     ensures loads { LoadsExactly P.Pages shape result pages.old pages.new }
+    ensures brings { OnOk result (BringsOnly P.Pages IsAnyTablePage pages.old pages.new) }
+    ensures tables { IsTrue (P.state pages.old).is_told → (shape : Shape) → IsSoundDatabase shape (P.state pages.old).work → BringsOnly P.Pages IsAnyTablePage pages.old pages.new }
 {
     match load_catalog(alloc, pages) {
         Err(StoreFault::Damaged(met)) => Err(stop_at(alloc, shape, pages, met)),
@@ -98,6 +103,7 @@ pub(crate) fn try_again<P: Pages>(
 }
 
 /// Tries a statement by the catalog of the table pages. Where that changes nothing, the catalog is put back that there was.
+#[tactic(auto, using(crate::proofs::BreakingLemmas::brings_any, crate::proofs::TouchesForStatementLemmas::held_still))]
 fn try_reloaded<P: Pages>(
     tables: &mut Tables,
     pages: &mut P,

@@ -9,8 +9,10 @@ ghost use Rattle.extent_map.specs.Damages.{IfFull, store_part_of};
 ghost use Rattle.mdc_sound.specs.StandingTable.{pages_of};
 ghost use Rattle.statement_rows.specs.RowsOfStatement.{AnyPage};
 ghost use Rattle.script_engine.specs.Defining.{IsPlainNewDef};
-ghost use Rattle.script_engine.specs.Doing.{DoesStatement, RunsFullAlone};
+ghost use Rattle.script_engine.specs.Doing.{DoesStatement, LeavesAll, RunsFullAlone, SaysNoRow};
 ghost use Rattle.script_engine.specs.Ready.{AreServed, BreaksDatabase, IsReady, KeepsServed};
+ghost use Rattle.script_engine.specs.Replies.{IsDoneAs, IsReplyToBound};
+ghost use Rattle.script_engine.specs.Touching.{TouchesForStatement};
 
 use crate::tables::Tables;
 use extent_map::SpaceFault;
@@ -31,9 +33,12 @@ pub fn create<P: Pages>(
     requires going { (P.state pages.old).ended ≡ false }
     ensures does { IfOk result (λ outcome. IsReady P.Pages pages.old tables.old → DoesStatement P.Pages pages.old pages.new tables.old tables.new (bound.CreateTable def) outcome) }
     ensures done { (refusal : Refusal) → result ≡ Ok (Outcome.Refused refusal) → ⊥ }
+    ensures kind { IfOk result (IsDoneAs (IsReplyToBound (bound.CreateTable def))) }
+    ensures idle { IfOk result (λ outcome. SaysNoRow outcome → LeavesAll P.Pages pages.old pages.new tables.old tables.new) }
     ensures full { IfErr result (λ fault. IfFull fault (λ cap. (cap ≡ tables.old.shape.extents)
         × (IsReady P.Pages pages.old tables.old → RunsFullAlone tables.old.shape (pages_of P.Pages pages.old) tables.old.catalog (bound.CreateTable def)))) }
     ensures keeps { KeepsServed result tables.old tables.new }
+    ensures touches { TouchesForStatement P.Pages tables.old.shape pages.old pages.new tables.old.catalog tables.old.settings (bound.CreateTable def) }
     ensures runs { RunsOverPages P.Pages AnyPage AnyPage (BreaksDatabase P.Pages pages.old tables.old) pages.old pages.new (store_fault_in store_part_of result) }
 {
     let alloc = tables.alloc;
@@ -61,7 +66,10 @@ pub fn remove<P: Pages>(
     requires going { (P.state pages.old).ended ≡ false }
     ensures does { IfOk result (λ outcome. IsReady P.Pages pages.old tables.old → DoesStatement P.Pages pages.old pages.new tables.old tables.new (bound.DropTable table) outcome) }
     ensures done { (refusal : Refusal) → result ≡ Ok (Outcome.Refused refusal) → ⊥ }
+    ensures kind { IfOk result (IsDoneAs (IsReplyToBound (bound.DropTable table))) }
+    ensures idle { IfOk result (λ outcome. SaysNoRow outcome → LeavesAll P.Pages pages.old pages.new tables.old tables.new) }
     ensures keeps { KeepsServed result tables.old tables.new }
+    ensures touches { TouchesForStatement P.Pages tables.old.shape pages.old pages.new tables.old.catalog tables.old.settings (bound.DropTable table) }
     ensures runs { RunsOverPages P.Pages AnyPage AnyPage (BreaksDatabase P.Pages pages.old tables.old) pages.old pages.new (fault_of result) }
 {
     let alloc = tables.alloc;

@@ -1,5 +1,5 @@
 // The rows of a DELETE.
-ghost use Rattle.std.specs.Prelude.{◌≡◌, false, true, IfOk, Ok, Some};
+ghost use Rattle.std.specs.Prelude.{◌≡◌, false, true, IfOk, IsOk, Ok, Some};
 ghost use Rattle.mdc_ast.specs.declared.bound.Bound.TheVariants as bound;
 ghost use Rattle.mdc_ast.specs.declared.definition.TableDef.{TableDef};
 ghost use Rattle.mdc_ast.specs.declared.refusal.Refusal.{Refusal};
@@ -10,9 +10,11 @@ ghost use Rattle.store_api.specs.Causes.{fault_of};
 ghost use Rattle.store_api.specs.RunsOverPages.{RunsOverPages};
 ghost use Rattle.row_checks.specs.Served.{IsDefined, MayJudge};
 ghost use Rattle.statement_rows.specs.RowsOfStatement.{AnyPage};
-ghost use Rattle.script_engine.specs.Doing.{DoesStatement, goes_by_blocks};
-ghost use Rattle.script_engine.specs.Fetching.{FetchesForStatement};
+ghost use Rattle.script_engine.specs.Doing.{DoesStatement, LeavesAll, SaysNoRow, goes_by_blocks};
+ghost use Rattle.script_engine.specs.Fetching.{FetchesForStatement, FetchesRowsOnce};
 ghost use Rattle.script_engine.specs.Ready.{AreServed, BreaksDatabase, IsReady, KeepsServed};
+ghost use Rattle.script_engine.specs.Replies.{IsDoneAs, IsReplyToBound};
+ghost use Rattle.script_engine.specs.Touching.{TouchesForStatement};
 
 use crate::tables::Tables;
 use executor::find_by_plan;
@@ -22,7 +24,7 @@ use statement_rows::delete_rows;
 use store_api::{Pages, StoreFault};
 
 /// A DELETE of the rows of a table that qualify: block by block in the mode IMMEDIATE, where there is no WHERE, or it names dimension
-/// columns alone, and else row by row. By blocks only pages come to hand that rolling them out looks at; rows are found by the plan in
+/// columns alone, and else row by row. By blocks only pages come to hand that rolling them out looks at, those of the table's blocks once; rows are found by the plan in
 /// the mode that is set.
 pub fn delete<P: Pages>(
     tables: &mut Tables,
@@ -35,8 +37,12 @@ pub fn delete<P: Pages>(
     requires going { (P.state pages.old).ended ≡ false }
     ensures does { IfOk result (λ outcome. IsReady P.Pages pages.old tables.old → DoesStatement P.Pages pages.old pages.new tables.old tables.new (bound.Delete table pred.now) outcome) }
     ensures done { (refusal : Refusal) → result ≡ Ok (Outcome.Refused refusal) → ⊥ }
+    ensures kind { IfOk result (IsDoneAs (IsReplyToBound (bound.Delete table pred.now))) }
+    ensures idle { IfOk result (λ outcome. SaysNoRow outcome → LeavesAll P.Pages pages.old pages.new tables.old tables.new) }
     ensures fetches { FetchesForStatement P.Pages tables.old.shape pages.old pages.new tables.old.catalog tables.old.settings (bound.Delete table pred.now) }
+    ensures once { IsOk result → FetchesRowsOnce P.Pages tables.old.shape pages.old pages.new tables.old.catalog tables.old.settings (bound.Delete table pred.now) }
     ensures keeps { KeepsServed result tables.old tables.new }
+    ensures touches { TouchesForStatement P.Pages tables.old.shape pages.old pages.new tables.old.catalog tables.old.settings (bound.Delete table pred.now) }
     ensures runs { RunsOverPages P.Pages AnyPage AnyPage (BreaksDatabase P.Pages pages.old tables.old) pages.old pages.new (fault_of result) }
 {
     if goes_by_blocks(tables, table, pred) {
@@ -75,10 +81,13 @@ fn delete_blocks<P: Pages>(
     requires going { (P.state pages.old).ended ≡ false }
     ensures does { IfOk result (λ count. IsReady P.Pages pages.old tables.old
         → DoesStatement P.Pages pages.old pages.new tables.old tables.new (bound.Delete table pred.now) (said.Done (reply.Deleted count))) }
+    ensures idle { IfOk result (λ count. count ≡ 0 → (P.state pages.new).work ≡ (P.state pages.old).work) }
     ensures catalog { tables.new.catalog ≡ tables.old.catalog }
     ensures shape { tables.new.shape ≡ tables.old.shape }
     ensures settings { tables.new.settings ≡ tables.old.settings }
     ensures fetches { FetchesForStatement P.Pages tables.old.shape pages.old pages.new tables.old.catalog tables.old.settings (bound.Delete table pred.now) }
+    ensures once { IsOk result → FetchesRowsOnce P.Pages tables.old.shape pages.old pages.new tables.old.catalog tables.old.settings (bound.Delete table pred.now) }
+    ensures touches { TouchesForStatement P.Pages tables.old.shape pages.old pages.new tables.old.catalog tables.old.settings (bound.Delete table pred.now) }
     ensures runs { RunsOverPages P.Pages AnyPage AnyPage (BreaksDatabase P.Pages pages.old tables.old) pages.old pages.new (fault_of result) }
 {
     let rooms = &mut tables.rooms.by_table[table as usize];
@@ -110,10 +119,12 @@ fn delete_found<P: Pages>(
     requires going { (P.state pages.old).ended ≡ false }
     ensures does { IfOk result (λ count. IsReady P.Pages pages.old tables.old
         → DoesStatement P.Pages pages.old pages.new tables.old tables.new (bound.Delete table pred.now) (said.Done (reply.Deleted count))) }
+    ensures idle { IfOk result (λ count. count ≡ 0 → (P.state pages.new).work ≡ (P.state pages.old).work) }
     ensures catalog { tables.new.catalog ≡ tables.old.catalog }
     ensures shape { tables.new.shape ≡ tables.old.shape }
     ensures settings { tables.new.settings ≡ tables.old.settings }
     ensures fetches { FetchesForStatement P.Pages tables.old.shape pages.old pages.new tables.old.catalog tables.old.settings (bound.Delete table pred.now) }
+    ensures touches { TouchesForStatement P.Pages tables.old.shape pages.old pages.new tables.old.catalog tables.old.settings (bound.Delete table pred.now) }
     ensures runs { RunsOverPages P.Pages AnyPage AnyPage (BreaksDatabase P.Pages pages.old tables.old) pages.old pages.new (fault_of result) }
 {
     let rooms = &mut tables.rooms.by_table[table as usize];

@@ -1,5 +1,5 @@
 // A statement on the tables of a database.
-ghost use Rattle.std.specs.Prelude.{◌≡◌, false, true, IfOk, IfErr, IfSome, MatchResult, Ok};
+ghost use Rattle.std.specs.Prelude.{◌≡◌, false, true, IfOk, IfErr, IfSome, IsOk, MatchResult, Ok};
 ghost use Rattle.mdc_ast.specs.declared.bound.Bound.TheVariants as bound;
 ghost use Rattle.mdc_ast.specs.declared.refusal.Refusal.{Refusal};
 ghost use Rattle.statement_meaning.specs.Binding.{bound_of};
@@ -13,11 +13,13 @@ ghost use Rattle.extent_map.specs.declared.fault.SpaceFault.TheVariants.{Store};
 ghost use Rattle.mdc_sound.specs.StandingTable.{pages_of};
 ghost use Rattle.statement_rows.specs.RowsOfStatement.{AnyPage};
 ghost use Rattle.script_engine.specs.Defining.{IsBoundOn, MayBeExecuted};
-ghost use Rattle.script_engine.specs.Doing.{DoesReady, DoesStatement, DoesStep, LeavesAll, RunsFullAlone, StepRunsFull, is_query};
-ghost use Rattle.script_engine.specs.Fetching.{FetchesForListing, FetchesForStatement};
+ghost use Rattle.script_engine.specs.Doing.{DoesReady, DoesStatement, DoesStep, LeavesAll, RunsFullAlone, SaysNoRow, StepRunsFull, is_query};
+ghost use Rattle.script_engine.specs.Fetching.{FetchesForListing, FetchesForStatement, FetchesRowsOnce};
 ghost use Rattle.script_engine.specs.Held.{IsWritten};
 ghost use Rattle.script_engine.specs.Ready.{AreServed, BreaksDatabase, IsReady, KeepsServed};
+ghost use Rattle.script_engine.specs.Replies.{IsDoneAs, IsReplyOf, IsReplyToBound};
 ghost use Rattle.script_engine.specs.Roles.{is_built_form, only_reads, role_of};
+ghost use Rattle.script_engine.specs.Touching.{TouchesForStatement};
 
 use crate::class::{is_explain, listed};
 use crate::defining::{create, remove};
@@ -37,8 +39,9 @@ use mdc_values::Memory;
 use row_checks::not_built;
 use store_api::{Pages, StoreFault};
 
-/// Executes a statement that is written so in a script. Where it is refused, pages and definitions stay. After a fault the
-/// definitions are as they were, `undo` goes back to a mark, and the notes are to be forgotten.
+/// Executes a statement that is written so in a script. Where it is refused, or it is told that no row went or was changed, pages and
+/// definitions stay, whatever the pages are. After a fault the definitions are as they were, `undo` goes back to a mark, and the notes
+/// are to be forgotten.
 pub fn execute<P: Pages>(
     tables: &mut Tables,
     pages: &mut P,
@@ -49,13 +52,17 @@ pub fn execute<P: Pages>(
     requires going { (P.state pages.old).ended ≡ false }
     ensures does { IfOk result (λ outcome. IsReady P.Pages pages.old tables.old → DoesReady P.Pages pages.old pages.new tables.old tables.new stmt.now outcome) }
     ensures refused { (refusal : Refusal) → result ≡ Ok (Outcome.Refused refusal) → LeavesAll P.Pages pages.old pages.new tables.old tables.new }
+    ensures kind { IfOk result (IsDoneAs (IsReplyOf stmt.now)) }
+    ensures idle { IfOk result (λ outcome. SaysNoRow outcome → LeavesAll P.Pages pages.old pages.new tables.old tables.new) }
     ensures full { IfErr result (λ fault. IfFull fault (λ cap. (cap ≡ tables.old.shape.extents)
         × (IsReady P.Pages pages.old tables.old → StepRunsFull tables.old.shape (pages_of P.Pages pages.old) tables.old.catalog stmt.now))) }
     ensures unbuilt { is_built_form stmt.now ≡ false → MatchResult result (λ outcome. outcome ≡ Outcome.Refused (refusal_of NotBuilt)) (λ fault. IfFull fault (λ cap. ⊥)) }
     ensures reads { only_reads (role_of stmt.now) ≡ true → LeavesAll P.Pages pages.old pages.new tables.old tables.new }
     ensures fetches { FetchesForStatement P.Pages tables.old.shape pages.old pages.new tables.old.catalog tables.old.settings (bound_of tables.old.catalog stmt.now) }
+    ensures once { IsOk result → FetchesRowsOnce P.Pages tables.old.shape pages.old pages.new tables.old.catalog tables.old.settings (bound_of tables.old.catalog stmt.now) }
     ensures lists { FetchesForListing P.Pages pages.old pages.new tables.old.catalog (role_of stmt.now) }
     ensures keeps { KeepsServed result tables.old tables.new }
+    ensures touches { TouchesForStatement P.Pages tables.old.shape pages.old pages.new tables.old.catalog tables.old.settings (bound_of tables.old.catalog stmt.now) }
     ensures runs { RunsOverPages P.Pages AnyPage AnyPage (BreaksDatabase P.Pages pages.old tables.old) pages.old pages.new (store_fault_in store_part_of result) }
 {
     // Most statements are INSERTs against which nothing is said.
@@ -100,12 +107,16 @@ fn step<P: Pages>(tables: &mut Tables, pages: &mut P, stmt: &Stmt) -> Result<Out
     requires going { (P.state pages.old).ended ≡ false }
     ensures does { IfOk result (λ outcome. IsReady P.Pages pages.old tables.old → DoesStep P.Pages pages.old pages.new tables.old tables.new stmt.now outcome) }
     ensures refused { (refusal : Refusal) → result ≡ Ok (Outcome.Refused refusal) → LeavesAll P.Pages pages.old pages.new tables.old tables.new }
+    ensures kind { IfOk result (IsDoneAs (IsReplyOf stmt.now)) }
+    ensures idle { IfOk result (λ outcome. SaysNoRow outcome → LeavesAll P.Pages pages.old pages.new tables.old tables.new) }
     ensures full { IfErr result (λ fault. IfFull fault (λ cap. (cap ≡ tables.old.shape.extents)
         × (IsReady P.Pages pages.old tables.old → StepRunsFull tables.old.shape (pages_of P.Pages pages.old) tables.old.catalog stmt.now))) }
     ensures unbuilt { is_built_step stmt.now ≡ false → MatchResult result (λ outcome. outcome ≡ Outcome.Refused (refusal_of NotBuilt)) (λ fault. IfFull fault (λ cap. ⊥)) }
     ensures reads { only_reads (role_of stmt.now) ≡ true → LeavesAll P.Pages pages.old pages.new tables.old tables.new }
     ensures fetches { FetchesForStatement P.Pages tables.old.shape pages.old pages.new tables.old.catalog tables.old.settings (bound_of tables.old.catalog stmt.now) }
+    ensures once { IsOk result → FetchesRowsOnce P.Pages tables.old.shape pages.old pages.new tables.old.catalog tables.old.settings (bound_of tables.old.catalog stmt.now) }
     ensures keeps { KeepsServed result tables.old tables.new }
+    ensures touches { TouchesForStatement P.Pages tables.old.shape pages.old pages.new tables.old.catalog tables.old.settings (bound_of tables.old.catalog stmt.now) }
     ensures runs { RunsOverPages P.Pages AnyPage AnyPage (BreaksDatabase P.Pages pages.old tables.old) pages.old pages.new (store_fault_in store_part_of result) }
 {
     if !built(stmt) {
@@ -129,11 +140,15 @@ fn carry_out<P: Pages>(
     requires going { (P.state pages.old).ended ≡ false }
     ensures does { IfOk result (λ outcome. IsReady P.Pages pages.old tables.old → DoesStatement P.Pages pages.old pages.new tables.old tables.new bound outcome) }
     ensures refused { (refusal : Refusal) → result ≡ Ok (Outcome.Refused refusal) → LeavesAll P.Pages pages.old pages.new tables.old tables.new }
+    ensures kind { IfOk result (IsDoneAs (IsReplyToBound bound)) }
+    ensures idle { IfOk result (λ outcome. SaysNoRow outcome → LeavesAll P.Pages pages.old pages.new tables.old tables.new) }
     ensures full { IfErr result (λ fault. IfFull fault (λ cap. (cap ≡ tables.old.shape.extents)
         × (IsReady P.Pages pages.old tables.old → RunsFullAlone tables.old.shape (pages_of P.Pages pages.old) tables.old.catalog bound))) }
     ensures reads { is_query bound ≡ true → LeavesAll P.Pages pages.old pages.new tables.old tables.new }
     ensures fetches { FetchesForStatement P.Pages tables.old.shape pages.old pages.new tables.old.catalog tables.old.settings bound }
+    ensures once { IsOk result → FetchesRowsOnce P.Pages tables.old.shape pages.old pages.new tables.old.catalog tables.old.settings bound }
     ensures keeps { KeepsServed result tables.old tables.new }
+    ensures touches { TouchesForStatement P.Pages tables.old.shape pages.old pages.new tables.old.catalog tables.old.settings bound }
     ensures runs { RunsOverPages P.Pages AnyPage AnyPage (BreaksDatabase P.Pages pages.old tables.old) pages.old pages.new (store_fault_in store_part_of result) }
 {
     match bound {

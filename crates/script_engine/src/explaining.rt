@@ -16,6 +16,7 @@ ghost use Rattle.script_engine.specs.Doing.{DoesReady};
 ghost use Rattle.script_engine.specs.Explaining.{ExplainsOn, is_explaining, word_told};
 ghost use Rattle.script_engine.specs.Fetching.{FetchesForStatement};
 ghost use Rattle.script_engine.specs.Ready.{AreServed, BreaksDatabase, IsReady};
+ghost use Rattle.script_engine.specs.Replies.{IsDoneAs, IsLines};
 ghost use Rattle.script_engine.specs.Roles.{is_explain, role_of};
 
 use crate::tables::Tables;
@@ -38,6 +39,7 @@ pub(crate) fn explain<P: Pages>(
     requires explains { is_explain (role_of stmt.now) ≡ true }
     requires going { (P.state pages.old).ended ≡ false }
     ensures does { IfOk result (λ outcome. IsReady P.Pages pages.old tables.now → DoesReady P.Pages pages.old pages.new tables.now tables.now stmt.now outcome) }
+    ensures lines { IfOk result (IsDoneAs IsLines) }
     ensures same { (P.state pages.new).work ≡ (P.state pages.old).work }
     ensures fetches { FetchesForStatement P.Pages tables.now.shape pages.old pages.new tables.now.catalog tables.now.settings (bound_of tables.now.catalog stmt.now) }
     ensures runs { RunsOverPages P.Pages NoPage AnyPage (BreaksDatabase P.Pages pages.old tables.now) pages.old pages.new (fault_of result) }
@@ -61,6 +63,7 @@ fn explain_bound<P: Pages>(
     requires going { (P.state pages.old).ended ≡ false }
     ensures explains { IfOk result (λ outcome. IsReady P.Pages pages.old tables.now
         → ExplainsOn tables.now.shape (pages_of P.Pages pages.old) tables.now.catalog tables.now.settings.plan statement.now outcome) }
+    ensures lines { IfOk result (IsDoneAs IsLines) }
     ensures same { (P.state pages.new).work ≡ (P.state pages.old).work }
     ensures fetches { FetchesForStatement P.Pages tables.now.shape pages.old pages.new tables.now.catalog tables.now.settings statement.now }
     ensures runs { RunsOverPages P.Pages NoPage AnyPage (BreaksDatabase P.Pages pages.old tables.now) pages.old pages.new (fault_of result) }
@@ -113,6 +116,7 @@ fn explain_query<P: Pages>(
     requires going { (P.state pages.old).ended ≡ false }
     ensures explains { IfOk result (λ outcome. IsReady P.Pages pages.old tables.now
         → ExplainsOn tables.now.shape (pages_of P.Pages pages.old) tables.now.catalog tables.now.settings.plan (bound.Explain select.now) outcome) }
+    ensures lines { IfOk result (IsDoneAs IsLines) }
     ensures same { (P.state pages.new).work ≡ (P.state pages.old).work }
     ensures fetches { FetchesForStatement P.Pages tables.now.shape pages.old pages.new tables.now.catalog tables.now.settings (bound.Explain select.now) }
     ensures runs { RunsOverPages P.Pages NoPage AnyPage (BreaksDatabase P.Pages pages.old tables.now) pages.old pages.new (fault_of result) }

@@ -12,8 +12,10 @@ ghost use Rattle.mdc_sound.specs.StandingTable.{pages_of};
 ghost use Rattle.row_checks.specs.Served.{IsDefined, MayGainIndex, MayLoseIndex};
 ghost use Rattle.statement_rows.specs.RowsOfStatement.{AnyPage};
 ghost use Rattle.script_engine.specs.Defining.{IsNewIndex};
-ghost use Rattle.script_engine.specs.Doing.{DoesStatement, LeavesAll, RunsFullAlone};
+ghost use Rattle.script_engine.specs.Doing.{DoesStatement, LeavesAll, RunsFullAlone, SaysNoRow};
 ghost use Rattle.script_engine.specs.Ready.{AreServed, BreaksDatabase, IsReady, KeepsServed};
+ghost use Rattle.script_engine.specs.Replies.{IsDoneAs, IsReplyToBound};
+ghost use Rattle.script_engine.specs.Touching.{TouchesForStatement};
 
 use crate::tables::Tables;
 use extent_map::SpaceFault;
@@ -41,9 +43,12 @@ pub fn create_index<P: Pages>(
     ensures does { IfOk result (λ outcome. IsReady P.Pages pages.old tables.old → DoesStatement P.Pages pages.old pages.new tables.old tables.new (bound.CreateIndex table index) outcome) }
     ensures refused { (refusal : Refusal) → result ≡ Ok (Outcome.Refused refusal) → LeavesAll P.Pages pages.old pages.new tables.old tables.new }
     ensures named { (refusal : Refusal) → result ≡ Ok (Outcome.Refused refusal) → IsTrue index.unique × (refusal ≡ refusal_of (DuplicateKey index.name)) }
+    ensures kind { IfOk result (IsDoneAs (IsReplyToBound (bound.CreateIndex table index))) }
+    ensures idle { IfOk result (λ outcome. SaysNoRow outcome → LeavesAll P.Pages pages.old pages.new tables.old tables.new) }
     ensures full { IfErr result (λ fault. IfFull fault (λ cap. (cap ≡ tables.old.shape.extents)
         × (IsReady P.Pages pages.old tables.old → RunsFullAlone tables.old.shape (pages_of P.Pages pages.old) tables.old.catalog (bound.CreateIndex table index)))) }
     ensures keeps { KeepsServed result tables.old tables.new }
+    ensures touches { TouchesForStatement P.Pages tables.old.shape pages.old pages.new tables.old.catalog tables.old.settings (bound.CreateIndex table index) }
     ensures runs { RunsOverPages P.Pages AnyPage AnyPage (BreaksDatabase P.Pages pages.old tables.old) pages.old pages.new (store_fault_in store_part_of result) }
 {
     let alloc = tables.alloc;
@@ -94,7 +99,10 @@ pub fn drop_index<P: Pages>(
     requires going { (P.state pages.old).ended ≡ false }
     ensures does { IfOk result (λ outcome. IsReady P.Pages pages.old tables.old → DoesStatement P.Pages pages.old pages.new tables.old tables.new (bound.DropIndex table index) outcome) }
     ensures done { (refusal : Refusal) → result ≡ Ok (Outcome.Refused refusal) → ⊥ }
+    ensures kind { IfOk result (IsDoneAs (IsReplyToBound (bound.DropIndex table index))) }
+    ensures idle { IfOk result (λ outcome. SaysNoRow outcome → LeavesAll P.Pages pages.old pages.new tables.old tables.new) }
     ensures keeps { KeepsServed result tables.old tables.new }
+    ensures touches { TouchesForStatement P.Pages tables.old.shape pages.old pages.new tables.old.catalog tables.old.settings (bound.DropIndex table index) }
     ensures runs { RunsOverPages P.Pages AnyPage AnyPage (BreaksDatabase P.Pages pages.old tables.old) pages.old pages.new (fault_of result) }
 {
     building::drop_index(

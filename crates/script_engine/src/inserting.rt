@@ -19,10 +19,11 @@ ghost use Rattle.row_checks.specs.RowChange.{misfit_cause};
 ghost use Rattle.row_checks.specs.Served.{IsDefined, MayPut};
 ghost use Rattle.statement_rows.specs.RowsAndSpace.{PutsRowsBy};
 ghost use Rattle.statement_rows.specs.RowsOfStatement.{AnyPage, ChangesRowsOf, IsReadyBetween};
-ghost use Rattle.script_engine.specs.Doing.{DoesStatement, LeavesAll, RunsFullAlone};
+ghost use Rattle.script_engine.specs.Doing.{DoesStatement, LeavesAll, RunsFullAlone, SaysNoRow};
 ghost use Rattle.script_engine.specs.Inserting.{IsSaidFirst, SaysNothing, first_refusal, numbered_on, tuple_causes};
 ghost use Rattle.script_engine.specs.NotedRooms.{KeepsOtherRooms, rooms_at};
 ghost use Rattle.script_engine.specs.Ready.{AreServed, BreaksDatabase, IsReady, KeepsServed};
+ghost use Rattle.script_engine.specs.Replies.{IsDoneAs, IsReplyToBound};
 
 use crate::keys::judge_new;
 use crate::tables::Tables;
@@ -47,6 +48,8 @@ pub fn insert<P: Pages>(
     requires going { (P.state pages.old).ended ≡ false }
     ensures does { IfOk result (λ outcome. IsReady P.Pages pages.old tables.old → DoesStatement P.Pages pages.old pages.new tables.old tables.new (bound.Insert table tuples) outcome) }
     ensures refused { (refusal : Refusal) → result ≡ Ok (Outcome.Refused refusal) → LeavesAll P.Pages pages.old pages.new tables.old tables.new }
+    ensures kind { IfOk result (IsDoneAs (IsReplyToBound (bound.Insert table tuples))) }
+    ensures idle { IfOk result (λ outcome. SaysNoRow outcome → LeavesAll P.Pages pages.old pages.new tables.old tables.new) }
     ensures full { IfErr result (λ fault. IfFull fault (λ cap. (cap ≡ tables.old.shape.extents)
         × (IsReady P.Pages pages.old tables.old → RunsFullAlone tables.old.shape (pages_of P.Pages pages.old) tables.old.catalog (bound.Insert table tuples)))) }
     ensures keeps { KeepsServed result tables.old tables.new }
@@ -118,6 +121,8 @@ fn put<P: Pages>(
     requires going { (P.state pages.old).ended ≡ false }
     ensures does { IfOk result (λ outcome. IsReady P.Pages pages.old tables.old → DoesStatement P.Pages pages.old pages.new tables.old tables.new (bound.Insert table tuples) outcome) }
     ensures done { (refusal : Refusal) → result ≡ Ok (Outcome.Refused refusal) → ⊥ }
+    ensures kind { IfOk result (IsDoneAs (IsReplyToBound (bound.Insert table tuples))) }
+    ensures idle { IfOk result (λ outcome. SaysNoRow outcome → LeavesAll P.Pages pages.old pages.new tables.old tables.new) }
     ensures full { IfErr result (λ fault. IfFull fault (λ cap. (cap ≡ tables.old.shape.extents)
         × (IsReady P.Pages pages.old tables.old → RunsFullAlone tables.old.shape (pages_of P.Pages pages.old) tables.old.catalog (bound.Insert table tuples)))) }
     ensures keeps { KeepsServed result tables.old tables.new }

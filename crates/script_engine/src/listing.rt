@@ -11,6 +11,7 @@ ghost use Rattle.statement_rows.specs.RowsOfStatement.{AnyPage};
 ghost use Rattle.script_engine.specs.Fetching.{FetchesForListing};
 ghost use Rattle.script_engine.specs.Listing.{TellsBlocks, blocks_told};
 ghost use Rattle.script_engine.specs.Ready.{AreServed, BreaksDatabase, IsReady};
+ghost use Rattle.script_engine.specs.Replies.{IsDoneAs, IsLines};
 ghost use Rattle.script_engine.specs.Roles.{Lists};
 
 use crate::tables::Tables;
@@ -32,6 +33,7 @@ pub(crate) fn list<P: Pages>(
     requires going { (P.state pages.old).ended ≡ false }
     ensures absent { def_named tables.now.catalog name.now ≡ None → IfOk result (λ outcome. outcome ≡ Outcome.Refused (refusal_of (NoTable name.now))) }
     ensures tells { (def : TableDef) → def_named tables.now.catalog name.now ≡ Some def → IfOk result (λ outcome. IsReady P.Pages pages.old tables.now → TellsBlocks (pages_of P.Pages pages.old) def outcome) }
+    ensures lines { IfOk result (IsDoneAs IsLines) }
     ensures same { (P.state pages.new).work ≡ (P.state pages.old).work }
     ensures fetches { FetchesForListing P.Pages pages.old pages.new tables.now.catalog (Lists name.now) }
     ensures runs { RunsOverPages P.Pages NoPage AnyPage (BreaksDatabase P.Pages pages.old tables.now) pages.old pages.new (fault_of result) }

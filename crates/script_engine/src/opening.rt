@@ -2,12 +2,14 @@
 ghost use Rattle.std.specs.Prelude.{◌≡◌, ◌<◌, false, true, is_none, IsTrue, IfErr, IfOk, List, MatchOption, MatchResult, None, Some};
 ghost use Rattle.std.specs.List.{list_all};
 ghost use Rattle.mdc_words.specs.Faults.{CountsFault};
+ghost use Rattle.store_api.specs.Fetching.{BringsOnly};
 ghost use Rattle.store_api.specs.Works.{Rests};
 ghost use Rattle.store_api.specs.declared.fault.Damage.{Damage};
 ghost use Rattle.extent_map.specs.Owners.{AreRightNotes};
 ghost use Rattle.extent_map.specs.declared.kind.Kind.{Kind};
 ghost use Rattle.mdc_sound.specs.SoundDatabase.{IsSoundDatabase};
-ghost use Rattle.stored_catalog.specs.StoredDefinitions.{AreStored, AreWithinLimits};
+ghost use Rattle.statement_rows.specs.RowsOfStatement.{AnyPage};
+ghost use Rattle.stored_catalog.specs.StoredDefinitions.{AreStored, AreWithinLimits, IsAnyTablePage};
 ghost use Rattle.script_engine.specs.Breaking.{IsExactDamage};
 ghost use Rattle.script_engine.specs.NotedRooms.{AreForgotten};
 ghost use Rattle.script_engine.specs.OnAnyPages.{IsGoingEngine};
@@ -37,8 +39,8 @@ pub struct Stopped<S: Store> {
 }
 
 impl<S: Store> Engine<S> {
-    /// An engine on a store, whose extents are of this shape, with the definitions of its table pages. No page is changed. `Damaged`
-    /// names the first rule that the pages break, with the lowest page that breaks it.
+    /// An engine on a store, whose extents are of this shape, with the definitions of its table pages, and no other page comes to hand for
+    /// them, nor where it stops over sound pages. No page is changed. `Damaged` names the first rule that the pages break, with the lowest page that breaks it.
     pub fn open(alloc: Global, store: S, shape: Shape) -> Result<Engine<S>, Stopped<S>>
         requires going { (S.state store).ended ≡ false }
         requires unmarked { (S.state store).marked ≡ None }
@@ -52,6 +54,9 @@ impl<S: Store> Engine<S> {
         ensures pass { IfOk result (λ engine. engine.pass ≡ Pass.Idle) }
         ensures shape { IfOk result (λ engine. engine.tables.shape ≡ shape) }
         ensures pages { MatchResult result (λ engine. KeepsPages S.Pages store engine.store) (λ stopped. KeepsPages S.Pages store stopped.store) }
+        ensures brings { MatchResult result (λ engine. BringsOnly S.Pages IsAnyTablePage store engine.store)
+            (λ stopped. IsTrue (S.state store).is_told → IsSoundDatabase shape (S.state store).work → BringsOnly S.Pages IsAnyTablePage store stopped.store) }
+        ensures log { MatchResult result (λ engine. BringsOnly S.Pages AnyPage store engine.store) (λ stopped. BringsOnly S.Pages AnyPage store stopped.store) }
         ensures ended { IfErr result (λ stopped. (S.state stopped.store).ended ≡ (S.state store).ended) }
         ensures disk_faults { IfOk result (λ engine. S.disk_faults engine.store ≡ S.disk_faults store) }
         ensures device { IfErr result (λ stopped. CountsFault (stopped.stop ≡ StoreFault.Device) (S.disk_faults store) (S.disk_faults stopped.store)) }

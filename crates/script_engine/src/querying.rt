@@ -10,6 +10,7 @@ ghost use Rattle.statement_rows.specs.RowsOfStatement.{AnyPage};
 ghost use Rattle.script_engine.specs.Doing.{DoesStatement};
 ghost use Rattle.script_engine.specs.Fetching.{FetchesForStatement};
 ghost use Rattle.script_engine.specs.Ready.{AreServed, BreaksDatabase, IsReady};
+ghost use Rattle.script_engine.specs.Replies.{IsDoneAs, IsReplyToBound};
 
 use crate::tables::Tables;
 use mdc_ast::{BoundSelect, Outcome, Reply};
@@ -28,6 +29,7 @@ pub fn query<P: Pages>(
     requires there { IsDefined (def_at tables.now.catalog select.now.table) (MayShowRows select.now.outs select.now.pred) }
     requires going { (P.state pages.old).ended ≡ false }
     ensures does { IfOk result (λ outcome. IsReady P.Pages pages.old tables.now → DoesStatement P.Pages pages.old pages.new tables.now tables.now (bound.Query select.now) outcome) }
+    ensures kind { IfOk result (IsDoneAs (IsReplyToBound (bound.Query select.now))) }
     ensures same { (P.state pages.new).work ≡ (P.state pages.old).work }
     ensures fetches { FetchesForStatement P.Pages tables.now.shape pages.old pages.new tables.now.catalog tables.now.settings (bound.Query select.now) }
     ensures runs { RunsOverPages P.Pages NoPage AnyPage (BreaksDatabase P.Pages pages.old tables.now) pages.old pages.new (fault_of result) }

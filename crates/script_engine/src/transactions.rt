@@ -55,7 +55,7 @@ impl<S: Store> Engine<S> {
     }
 
     /// A BEGIN.
-    #[tactic(auto, using(crate::proofs::LeavingLemmas::leaves_still))]
+    #[tactic(auto, using(crate::proofs::LeavingLemmas::leaves_still, crate::proofs::TouchesForStatementLemmas::held_still, crate::proofs::FetchesForStatementLemmas::brings_none, crate::proofs::FetchesOnceLemmas::once_none))]
     fn begin(&mut self) -> Outcome
         requires may { MayCall S.Pages self.old }
         ensures executes { Executes S.Pages Stmt.Begin (Ok result) self.old self.new }
@@ -69,7 +69,7 @@ impl<S: Store> Engine<S> {
     }
 
     /// A COMMIT.
-    #[tactic(auto, using(crate::proofs::LeavingLemmas::leaves_still))]
+    #[tactic(auto, using(crate::proofs::LeavingLemmas::leaves_still, crate::proofs::TouchesForStatementLemmas::held_still, crate::proofs::FetchesForStatementLemmas::brings_none, crate::proofs::FetchesOnceLemmas::once_none))]
     fn commit(&mut self) -> Result<Outcome, StoreFault>
         requires may { MayCall S.Pages self.old }
         ensures executes { Executes S.Pages Stmt.Commit result self.old self.new }
@@ -84,7 +84,7 @@ impl<S: Store> Engine<S> {
     }
 
     /// A ROLLBACK.
-    #[tactic(auto, using(crate::proofs::LeavingLemmas::leaves_still))]
+    #[tactic(auto, using(crate::proofs::LeavingLemmas::leaves_still, crate::proofs::TouchesForStatementLemmas::held_still, crate::proofs::FetchesForStatementLemmas::brings_none, crate::proofs::FetchesOnceLemmas::once_none))]
     fn roll_back(&mut self) -> Result<Outcome, StoreFault>
         requires may { MayCall S.Pages self.old }
         ensures executes { Executes S.Pages Stmt.Rollback result self.old self.new }
@@ -99,7 +99,7 @@ impl<S: Store> Engine<S> {
     }
 
     /// SET PLAN or SET CURRENT MDC ROLLOUT MODE. It is the run that is set, and not the database: no page changes, and ROLLBACK leaves it.
-    #[tactic(auto, using(crate::proofs::LeavingLemmas::leaves_still))]
+    #[tactic(auto, using(crate::proofs::LeavingLemmas::leaves_still, crate::proofs::TouchesForStatementLemmas::held_still, crate::proofs::FetchesForStatementLemmas::brings_none, crate::proofs::FetchesOnceLemmas::once_none))]
     fn set(&mut self, setting: Setting) -> Outcome
         requires may { MayCall S.Pages self.old }
         ensures executes { (stmt : Stmt) → role_of stmt ≡ Sets setting → Executes S.Pages stmt (Ok result) self.old self.new }
@@ -120,7 +120,7 @@ impl<S: Store> Engine<S> {
     }
 
     /// A statement that changes nothing, in a transaction or outside of one.
-    #[tactic(auto, using(crate::proofs::LeavingLemmas::leaves_still, crate::proofs::FetchesForStatementLemmas::fetches_none, crate::proofs::FetchesForListingLemmas::lists_none))]
+    #[tactic(auto, using(crate::proofs::LeavingLemmas::leaves_still, crate::proofs::TouchesForStatementLemmas::held_still, crate::proofs::FetchesForStatementLemmas::brings_none, crate::proofs::FetchesOnceLemmas::once_none, crate::proofs::FetchesForStatementLemmas::fetches_none, crate::proofs::FetchesForListingLemmas::lists_none))]
     fn read(&mut self, stmt: &Stmt) -> Result<Outcome, StoreFault>
         requires may { MayCall S.Pages self.old }
         requires written { IsWritten stmt.now }
@@ -135,7 +135,7 @@ impl<S: Store> Engine<S> {
     }
 
     /// A statement that may change pages, or whose form isn't built. Its change is committed where no transaction is open.
-    #[tactic(auto, using(crate::proofs::LeavingLemmas::leaves_still, crate::proofs::FetchesForStatementLemmas::fetches_none))]
+    #[tactic(auto, using(crate::proofs::LeavingLemmas::leaves_still, crate::proofs::TouchesForStatementLemmas::held_still, crate::proofs::FetchesForStatementLemmas::brings_none, crate::proofs::FetchesOnceLemmas::once_none, crate::proofs::FetchesForStatementLemmas::fetches_none))]
     fn change(&mut self, stmt: &Stmt) -> Result<Outcome, StoreFault>
         requires may { MayCall S.Pages self.old }
         requires written { IsWritten stmt.now }

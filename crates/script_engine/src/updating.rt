@@ -27,8 +27,9 @@ ghost use Rattle.statement_rows.specs.RowsOfStatement.{AnyPage};
 ghost use Rattle.statement_rows.specs.Turning.{turned_row};
 ghost use Rattle.table_scan.specs.FoundRows.{FindsRows};
 ghost use Rattle.unique_keys.specs.Clashes.{BreaksClash, IsClashPage};
-ghost use Rattle.script_engine.specs.Doing.{DoesStatement, LeavesAll, RunsFullAlone};
-ghost use Rattle.script_engine.specs.Ready.{AreServed, BreaksDatabase, IsNoStandingTable, IsReady, KeepsServed};
+ghost use Rattle.script_engine.specs.Doing.{DoesStatement, LeavesAll, RunsFullAlone, SaysNoRow};
+ghost use Rattle.script_engine.specs.Ready.{AreServed, BreaksDatabase, IsNoSoundTable, IsReady, KeepsServed};
+ghost use Rattle.script_engine.specs.Replies.{IsDoneAs, IsReplyToBound};
 ghost use Rattle.script_engine.specs.SetKeys.{JudgesSet};
 
 use crate::keys::judge_turned;
@@ -60,6 +61,8 @@ pub fn update<P: Pages>(
     requires going { (P.state pages.old).ended ≡ false }
     ensures does { IfOk result (λ outcome. IsReady P.Pages pages.old tables.old → DoesStatement P.Pages pages.old pages.new tables.old tables.new (bound.Update table sets.now pred.now) outcome) }
     ensures refused { (refusal : Refusal) → result ≡ Ok (Outcome.Refused refusal) → LeavesAll P.Pages pages.old pages.new tables.old tables.new }
+    ensures kind { IfOk result (IsDoneAs (IsReplyToBound (bound.Update table sets.now pred.now))) }
+    ensures idle { IfOk result (λ outcome. SaysNoRow outcome → LeavesAll P.Pages pages.old pages.new tables.old tables.new) }
     ensures full { IfErr result (λ fault. IfFull fault (λ cap. (cap ≡ tables.old.shape.extents)
         × (IsReady P.Pages pages.old tables.old → RunsFullAlone tables.old.shape (pages_of P.Pages pages.old) tables.old.catalog (bound.Update table sets.now pred.now)))) }
     ensures keeps { KeepsServed result tables.old tables.new }
@@ -115,7 +118,7 @@ fn find_fitting<P: Pages>(
     ensures keyed { IfOk result (λ hits. HaveReadValues def.now.columns hits.items) }
     ensures fit { IfOk result (λ hits. IsTrue (list_all (λ hit. fits_all def.now.columns hit.row.values) hits.items)) }
     ensures same { (P.state pages.new).work ≡ (P.state pages.old).work }
-    ensures runs { RunsOverPages P.Pages NoPage AnyPage (IsNoStandingTable P.Pages shape pages.old def.now) pages.old pages.new (fault_of result) }
+    ensures runs { RunsOverPages P.Pages NoPage AnyPage (IsNoSoundTable P.Pages shape pages.old def.now) pages.old pages.new (fault_of result) }
 {
     let found = find_by_plan(alloc, def, shape, pages, mode, pred)?;
     if let Some(hit) = first_unfit(def.columns.as_slice(), found.hits.as_slice()) {

@@ -5,7 +5,7 @@ use crate::broken::{damage_of, tried_on};
 use crate::patches::{Patch, bytes_at};
 use crate::scripts::{AMPLE, run_on};
 use mdc_outside::{Host, MemHost};
-use page_store::{FileStore, make};
+use page_store::{FileStore, Untold, make};
 use std::alloc::Global;
 use std::marker::Brand;
 use std::test::Fail;
@@ -24,7 +24,7 @@ fn opened<H: Host + Drop>(alloc: Global, mut host: H) -> Result<FileStore<H>, Fa
     ensures unmarked { IfOk result (λ store. (⟦<FileStore<H> as Pages>⟧.state store).marked ≡ None) }
 {
     host.attach("table", false)?;
-    match FileStore::<H, Brand>::open(alloc, host, 8) {
+    match FileStore::<H, Brand, Untold>::open(alloc, host, Untold, 8) {
         Ok(store) => Ok(store),
         Err(unopened) => Err(unopened.fault)?,
     }
@@ -39,13 +39,13 @@ fn tried_in<H: Host + Drop>(
     script: &[u8],
 ) -> Result<(Option<Damage>, H), Fail> {
     let (came, store) = tried_on(alloc, opened(alloc, host)?, making, patches, script)?;
-    Ok((came.damage, store.close()))
+    Ok((came.damage, store.close().host))
 }
 
 // Runs a script on the file of a host, in which it meets no damage.
 fn run_in<H: Host + Drop>(alloc: Global, host: H, script: &[u8]) -> Result<H, Fail> {
     let (_, store) = run_on(alloc, opened(alloc, host)?, AMPLE, script)?;
-    Ok(store.close())
+    Ok(store.close().host)
 }
 
 // T has the pages 18 to 20, and its row in page 22.

@@ -14,6 +14,15 @@ const INDEXED: &[u8] = b"CREATE TABLE T (A INTEGER, B INTEGER) ORGANIZE BY (A);
 INSERT INTO T VALUES (1, 10), (2, 20), (1, 30);
 CREATE INDEX V ON T (B)";
 
+// The same with 64 rows in the cell of 2, of which that of 1 is no large part.
+const MANY: &[u8] = b"CREATE TABLE T (A INTEGER, B INTEGER) ORGANIZE BY (A);
+INSERT INTO T VALUES (1, 10), (2, 1), (2, 2), (2, 3), (2, 4), (2, 5), (2, 6), (2, 7), (2, 8), (2, 9), (2, 10), (2, 11), (2, 12), (2, 13),
+(2, 14), (2, 15), (2, 16), (2, 17), (2, 18), (2, 19), (2, 20), (2, 21), (2, 22), (2, 23), (2, 24), (2, 25), (2, 26),
+(2, 27), (2, 28), (2, 29), (2, 30), (2, 31), (2, 32), (2, 33), (2, 34), (2, 35), (2, 36), (2, 37), (2, 38), (2, 39),
+(2, 40), (2, 41), (2, 42), (2, 43), (2, 44), (2, 45), (2, 46), (2, 47), (2, 48), (2, 49), (2, 50), (2, 51), (2, 52),
+(2, 53), (2, 54), (2, 55), (2, 56), (2, 57), (2, 58), (2, 59), (2, 60), (2, 61), (2, 62), (2, 63), (2, 64);
+CREATE INDEX V ON T (B)";
+
 // On broken tables a script is answered so up to the damage that is named, or to its end.
 fn comes(
     rt: &(impl Abort + AllocGlobal),
@@ -53,14 +62,24 @@ fn a_rollout_fetches_no_row_page_where_no_record_index_is(rt: HostRuntime) -> Re
 }
 
 #[test]
-fn a_rollout_of_a_cell_fetches_row_pages_of_it_alone(rt: HostRuntime) -> Result<(), Fail> {
-    let broken = [bytes_at(22, 0, b"S")];
-    let script = b"DELETE FROM T WHERE A = 2; LIST BLOCKS T";
+fn a_rollout_that_sweeps_a_record_index_fetches_no_row_page(rt: HostRuntime) -> Result<(), Fail> {
+    let broken = [bytes_at(22, 0, b"S"), bytes_at(24, 0, b"S")];
+    let script = b"DELETE FROM T WHERE A = 1; LIST BLOCKS T; DELETE FROM T; LIST BLOCKS T";
+    let said =
+        b"2 ROWS DELETED\nUSED 1 FREE 1 PENDING 0\n1 ROWS DELETED\nUSED 0 FREE 2 PENDING 0\n";
+    comes(&rt, INDEXED, &broken, script, said, None)
+}
+
+#[test]
+fn a_rollout_of_few_rows_fetches_row_pages_of_their_cell_alone(
+    rt: HostRuntime,
+) -> Result<(), Fail> {
+    let own = [bytes_at(22, 0, b"S")];
+    let script = b"DELETE FROM T WHERE A = 1; LIST BLOCKS T";
+    comes(&rt, MANY, &own, script, b"", damage_of(7, 22))?;
+    let other = [bytes_at(24, 0, b"S")];
     let said = b"1 ROWS DELETED\nUSED 1 FREE 1 PENDING 0\n";
-    comes(&rt, INDEXED, &broken, script, said, None)?;
-    let script = b"DELETE FROM T WHERE A = 1";
-    comes(&rt, INDEXED, &broken, script, b"", damage_of(7, 22))?;
-    Ok(())
+    comes(&rt, MANY, &other, script, said, None)
 }
 
 #[test]
@@ -146,14 +165,43 @@ fn a_plan_fetches_row_pages_of_its_blocks_alone(rt: HostRuntime) -> Result<(), F
     Ok(())
 }
 
-// The row of B = 20 is on page 24.
+// The row of B = 20 is on page 24, and there is no other in its block.
 #[test]
 fn a_place_of_a_record_index_fetches_its_page_alone(rt: HostRuntime) -> Result<(), Fail> {
     let broken = [bytes_at(25, 1, b"S")];
     let script = b"SELECT A FROM T WHERE B = 20";
     comes(&rt, INDEXED, &broken, script, b"A\n2\n1 ROWS\n", None)?;
-    let script = b"SELECT A FROM T WHERE A = 2";
-    comes(&rt, INDEXED, &broken, script, b"", damage_of(7, 25))?;
+    Ok(())
+}
+
+// The rows of the cell of 1 are on page 22, so that page 23 isn't met, whatever finds them.
+const WHOLE_BLOCKS: &[u8] = b"SELECT B FROM T WHERE A = 1;
+SELECT SUM(B) FROM T;
+UPDATE T SET B = 11 WHERE A = 1 AND B < 20;
+SET PLAN SCAN;
+SELECT B FROM T WHERE B > 10";
+
+const WHOLE_BLOCKS_SAID: &[u8] = b"B
+10
+30
+2 ROWS
+SUM(B)
+60
+1 ROWS
+1 ROWS UPDATED
+OK
+B
+11
+20
+30
+3 ROWS
+";
+
+#[test]
+fn a_block_is_read_no_further_than_its_last_row(rt: HostRuntime) -> Result<(), Fail> {
+    let behind = [bytes_at(23, 0, b"S")];
+    comes(&rt, TABLE, &behind, WHOLE_BLOCKS, WHOLE_BLOCKS_SAID, None)?;
+    stops(&rt, b"SELECT B FROM T WHERE A = 1", b"")?;
     Ok(())
 }
 

@@ -11,37 +11,48 @@ use Rattle.mdc_ast.specs.declared.statement.Stmt.TheVariants as statement
 use Rattle.mdc_ast.specs.Reading.{Statement}
 use Rattle.mdc_ast.specs.Reading as reading
 use Rattle.mdc_sound.specs.SoundDatabase.{IsSoundDatabase}
+use Rattle.statement_meaning.specs.Binding.{bound_of}
 use Rattle.statement_meaning.specs.Built.{are_built}
 use Rattle.store_api.specs.Calls.{TellsPart, continued}
+use Rattle.store_api.specs.Fetching.{Brought}
 use Rattle.store_api.specs.StoreState.{StoreState}
 use Rattle.store_api.specs.Works as works
 use Rattle.store_api.specs.declared.fault.Damage.{Damage}
 use Rattle.store_api.specs.declared.pages.Pages.{Ghosts}
 use Rattle.store_api.specs.declared.shape.Shape.{Shape}
+use Rattle.store_api.proofs.FetchingLemmas.{brought_none}
 use Rattle.table_trees.specs.ToldPages.{PageList}
+use Rattle.script_engine.specs.Fetching.{FetchesForListing, FetchesForStatement}
 use Rattle.script_engine.specs.Held.{HeldPages, StepsOnPages}
 use Rattle.script_engine.specs.Leaving.{MayBeLeft}
 use Rattle.script_engine.specs.Leaving as leaving
 use Rattle.script_engine.specs.OnAnyPages.{ExecutesOnAny, IsGoingEngine, MayBeLeftOnAny, judged_pages}
 use Rattle.script_engine.specs.Resting as resting
+use Rattle.script_engine.specs.Roles.{role_of}
 use Rattle.script_engine.specs.Serving.{IsReadyEngine, MayCall, held_by}
 use Rattle.script_engine.specs.Turns.{LeavesCommitted, LeavesOutside}
 use Rattle.script_engine.specs.declared.engine.Engine.{Engine}
 use Rattle.store_api.specs.declared.fault.StoreFault.{StoreFault}
 use Rattle.store_api.specs.declared.fault.StoreFault.TheVariants.{Damaged, Device}
 use Rattle.stored_catalog.specs.StoredDefinitions.{AreStored}
-use Rattle.session.specs.script.Answering.{AnswersItem, AnswersSo, MayBeKept}
+use Rattle.session.specs.script.Answering.{AnswersItem, AnswersSo, FetchesItem, MayBeKept}
 use Rattle.session.specs.script.AnyStops.{AreJudged, NeedsTables}
 use Rattle.session.specs.script.Engines.{IsAnyEngine, IsSoundEngine}
 use Rattle.session.specs.script.Going.{MeetsItem, still}
 use Rattle.session.specs.script.Leaving.{AreServedPages, done, stopped}
 use Rattle.session.specs.script.TheWays.{on_any, on_sound}
+use Rattle.session.proofs.FetchedItemsLemmas.{fetches_item}
+use Rattle.session.proofs.FetchedRunsLemmas.{fetches_same}
 use Rattle.session.proofs.StopsLemmas.{device_stop, names_damage}
 
 -- what is used of the execution of a statement, on a sound engine and on any
 pub record HasExecuted {S : Type 0} (g : Ghosts S) (stmt : Stmt) (result : Result Outcome StoreFault) (old new : Engine S) : Type 0 where
   pub steps : IfOk result (λ outcome. IsReadyEngine g old → StepsOnPages old.tables.shape (held_by g old) stmt outcome (held_by g new) × IsReadyEngine g new)
   pub leaves : IsReadyEngine g old → LeavesCommitted g stmt old new
+  pub fetches : IsReadyEngine g old → FetchesForStatement g old.tables.shape old.store new.store old.tables.catalog old.tables.settings (bound_of old.tables.catalog stmt)
+  pub lists : IsReadyEngine g old → FetchesForListing g old.store new.store old.tables.catalog (role_of stmt)
+  pub pages : List ℕ
+  pub brought : Brought g pages old.store new.store
   pub any : IsGoingEngine g old → ExecutesOnAny g stmt result old new
   pub may : OnOk result (MayCall g new)
   pub damaged : (damage : Damage) → result ≡ Err (Damaged damage) → IsReadyEngine g old → ⊥
@@ -115,12 +126,17 @@ module _ {S : Type 0} (g : Ghosts S) where
     built_at stmt stop any needs = any.built refl
 
   module _ (stmt : Stmt) (old new : Engine S) (may : MayCall g old) where
+    -- what it brought to hand, from a sound engine on
+    fetched_on_sound : (result : Result Outcome StoreFault) → HasExecuted g stmt result old new → IsReadyEngine g old → FetchesItem (on_sound old.tables.shape) g (Statement stmt) old new
+    fetched_on_sound result executes ready = fetches_item g stmt old new ready executes.pages executes.brought (executes.fetches ready) (executes.lists ready)
+
     -- by a sound engine
     answers_sound : (result : Result Outcome StoreFault) → HasExecuted g stmt result old new → (ready : IsReadyEngine g old) → AnswersSo (on_sound old.tables.shape) (IsSoundEngine g old.tables.shape) g (Statement stmt) result old new
     answers_sound (Ok outcome) executes ready =
         let steps = executes.steps ready in
         record {
           met = met_on_sound stmt outcome old new ready steps.1 steps.0 executes.shape;
+          fetches = fetched_on_sound (Ok outcome) executes ready;
           ready = record { ready = steps.1; is_shape = executes.shape };
           time = (executes.any (going_when_ready old may ready)).answered;
         }
@@ -130,22 +146,25 @@ module _ {S : Type 0} (g : Ghosts S) where
         record {
           base = kept_of_sound stmt (held_by g old) (g.state new.store).base served leaves.base;
           time = over_time_wider leaves.time (λ left told is. ((is.0.0, is.0.1, kept_of_sound stmt (held_by g old) is.0.0 served is.0.2), is.1));
+          fetches = fetched_on_sound (Err stop) executes ready;
           stops = tt;
         }
 
     -- by any
-    answers_any : (result : Result Outcome StoreFault) → ExecutesOnAny g stmt result old new → new.tables.shape ≡ old.tables.shape → (g.state new.store).is_told ≡ (g.state old.store).is_told
+    answers_any : (result : Result Outcome StoreFault) → ExecutesOnAny g stmt result old new → FetchesItem (on_any (g.state old.store).is_told old.tables.shape) g (Statement stmt) old new → new.tables.shape ≡ old.tables.shape → (g.state new.store).is_told ≡ (g.state old.store).is_told
         → AnswersSo (on_any (g.state old.store).is_told old.tables.shape) (IsAnyEngine g (g.state old.store).is_told old.tables.shape) g (Statement stmt) result old new
-    answers_any (Ok outcome) any shape is_told = record {
+    answers_any (Ok outcome) any fetches shape is_told = record {
       met = record { meets = any.steps.0; rests = resting.nothing };
+      fetches = fetches;
       ready = record { going = any.steps.1; is_told = is_told; is_shape = shape };
       time = any.answered;
     }
-    answers_any (Err stop) any shape is_told =
+    answers_any (Err stop) any fetches shape is_told =
         let told = (g.state old.store).is_told in
         record {
           base = kept_of_any told old.tables.shape stmt (held_by g old) (g.state new.store).base any.base;
           time = over_time_wider any.stopped (λ left heard is. ((is.0.0, is.0.1, kept_of_any told old.tables.shape stmt (held_by g old) is.0.0 is.0.2), is.1));
+          fetches = fetches;
           stops = record {
             kept = λ other. any.kept (λ is. other (device_stop stop is));
             damage = λ damage is tells. record {
@@ -169,12 +188,13 @@ module _ {S : Type 0} (g : Ghosts S) where
       any = λ told shape engine.
           subst (λ (b : Bool). AnswersSo (on_any b shape) (IsAnyEngine g b shape) g (Statement stmt) result old new) engine.is_told
           (subst (λ (s : Shape). AnswersSo (on_any (g.state old.store).is_told s) (IsAnyEngine g (g.state old.store).is_told s) g (Statement stmt) result old new) engine.is_shape
-          (answers_any result (executes.any engine.going) executes.shape executes.outside.is_told));
+          (answers_any result (executes.any engine.going) (record { pages = executes.pages; brings = tt; brought = executes.brought }) executes.shape executes.outside.is_told));
       may = executes.may;
       going = λ is_going other. going_on result executes.may (executes.any is_going) other;
       damaged = executes.damaged;
       shape = executes.shape;
       outside = executes.outside;
+      log = record { pages = executes.pages; goes_on = executes.brought.log };
       at_rest = executes.rests;
     }
 
@@ -204,15 +224,17 @@ module _ {S : Type 0} (g : Ghosts S) where
         stored = sound.ready.work.stored;
         rests = resting.nothing;
       });
+      fetches = record { pages = []; brings = refl; brought = brought_none };
       ready = sound;
       time = over_time_none;
     };
-    any = λ told shape is. record { met = record { meets = (refl, refl); rests = resting.nothing }; ready = is; time = over_time_none };
+    any = λ told shape is. record { met = record { meets = (refl, refl); rests = resting.nothing }; fetches = record { pages = []; brings = refl; brought = brought_none }; ready = is; time = over_time_none };
     may = may;
     going = λ is other. may.going;
     damaged = λ damage is. absurd (cc);
     shape = refl;
     outside = leaves_outside_none (said.Refused refusal) engine;
+    log = fetches_same refl;
     at_rest = λ rests. rests;
   }
 

@@ -20,6 +20,8 @@ use Rattle.file_verdict.specs.Resting.{LeavesSince}
 use Rattle.file_verdict.specs.SoundFile.{StatesExtents}
 use Rattle.file_verdict.proofs.RestingLemmas.{IsLeftByStore, TellsNow, each_since, kept_beside, leaves_since, rests_on_file, rests_refused}
 use Rattle.file_verdict.proofs.SoundFilesLemmas.{states_standing}
+use Rattle.session.specs.script.Fetching.{FetchesInRun}
+use Rattle.session.proofs.FetchedRunsLemmas.{fetches_nothing}
 use Rattle.session.specs.script.Going.{Goes, Stage}
 use Rattle.session.specs.script.Leaving.{AreServedPages, LeftByServing}
 use Rattle.session.specs.Stops.{IsOfScript}
@@ -53,15 +55,16 @@ early_of_script stop (inr is) = subst IsOfScript (sym is) tt
 
 module _ {D : Type 0} (d : disk.Ghosts D) where
   -- a run on pages that a file stands for
-  record RunsFrom (pages : PageList) (before : File) (said : List ℕ) (script left : Option (List ℕ)) (old new : D) (result : Result Served Stop) : Type 0 where
+  record RunsFrom (pages : PageList) (before : File) (said : List ℕ) (script left : Option (List ℕ)) (old new : D) (result : Result Served Stop) (log now : Option (List ℕ)) : Type 0 where
     pub shape : Shape
     pub states_extents : StatesExtents before.bytes shape
     pub run : RunsItems shape pages said script left (d.beside new).tape result
+    pub fetches : FetchesInRun shape run.held run.items run.in_hand run.stages log now
     pub leaves : LeavesSince d before said (LeftByRun shape run.held run.stages run.outcomes run.in_hand said) old new
 
-  on_file : (before : File) (said : List ℕ) (script left : Option (List ℕ)) (old new : D) (result : Result Served Stop) → RunsFrom (pages_in before.bytes) before said script left old new result
-      → RunsOnFile d before said script left old new result
-  on_file before said script left old new result runs = record { shape = runs.shape; states_extents = runs.states_extents; run = runs.run; leaves = runs.leaves }
+  on_file : (before : File) (said : List ℕ) (script left : Option (List ℕ)) (old new : D) (result : Result Served Stop) (log now : Option (List ℕ))
+      → RunsFrom (pages_in before.bytes) before said script left old new result log now → RunsOnFile d before said script left old new result log now
+  on_file before said script left old new result log now runs = record { shape = runs.shape; states_extents = runs.states_extents; run = runs.run; fetches = runs.fetches; leaves = runs.leaves }
 
   -- ---- a store was opened
 
@@ -85,17 +88,18 @@ module _ {D : Type 0} (d : disk.Ghosts D) where
       (λ none. inr (record { pages = None; left = none; kind = λ is same. absurd (let never = is in cc) }))
 
   -- a run on the store that was opened on a file is one on the file
-  pub run_on_file : {S : Type 0} (g : pages.Ghosts S) (store : S) (before : File) (said : List ℕ) (script left : Option (List ℕ)) (old opened new : D) (shape : Shape) (result : Result Served Stop)
-      → StatesExtents before.bytes shape → ServesStore g d shape said script left store new result → (g.state store).base ≡ pages_in before.bytes
+  pub run_on_file : {S : Type 0} (g : pages.Ghosts S) (store : S) (before : File) (said : List ℕ) (script left : Option (List ℕ)) (old opened new : D) (shape : Shape) (result : Result Served Stop) (log now : Option (List ℕ))
+      → StatesExtents before.bytes shape → ServesStore g d shape said script left store new result now → (g.state store).fetched ≡ log → (g.state store).base ≡ pages_in before.bytes
       → TellsNow d old → d.file old ≡ Some before → (d.beside old).tape ≡ Some said → (origin : D) × StandsSince d.clock d.moment before said old origin opened → g.clock store ≡ d.clock opened → d.clock opened ≤ d.clock new
       → ((t : ℕ) (left : Option PageList) (heard : List ℕ) → g.left store t left heard → (image : List ℕ) × d.moment opened t image heard)
-      → LeavesBaseSince (d.moment opened) (g.left store) before.bytes said → RunsOnFile d before said script left old new result
-  run_on_file g store before said script left old opened new shape result states serves base now_old is told crash same_clock later by_host rests =
-      let Runs : PageList → Type 0 = λ pages. RunsFrom pages before said script left old new result in
-      on_file before said script left old new result (subst Runs base (record {
+      → LeavesBaseSince (d.moment opened) (g.left store) before.bytes said → RunsOnFile d before said script left old new result log now
+  run_on_file g store before said script left old opened new shape result log now states serves log_is base now_old is told crash same_clock later by_host rests =
+      let Runs : PageList → Type 0 = λ pages. RunsFrom pages before said script left old new result log now in
+      on_file before said script left old new result log now (subst Runs base (record {
         shape = shape;
         states_extents = states;
         run = serves.run;
+        fetches = subst (λ (first : Option (List ℕ)). FetchesInRun shape serves.run.held serves.run.items serves.run.in_hand serves.run.stages first now) log_is serves.fetches;
         leaves = inl (rests_on_file d g store before said (LeftByRun shape serves.run.held serves.run.stages serves.run.outcomes serves.run.in_hand said) old opened new
             (λ t image heard early now.
             left_opened g store shape serves.run.held serves.run.stages serves.run.outcomes serves.run.in_hand before.bytes said t image heard serves.served serves.run.opened.base base (serves.since t early image heard now))
@@ -120,10 +124,11 @@ module _ {D : Type 0} (d : disk.Ghosts D) where
       }) (λ first. first) is told leaves)
 
   -- a run that stopped before any item, on a well file
-  pub refused_on_file : (laws : ListLaws) (before : File) (said : List ℕ) (script : Option (List ℕ)) (old new : D) (First : Type 0) (stop : Stop) → (well : IsWell before.bytes)
+  pub refused_on_file : (laws : ListLaws) (before : File) (said : List ℕ) (script : Option (List ℕ)) (old new : D) (First : Type 0) (stop : Stop) (log now : Option (List ℕ)) → now ≡ log → (well : IsWell before.bytes)
       → (stop ≡ why.Device) ⊎ (stop ≡ why.Memory) → TellsNow d old → d.file old ≡ Some before → (d.beside old).tape ≡ Some said
-      → OpensOf d old new ⊎ (First × LeavesOf d CouldBeLeft old new) → RunsOnFile d before said script script old new (Err stop)
-  refused_on_file laws before said script old new First stop well is_one now_old is told leaves =
+      → OpensOf d old new ⊎ (First × LeavesOf d CouldBeLeft old new) → RunsOnFile d before said script script old new (Err stop) log now
+  unfolding items_on_lists
+  refused_on_file laws before said script old new First stop log now quiet well is_one now_old is told leaves =
       let held : HeldPages = record { base = pages_in before.bytes; work = pages_in before.bytes; defs = well.served.defs; open_ = false; settings = first_settings; pass = Idle } in
       let tape : (d.beside new).tape ≡ Some (said ++ []) = ap (λ b. b.tape) (kept_beside d old new First leaves) ∙ (told ∙ ap Some (sym (append-nil said))) in
       let run : RunsItems well.shape (pages_in before.bytes) said script script (d.beside new).tape (Err stop) =
@@ -134,14 +139,15 @@ module _ {D : Type 0} (d : disk.Ghosts D) where
         shape = well.shape;
         states_extents = well.states;
         run = run;
+        fetches = fetches_nothing well.shape held quiet;
         leaves = leaves_refused before said well.shape run.held run.stages run.outcomes run.in_hand old new First well.formed well.states well.served run.opened.base now_old is told leaves;
       }
 
   -- ---- each image is of a kind
 
   -- after a run each image is well, where each was before
-  pub stays_well : (before after : File) (said : List ℕ) (script left : Option (List ℕ)) (old new : D) (result : Result Served Stop) → TellsNow d old → TellsNow d new → ReachesBack d.clock d.moment new
-      → d.file old ≡ Some before → (d.beside old).tape ≡ Some said → d.file new ≡ Some after → AreWell before → RunsOnFile d before said script left old new result → AreWell after
+  pub stays_well : (before after : File) (said : List ℕ) (script left : Option (List ℕ)) (old new : D) (result : Result Served Stop) {log now : Option (List ℕ)} → TellsNow d old → TellsNow d new → ReachesBack d.clock d.moment new
+      → d.file old ≡ Some before → (d.beside old).tape ≡ Some said → d.file new ≡ Some after → AreWell before → RunsOnFile d before said script left old new result log now → AreWell after
   stays_well before after said script left old new result now_old now_new back is told is_after well runs =
       each_since d IsWell before after said (said ++ runs.run.more) old new (LeftByRun runs.shape runs.run.held runs.run.stages runs.run.outcomes runs.run.in_hand said) now_old now_new back is told is_after runs.run.tape_is
       (λ image heard run. well_left runs.shape runs.run.held runs.run.stages runs.run.outcomes runs.run.in_hand said image heard run) well runs.leaves

@@ -16,6 +16,7 @@ use Rattle.store_api.specs.declared.shape.Shape.{Shape}
 use Rattle.page_store.specs.Standing.{pages_in}
 use Rattle.script_engine.specs.Held.{HeldPages, StandsForSession}
 use Rattle.session.proofs.ToldLemmas.{told_behind}
+use Rattle.session.specs.script.Fetching.{FetchesInRun}
 use Rattle.session.specs.script.Going.{GoesOnPages, Stage}
 use Rattle.session.specs.script.Leaving.{AreServedPages, LeftByServing}
 use Rattle.session.specs.script.Lists.{GoesOnLists}
@@ -44,7 +45,7 @@ opened_session shape pages held db opened stands = record {
 }
 
 -- the run over the lists of rows for which the pages stand
-pub items_on_lists : (laws : ListLaws) (shape : Shape) (pages : PageList) (said : List ℕ) (script left tape : Option (List ℕ)) (result : Result Served Stop) (held : HeldPages) → AreServedPages shape pages → IsOpened pages held
+unfoldable pub items_on_lists : (laws : ListLaws) (shape : Shape) (pages : PageList) (said : List ℕ) (script left tape : Option (List ℕ)) (result : Result Served Stop) (held : HeldPages) → AreServedPages shape pages → IsOpened pages held
     → (items : List Item) (outcomes : List Outcome) (stages : List Stage) (in_hand : List Item) → GoesOnPages shape held items outcomes stages → (more : List ℕ) → tape ≡ Some (said ++ more)
     → ((damage : Damage) → result ≡ Err (why.Damaged damage) → ⊥) → IfErr result IsOfScript → IfSome script (λ script. EndsScript script left more items in_hand outcomes result) → RunsItems shape pages said script left tape result
 items_on_lists laws shape pages said script left tape result held served opened items outcomes stages in_hand goes more tape_is undamaged of_script ends =
@@ -82,15 +83,16 @@ reopens : {shape : Shape} {held : HeldPages} {stages : List Stage} {outcomes : L
 reopens left = let none : None ≡ Some left.pages = left.reopens in cc
 
 -- a run on a store, as the host has it to which the store was closed
-pub run_on_host : {S D : Type 0} (g : pages.Ghosts S) (d : disk.Ghosts D) (laws : ListLaws) (shape : Shape) (said : List ℕ) (script left : Option (List ℕ)) (old last : S) (new : D) (result : Result Served Stop)
-    → RunsOnStore g shape script left old last result → (g.state old).told ≡ Some said → (d.beside new).tape ≡ (g.state last).told → IfErr result IsOfScript
+pub run_on_host : {S D : Type 0} (g : pages.Ghosts S) (d : disk.Ghosts D) (laws : ListLaws) (shape : Shape) (said : List ℕ) (script left : Option (List ℕ)) (old last : S) (new : D) (result : Result Served Stop) (now : Option (List ℕ))
+    → RunsOnStore g shape script left old last result → (g.state old).told ≡ Some said → (d.beside new).tape ≡ (g.state last).told → now ≡ (g.state last).fetched → IfErr result IsOfScript
     → ((t : ℕ) (image heard : List ℕ) → d.moment new t image heard → IsLeftSince (λ pages heard. ⊥) shape (g.left last t) image heard)
-    → ServesStore g d shape said script left old new result
+    → ServesStore g d shape said script left old new result now
 unfolding items_on_lists
-run_on_host g d laws shape said script left old last new result runs told tape_is of_script closes = record {
+run_on_host g d laws shape said script left old last new result now runs told tape_is log_is of_script closes = record {
   served = runs.served;
   run = items_on_lists laws shape (g.state old).base said script left (d.beside new).tape result runs.held runs.served runs.opened runs.items runs.outcomes runs.stages runs.in_hand runs.goes runs.said
       (tape_is ∙ told_behind (g.state old).told (g.state last).told runs.said said told runs.told) runs.undamaged of_script runs.ends;
+  fetches = subst (λ (log : Option (List ℕ)). FetchesInRun shape runs.held runs.items runs.in_hand runs.stages (g.state old).fetched log) (sym log_is) runs.fetches;
   since = λ t early image heard now.
       left_since g.clock g.left (LeftByServing shape runs.held runs.stages runs.outcomes runs.in_hand said) shape old last t image heard (runs.time said told) early reopens (closes t image heard now);
 }

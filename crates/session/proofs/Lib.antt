@@ -7,6 +7,8 @@ pub mod AskedEndsLemmas
 pub mod AskingLemmas
 pub mod CausesLemmas
 pub mod EndingLemmas
+pub mod FetchedItemsLemmas
+pub mod FetchedRunsLemmas
 pub mod FileRunsLemmas
 pub mod FirstEndsLemmas
 pub mod FirstLeftLemmas

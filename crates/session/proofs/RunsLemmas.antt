@@ -12,6 +12,8 @@ use Rattle.session.specs.script.Going.{Goes, Stage, held_last, nothing}
 use Rattle.session.specs.script.Leaving.{AreKept, LeftBy, done}
 use Rattle.session.specs.script.Turning.{RunsItems}
 use Rattle.session.specs.script.Ways.{Way}
+use Rattle.session.specs.script.Fetching.{FetchesByItems}
+use Rattle.session.proofs.FetchedRunsLemmas.{fetches_none, fetches_then}
 use Rattle.session.proofs.GoingLemmas.{goes_then, length-stages}
 use Rattle.session.proofs.LeftLemmas.{kept_then, left_then, left_wider}
 use Rattle.session.proofs.ToldLemmas.{takes_more, takes_nothing, told_behind}
@@ -21,6 +23,7 @@ module _ {S : Type 0} (way : Way) (g : Ghosts S) where
   pub runs_none : (engine : Engine S) → RunsItems way g [] [] [] [] [] engine engine
   runs_none engine = record {
     goes = nothing;
+    fetches = fetches_none (held_by g engine) (g.state engine.store).fetched;
     told = takes_nothing (g.state engine.store).told;
     base = (0, done (omega arith) (held_by g engine) refl refl);
     time = λ before told. over_time_none;
@@ -34,6 +37,7 @@ module _ {S : Type 0} (way : Way) (g : Ghosts S) where
       let kept = subst (λ (h : HeldPages). AreKept way.Stopped h following in_hand (g.state new.store).base second.base.0) held second.base.1 in
       record {
         goes = goes_then first.goes (subst (λ (h : HeldPages). Goes way.Met h more others following) held second.goes);
+        fetches = fetches_then first.fetches (subst (λ (h : HeldPages). FetchesByItems way.Brings h more in_hand following (g.state mid.store).fetched (g.state new.store).fetched) held second.fetches);
         told = takes_more (g.state old.store).told (g.state mid.store).told (g.state new.store).told (texts outcomes) said first.told second.told;
         base = (length stages + second.base.0, kept_then stages kept);
         time = λ before told.

@@ -94,6 +94,7 @@ module _ {S : Type 0} (way : Way) {Once : HeldPages → HeldPages → Type 0} (i
     told = runs.told;
     ends = ends;
     last = last;
+    fetches = runs.fetches;
     stops = stops;
     base = runs.base;
     time = runs.time;

@@ -5,19 +5,22 @@ use Rattle.mdc_words.proofs.TimeLemmas.{over_time_then, over_time_wider}
 use Rattle.statement_meaning.specs.Session.{first_settings}
 use Rattle.statement_meaning.specs.declared.pass.Pass.TheVariants.{Idle}
 use Rattle.mdc_outside.specs.Outside.{Takes}
+use Rattle.store_api.specs.Fetching.{BringsOnly}
 use Rattle.store_api.specs.declared.fault.Damage.{Damage}
 use Rattle.store_api.specs.declared.pages.Pages as pages
 use Rattle.store_api.specs.declared.shape.Shape.{Shape}
 use Rattle.table_trees.specs.ToldPages.{PageList}
 use Rattle.mdc_sound.specs.SoundDatabase.{KeepAllRules}
-use Rattle.stored_catalog.specs.StoredDefinitions.{AreStored}
+use Rattle.stored_catalog.specs.StoredDefinitions.{AreStored, IsAnyTablePage}
 use Rattle.script_engine.specs.Held.{HeldPages}
 use Rattle.script_engine.specs.Opening.{IsSoundStore, KeepsPages}
 use Rattle.script_engine.specs.Serving.{IsReadyEngine, held_by}
 use Rattle.script_engine.specs.declared.engine.Engine.{Engine}
 use Rattle.store_api.specs.declared.fault.StoreFault.{StoreFault}
 use Rattle.store_api.specs.declared.fault.StoreFault.TheVariants as fault
+use Rattle.session.proofs.FetchedRunsLemmas.{fetches_none}
 use Rattle.session.proofs.ToldLemmas.{takes_nothing}
+use Rattle.session.specs.script.Fetching.{BringsForItem, FetchesByItems}
 use Rattle.session.specs.script.Going.{Goes}
 use Rattle.session.specs.script.Leaving.{AreServedPages, ReopensAlways}
 use Rattle.session.specs.script.Serving.{RunsScript, TakesScript}
@@ -81,9 +84,9 @@ module _ {S : Type 0} (g : pages.Ghosts S) where
 
   -- a session that was served on an engine that was opened
   pub served_on_store : (script left : Option (List ℕ)) (result : Result Served Stop) (shape : Shape) (old : S) (opened new : Engine S) → IsSoundStore g shape old → IsReadyEngine g opened
-      → KeepsPages g old opened.store → opened.is_open ≡ false → opened.tables.settings ≡ first_settings → opened.pass ≡ Idle → opened.tables.shape ≡ shape → RunsScript g script left opened new result
+      → KeepsPages g old opened.store → BringsOnly g IsAnyTablePage old opened.store → opened.is_open ≡ false → opened.tables.settings ≡ first_settings → opened.pass ≡ Idle → opened.tables.shape ≡ shape → RunsScript g script left opened new result
       → ((damage : Damage) → result ≡ Err (why.Damaged damage) → ⊥) → RunsOnStore g shape script left old new.store result
-  served_on_store script left result shape old opened new sound ready keeps closed settings pass same_shape runs undamaged =
+  served_on_store script left result shape old opened new sound ready keeps brings closed settings pass same_shape runs undamaged =
       let work : (g.state opened.store).work ≡ (g.state old).base = keeps.work ∙ sym sound.committed in
       let served = served_ready opened (g.state old).base keeps.base ready in
       let on_store : RunsOnStore g opened.tables.shape script left old new.store result = record {
@@ -95,6 +98,11 @@ module _ {S : Type 0} (g : pages.Ghosts S) where
         stages = runs.stages;
         in_hand = runs.in_hand;
         goes = runs.goes;
+        fetches = record {
+          read = brings.pages;
+          table_pages = brings.kind;
+          by_items = subst (λ (log : Option (List ℕ)). FetchesByItems (BringsForItem opened.tables.shape) (held_by g opened) runs.items runs.in_hand runs.stages log (g.state new.store).fetched) brings.brought.log runs.fetches;
+        };
         said = runs.said;
         told = subst (λ (o : Option (List ℕ)). Takes o runs.said (g.state new.store).told) keeps.told runs.told;
         undamaged = undamaged;
@@ -106,9 +114,9 @@ module _ {S : Type 0} (g : pages.Ghosts S) where
       subst (λ (s : Shape). RunsOnStore g s script left old new.store result) same_shape on_store
 
   -- an engine that stopped as it was opened
-  pub stopped_on_store : (script : Option (List ℕ)) (stop : StoreFault) (shape : Shape) (old new : S) → IsSoundStore g shape old → KeepsPages g old new
+  pub stopped_on_store : (script : Option (List ℕ)) (stop : StoreFault) (shape : Shape) (old new : S) → IsSoundStore g shape old → KeepsPages g old new → BringsOnly g IsAnyTablePage old new
       → ((damage : Damage) → stop ≡ fault.Damaged damage → ⊥) → RunsOnStore g shape script script old new (Err (stop_of_fault stop))
-  stopped_on_store script stop shape old new sound keeps undamaged =
+  stopped_on_store script stop shape old new sound keeps brings undamaged =
       let served = served_sound shape old sound in
       let held : HeldPages = record { base = (g.state old).base; work = (g.state old).base; defs = served.defs; open_ = false; settings = first_settings; pass = Idle } in
       record {
@@ -120,6 +128,11 @@ module _ {S : Type 0} (g : pages.Ghosts S) where
         stages = [];
         in_hand = [];
         goes = Goes.nothing;
+        fetches = record {
+          read = brings.pages;
+          table_pages = brings.kind;
+          by_items = subst (λ (now : Option (List ℕ)). FetchesByItems (BringsForItem shape) held [] [] [] now (g.state new).fetched) brings.brought.log (fetches_none held (g.state new).fetched);
+        };
         said = [];
         told = subst (λ (tape : Option (List ℕ)). Takes (g.state old).told [] tape) (sym keeps.told) (takes_nothing (g.state old).told);
         undamaged = λ damage is. not_damaged stop undamaged damage (Err (stop_of_fault stop)) refl is;

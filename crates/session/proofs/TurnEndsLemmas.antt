@@ -31,6 +31,7 @@ use Rattle.session.specs.script.Turning.{EndsTold, RunsItems, StopsTurn, TurnsIt
 use Rattle.session.specs.script.Ways.{Way}
 use Rattle.session.specs.declared.stop.Stop.{Stop}
 use Rattle.session.proofs.AnsweringLemmas.{served_base}
+use Rattle.session.proofs.FetchedRunsLemmas.{fetches_more_then, fetches_same}
 use Rattle.session.proofs.GoingLemmas.{end_of-stage_then, stage_then, within_behind}
 use Rattle.session.proofs.StopsLemmas.{counts_device, counts_none, device_stop, engine_stops_turn, names_damage, never_unsaid, of_device, telling_names_no_damage, telling_not_device, telling_stops_turn}
 use Rattle.session.proofs.ToldLemmas.{same-tells_more, takes-tells, tells_more_then}
@@ -56,7 +57,7 @@ module _ {S : Type 0} (way : Way) {Once : HeldPages → HeldPages → Type 0} (i
         part = tells.err.0;
         unsaid = tells.err.1.0;
         text = tells.err.1.1;
-        runs = runs_one way g (left_ready old ready) (left_ready mid answers.ready) answers tells.held same takes tells.time;
+        runs = runs_one way g (left_ready old ready) (left_ready mid answers.ready) answers tells.held same takes (ap (λ s. s.fetched) tells.err.2) tells.time;
         stops = is_way.still (held_by g old) (still (held_by g new) ∷ []) stop (g.state new.store).base (λ damage is. telling_names_no_damage stop damage tells.cause is) refl;
       })
 
@@ -67,16 +68,17 @@ module _ {S : Type 0} (way : Way) {Once : HeldPages → HeldPages → Type 0} (i
     outcome = outcome;
     noted = noted;
     stage = still (held_by g new);
-    runs = runs_one way g (left_ready old ready) (left_ready mid answers.ready) answers tells.held same (takes-tells (g.state mid.store) (g.state new.store) (outcome_text outcome) tells.ok) tells.time;
+    runs = runs_one way g (left_ready old ready) (left_ready mid answers.ready) answers tells.held same (takes-tells (g.state mid.store) (g.state new.store) (outcome_text outcome) tells.ok)
+        (ap (λ s. s.fetched) tells.ok) tells.time;
     held = refl;
     ready = ready_new;
   }
 
   -- what a turn told, with the steps after it
   runs_settled : {refused : Bool} {Now : Engine S → Type 0} {result : Result (Unit {0}) StoreFault} {old mid new : Engine S} (told : EndsTold way Ready g item refused old mid)
-      → (takes : TakesStepsBy g Once Now result mid new) → (g.state new.store).told ≡ (g.state mid.store).told
+      → (takes : TakesStepsBy g Once Now result mid new) → (g.state new.store).told ≡ (g.state mid.store).told → (g.state new.store).fetched ≡ (g.state mid.store).fetched
       → RunsItems way g (item ∷ []) [] (told.outcome ∷ []) (stage_then told.stage takes.rests ∷ []) (outcome_text told.outcome) old new
-  runs_settled {mid = mid} told takes same = runs_rested way g is_way told.runs told.held (left_ready mid told.ready) takes.steps takes.base same takes.time
+  runs_settled {mid = mid} told takes same quiet = runs_rested way g is_way told.runs told.held (left_ready mid told.ready) takes.steps takes.base same quiet takes.time
 
   -- what is held behind them is held at the end of the stage
   held_settled : {refused : Bool} {Now : Engine S → Type 0} {result : Result (Unit {0}) StoreFault} {old mid new : Engine S} (told : EndsTold way Ready g item refused old mid)
@@ -84,27 +86,27 @@ module _ {S : Type 0} (way : Way) {Once : HeldPages → HeldPages → Type 0} (i
   held_settled told takes = ap (λ (h : HeldPages). held_behind h takes.rests) told.held ∙ sym (end_of-stage_then told.stage takes.rests)
 
   ends_settled : {refused : Bool} {Now : Engine S → Type 0} {old mid new : Engine S} → EndsTold way Ready g item refused old mid → TakesStepsBy g Once Now (Ok tt) mid new
-      → (g.state new.store).told ≡ (g.state mid.store).told → Ready new → EndsTold way Ready g item refused old new
-  ends_settled told takes same ready = record {
+      → (g.state new.store).told ≡ (g.state mid.store).told → (g.state new.store).fetched ≡ (g.state mid.store).fetched → Ready new → EndsTold way Ready g item refused old new
+  ends_settled {old = old} told takes same quiet ready = record {
     outcome = told.outcome;
     noted = told.noted;
     stage = stage_then told.stage takes.rests;
-    runs = runs_settled told takes same;
+    runs = runs_settled told takes same quiet;
     held = takes.last.0 ∙ held_settled told takes;
     ready = ready;
   }
 
   -- a step stopped
   stops_unsettled : {refused : Bool} {Now : Engine S → Type 0} (stop : StoreFault) {old mid new : Engine S} (told : EndsTold way Ready g item refused old mid) → (takes : TakesStepsBy g Once Now (Err stop) mid new)
-      → (g.state new.store).told ≡ (g.state mid.store).told → way.Stops (held_by g old) (stage_then told.stage takes.rests ∷ []) [] (stop_of_fault stop) (g.state new.store).base
+      → (g.state new.store).told ≡ (g.state mid.store).told → (g.state new.store).fetched ≡ (g.state mid.store).fetched → way.Stops (held_by g old) (stage_then told.stage takes.rests ∷ []) [] (stop_of_fault stop) (g.state new.store).base
       → StopsTurn way g item (stop_of_fault stop) old new
-  stops_unsettled stop told takes same stops = inl (record {
+  stops_unsettled stop told takes same quiet stops = inl (record {
     outcome = told.outcome;
     stage = stage_then told.stage takes.rests;
     part = outcome_text told.outcome;
     unsaid = [];
     text = sym (append-nil (outcome_text told.outcome));
-    runs = runs_settled told takes same;
+    runs = runs_settled told takes same quiet;
     stops = stops;
   })
 
@@ -157,6 +159,7 @@ module _ {S : Type 0} (g : Ghosts S) where
     beside = answers.outside.beside;
     is_told = answers.outside.is_told;
     tells = same-tells_more _ _ answers.outside.told;
+    log = answers.log;
     reopens = over_time_wider answers.outside.time (reopens_answering (g.state old.store) (g.state new.store));
     at_rest = λ law. answers.at_rest;
     shape = answers.shape;
@@ -191,6 +194,7 @@ module _ {S : Type 0} (g : Ghosts S) where
           beside = ap (λ s. s.beside) tells.err.2 ∙ answers.outside.beside;
           is_told = ap (λ s. s.is_told) tells.err.2 ∙ answers.outside.is_told;
           tells = tells_more_then _ _ _ (same-tells_more _ _ answers.outside.told) (tells.err.0, takes);
+          log = fetches_more_then answers.log (fetches_same (ap (λ s. s.fetched) tells.err.2));
           reopens = reopens;
           at_rest = λ law rest. tells.at_rest (answers.at_rest rest);
           shape = shape_told tells.stays;
@@ -222,6 +226,7 @@ module _ {S : Type 0} (g : Ghosts S) where
           beside = ap (λ s. s.beside) tells.ok ∙ answers.outside.beside;
           is_told = same_told ∙ answers.outside.is_told;
           tells = tells_more_then _ _ _ (same-tells_more _ _ answers.outside.told) (_, takes);
+          log = fetches_more_then answers.log (fetches_same (ap (λ s. s.fetched) tells.ok));
           reopens = reopens;
           at_rest = λ law rest. tells.at_rest (answers.at_rest rest);
           shape = shape_told tells.stays;
@@ -252,12 +257,12 @@ module _ {S : Type 0} (g : Ghosts S) where
         sound = λ shape ready.
             let told = turns.sound shape ready in
             let takes = takes_sound shape (Ok tt) mid new settles told.ready in
-            ends_settled (on_sound shape) (sound_way shape) (IsSoundEngine g shape) g (served_base g shape) item told takes settles.told
+            ends_settled (on_sound shape) (sound_way shape) (IsSoundEngine g shape) g (served_base g shape) item told takes settles.told settles.fetched
             (record { ready = takes.last.1; is_shape = settles.shape ∙ told.ready.is_shape });
         any = λ told shape ready.
             let ended = turns.any told shape ready in
             let takes = takes_any told shape (Ok tt) mid new settles ended.ready in
-            ends_settled (on_any told shape) (any_way told shape) (IsAnyEngine g told shape) g (λ engine is. tt) item ended takes settles.told
+            ends_settled (on_any told shape) (any_way told shape) (IsAnyEngine g told shape) g (λ engine is. tt) item ended takes settles.told settles.fetched
             (record { going = takes.last.1; is_told = settles.is_told ∙ ended.ready.is_told; is_shape = settles.shape ∙ ended.ready.is_shape });
         may = settles.may;
         stop = tt;
@@ -268,6 +273,7 @@ module _ {S : Type 0} (g : Ghosts S) where
         beside = settles.beside ∙ turns.beside;
         is_told = settles.is_told ∙ turns.is_told;
         tells = tells_more_then _ _ _ turns.tells (same-tells_more _ _ settles.told);
+        log = fetches_more_then turns.log (fetches_same settles.fetched);
         reopens = reopens;
         at_rest = λ law rest. settles.at_rest law turns.may.going (turns.at_rest law rest);
         shape = settles.shape ∙ turns.shape;
@@ -282,11 +288,11 @@ module _ {S : Type 0} (g : Ghosts S) where
       record {
         sound = λ shape ready.
             let told = turns.sound shape ready in
-            stops_unsettled (on_sound shape) (sound_way shape) (IsSoundEngine g shape) g (served_base g shape) item stop told (takes_sound shape (Err stop) mid new settles told.ready) settles.told tt;
+            stops_unsettled (on_sound shape) (sound_way shape) (IsSoundEngine g shape) g (served_base g shape) item stop told (takes_sound shape (Err stop) mid new settles told.ready) settles.told settles.fetched tt;
         any = λ told shape ready.
             let ended = turns.any told shape ready in
             let takes = takes_any told shape (Err stop) mid new settles ended.ready in
-            stops_unsettled (on_any told shape) (any_way told shape) (IsAnyEngine g told shape) g (λ engine is. tt) item stop ended takes settles.told
+            stops_unsettled (on_any told shape) (any_way told shape) (IsAnyEngine g told shape) g (λ engine is. tt) item stop ended takes settles.told settles.fetched
             (stops_resting told shape item refused stop old mid new ended takes settles);
         may = tt;
         stop = engine_stops_turn stop;
@@ -297,6 +303,7 @@ module _ {S : Type 0} (g : Ghosts S) where
         beside = settles.beside ∙ turns.beside;
         is_told = settles.is_told ∙ turns.is_told;
         tells = tells_more_then _ _ _ turns.tells (same-tells_more _ _ settles.told);
+        log = fetches_more_then turns.log (fetches_same settles.fetched);
         reopens = reopens;
         at_rest = λ law rest. settles.at_rest law turns.may.going (turns.at_rest law rest);
         shape = settles.shape ∙ turns.shape;

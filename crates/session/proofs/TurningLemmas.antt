@@ -25,6 +25,7 @@ use Rattle.session.specs.script.Leaving.{AreKept, LeftBy, ReopensAlways, done, s
 use Rattle.session.specs.script.Turning.{RunsItems}
 use Rattle.session.specs.script.Ways.{Way}
 use Rattle.session.specs.declared.stop.Stop.{Stop}
+use Rattle.session.proofs.FetchedRunsLemmas.{fetches_in_hand, fetches_one, fetches_rested}
 use Rattle.session.proofs.GoingLemmas.{stage_then, within_behind, within_front}
 use Rattle.session.proofs.ToldLemmas.{takes_nothing, told_behind}
 use Rattle.session.proofs.WayLemmas.{IsWay, left_within}
@@ -134,10 +135,11 @@ module _ {S : Type 0} (way : Way) (g : Ghosts S) where
   -- an item that has an outcome, of whose text this is told
   pub runs_one : {Ready : Engine S → Type 0} {item : Item} {outcome : Outcome} {part : List ℕ} {old mid new : Engine S} → way.Left (g.state old.store).base → way.Left (g.state mid.store).base
       → AnswersBy way Ready g item outcome old mid → held_by g new ≡ held_by g mid → (g.state mid.store).told ≡ (g.state old.store).told → Takes (g.state mid.store).told part (g.state new.store).told
-      → OverTime g.clock g.left (BaseWithFront (outcome_text outcome) (g.state mid.store)) mid.store new.store
+      → (g.state new.store).fetched ≡ (g.state mid.store).fetched → OverTime g.clock g.left (BaseWithFront (outcome_text outcome) (g.state mid.store)) mid.store new.store
       → RunsItems way g (item ∷ []) [] (outcome ∷ []) (still (held_by g new) ∷ []) part old new
-  runs_one {item = item} {outcome = outcome} {part = part} {old = old} {mid = mid} {new = new} may may_mid answers held same takes telling = record {
+  runs_one {item = item} {outcome = outcome} {part = part} {old = old} {mid = mid} {new = new} may may_mid answers held same takes quiet telling = record {
     goes = one (subst (λ (h : HeldPages). way.Met (held_by g old) item outcome (still h)) (sym held) answers.met) nothing;
+    fetches = fetches_one (still (held_by g new)) answers.fetches.pages answers.fetches.brings (quiet ∙ answers.fetches.brought.log);
     told = subst (λ (t : Option (List ℕ)). Takes t part (g.state new.store).told) same takes;
     base = (1, done (omega arith) (held_by g new) refl refl);
     time = λ before is. over_time_then (over_time_wider answers.time (left_answering outcome old mid new may may_mid held before is))
@@ -173,10 +175,12 @@ module _ {S : Type 0} (way : Way) (g : Ghosts S) where
     -- an item whose text was told, and then such steps
     pub runs_rested : {item : Item} {outcome : Outcome} {stage : Stage} {old mid new : Engine S} {rests : List HeldPages} → RunsItems way g (item ∷ []) [] (outcome ∷ []) (stage ∷ []) (outcome_text outcome) old mid
         → held_by g mid ≡ end_of stage → way.Left (g.state mid.store).base → RestsBy Once (held_by g mid) rests → IsBaseWithin (held_by g mid) rests (g.state new.store).base
-        → (g.state new.store).told ≡ (g.state mid.store).told → OverTime g.clock g.left (LeftResting (held_by g mid) rests (g.state mid.store)) mid.store new.store
+        → (g.state new.store).told ≡ (g.state mid.store).told → (g.state new.store).fetched ≡ (g.state mid.store).fetched
+        → OverTime g.clock g.left (LeftResting (held_by g mid) rests (g.state mid.store)) mid.store new.store
         → RunsItems way g (item ∷ []) [] (outcome ∷ []) (stage_then stage rests ∷ []) (outcome_text outcome) old new
-    runs_rested {outcome = outcome} {stage = stage} {old = old} {mid = mid} {rests = rests} runs at may steps base same resting = record {
+    runs_rested {outcome = outcome} {stage = stage} {old = old} {mid = mid} {rests = rests} runs at may steps base same quiet resting = record {
       goes = goes_rested is_way runs.goes (subst (λ (h : HeldPages). RestsBy Once h rests) at steps);
+      fetches = fetches_rested (stage_then stage rests) runs.fetches quiet;
       told = subst (Takes (g.state old.store).told (outcome_text outcome)) (sym same) runs.told;
       base = (1, done (omega arith) base.0 (within_behind stage.met base.0 stage.rests rests (subst (λ (h : HeldPages). IsHeldWithin h rests base.0) at base.1)) base.2);
       time = λ before is. over_time_then (over_time_wider (runs.time before is) (λ left told was. left_rested rests was))
@@ -195,6 +199,7 @@ module _ {S : Type 0} (way : Way) (g : Ghosts S) where
       → RunsItems way g [] (item ∷ []) [] [] [] old new
   runs_stopped item stop old new stops same = record {
     goes = nothing;
+    fetches = fetches_in_hand stops.fetches.pages stops.fetches.brings stops.fetches.brought.log;
     told = subst (Takes (g.state old.store).told []) (sym same) (takes_nothing (g.state old.store).told);
     base = (stops.base.items, stops.base.kept);
     time = λ before is. over_time_wider stops.time (left_in_hand item old before is);

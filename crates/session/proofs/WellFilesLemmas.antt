@@ -45,9 +45,9 @@ stop_of_well fault stop bytes served refuses stops = elim (refused_served fault 
 -- ---- what stands for the pages of a well file
 
 -- a store that was just opened on a well file tells sound pages
-pub sound_opened : {S : Type 0} (g : Ghosts S) (s : S) (bytes : List ℕ) (is_told : Bool) (tape : Option (List ℕ)) (shape : Shape) (attaches : Option (List (List ℕ × Bool))) (well : IsWell bytes) → is_told ≡ true → IsJustOpened is_told tape shape attaches (g.state s)
+pub sound_opened : {S : Type 0} (g : Ghosts S) (s : S) (bytes : List ℕ) (is_told : Bool) (tape : Option (List ℕ)) (shape : Shape) (attaches : Option (List (List ℕ × Bool))) (fetched : Option (List ℕ)) (well : IsWell bytes) → is_told ≡ true → IsJustOpened is_told tape shape attaches fetched (g.state s)
     → (g.state s).base ≡ pages_in bytes → IsSoundStore g well.shape s
-sound_opened g s bytes is_told tape shape attaches well tells just base =
+sound_opened g s bytes is_told tape shape attaches fetched well tells just base =
     let work : (g.state s).work ≡ pages_in bytes = ap (λ state. state.work) just ∙ base in
     record {
       told = ap (λ state. state.is_told) just ∙ tells;

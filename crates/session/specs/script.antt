@@ -3,6 +3,7 @@ pub mod AnyGoing
 pub mod AnyStops
 pub mod Ending
 pub mod Engines
+pub mod Fetching
 pub mod Going
 pub mod Leaving
 pub mod Lists

@@ -4,11 +4,11 @@
 //! host, after a crash too, has the script answered on its pages, and gives the host back.
 //!
 //! It promises, of a script on a sound engine, one run of its items over the pages that were held: what is told are the texts of
-//! its outcomes, in order and each as its statement closes, and a crash at any moment leaves the pages of the last commit after
-//! some of the items, with every one whose reply had begun, and at most one more. Such a run over pages is one over plain lists of
-//! rows, by a law. Whatever the pages are, it promises one run too: each item does to them what its statement may, damage is
-//! that of the pages that were held, and at a stop an item in hand committed nothing, unless the disk failed. The two are one run, told
-//! in two ways (`Way`, `specs/script/Ways.antt`).
+//! its outcomes, in order and each as its statement closes, a log of the pages that come to hand goes on with those that each item
+//! may bring, and a crash at any moment leaves the pages of the last commit after some of the items, with every one whose reply had
+//! begun, and at most one more. Such a run over pages is one over plain lists of rows, by a law. Whatever the pages are, it promises one
+//! run too: each item does to them what its statement may, damage is that of the pages that were held, and at a stop an item in hand
+//! committed nothing, unless the disk failed. The two are one run, told in two ways (`Way`, `specs/script/Ways.antt`).
 //!
 //! Of a file that is well and of a host that tells it: the replies are those of plain lists of rows, statement by statement, up to a
 //! stop, and 70 only where a statement runs full. From the origin of the run on a crash leaves a well file, which stands for those

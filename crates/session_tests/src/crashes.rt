@@ -2,6 +2,7 @@
 use crate::commits::twelve_commits;
 use crate::hosts::{crashed, small_database};
 use crate::indexed_commits::indexed_commits;
+use crate::rolled_commits::rolled_commits;
 use crate::scenario::Scenario;
 use std::process::Abort;
 use std::test::Fail;
@@ -50,4 +51,9 @@ fn a_crash_leaves_commits_and_ones(rt: HostRuntime) -> Result<(), Fail> {
 #[test]
 fn a_crash_leaves_commits_of_record_indexes(rt: HostRuntime) -> Result<(), Fail> {
     crash_in_each_call(&rt, &indexed_commits(), None)
+}
+
+#[test]
+fn a_crash_leaves_commits_of_rollouts(rt: HostRuntime) -> Result<(), Fail> {
+    crash_in_each_call(&rt, &rolled_commits(), None)
 }

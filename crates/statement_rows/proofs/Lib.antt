@@ -1,4 +1,5 @@
 pub mod DeletingRowsLemmas
+pub mod DeletingSpaceLemmas
 pub mod DeletingStepsLemmas
 pub mod InsertingRowsLemmas
 pub mod InsertingStepsLemmas

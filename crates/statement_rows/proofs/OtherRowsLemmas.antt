@@ -31,6 +31,13 @@ pub record LiesAt (spots : List Spot) (at : Rid) (row : Row) : Type 0 where
 abbrev pub AreApart : Rid → Rid → Type 0
 AreApart a b = a.block ≡ b.block → a.slot ≡ b.slot → ⊥
 
+-- so are the places of two that differ
+pub apart_places : (a b : Rid) → a ≢ b → AreApart b a
+apart_places a b differ block slot = differ (sym (ap (λ (k : ℕ). place_at k b.slot) block ∙ ap (place_at a.block) slot))
+  where
+    place_at : ℕ → ℕ → Rid
+    place_at block slot = record { block = block; slot = slot }
+
 -- rows of different numbers lie apart
 pub apart_by_number : (spots : List Spot) (a b : Rid) (row other : Row) (slots more : List (Option Row)) → IsRowAt spots a row slots → IsRowAt spots b other more → row.number < other.number → AreApart b a
 apart_by_number spots a b row other slots more one two less block slot =
@@ -154,7 +161,7 @@ lies_turned def n old new rid at _ row other there (ChangesRow.moves left free t
 -- ---- the rows of a statement
 
 -- where each two elements are related, the first is to each of the rest
-first_related : {X : Type 0} (R : X → X → Type 0) (x : X) (xs : List X) → AllPairs R (x ∷ xs) → (z : X) → Contains xs z → R x z
+pub first_related : {X : Type 0} (R : X → X → Type 0) (x : X) (xs : List X) → AllPairs R (x ∷ xs) → (z : X) → Contains xs z → R x z
 first_related R x xs pairs z (k, low, at) = subst (R x) at (pairs 0 (suc k) z (omega arith) (omega (arith, low)))
 
 abbrev is_before : PlacedRow → PlacedRow → Type 0

@@ -1,5 +1,5 @@
 -- What the rows of one statement make of a table: they are put, taken out or turned into others, one after the other.
-use Rattle.std.specs.Prelude.{◌≡◌, ◌<◌, ℕ, List, [], ◌∷◌, AllPairs}
+use Rattle.std.specs.Prelude.{◌≡◌, ◌≢◌, ◌<◌, ℕ, List, [], ◌∷◌, AllPairs}
 use Rattle.std.specs.List.{AllByRecursion}
 use Rattle.mdc_words.specs.ByteOrder.{Entry}
 use Rattle.mdc_ast.specs.declared.definition.TableDef.{TableDef}
@@ -18,6 +18,7 @@ use Rattle.mdc_sound.specs.StandingTable.{ChangesTable, IsReadyTable, NamesTable
 use Rattle.mdc_sound.specs.StandsForDatabase.{PagesStandFor, with_row, without_row}
 use Rattle.mdc_sound.specs.TablePages.{table_page_at}
 use Rattle.mdc_sound.specs.TableRows.{PlacedRow}
+use Rattle.block_rows.specs.declared.hit.Hit.{Hit}
 use Rattle.table_blocks.specs.BlockSteps.{HasThisRow}
 use Rattle.statement_rows.specs.OtherTables.{KeepsOtherTables}
 
@@ -32,6 +33,11 @@ pub record IsReadyBetween {S : Type 0} (g : Ghosts S) (shape : Shape) (noted : S
 pub record HasTheseRows {S : Type 0} (g : Ghosts S) (shape : Shape) (s : S) (def : TableDef) (rows : List PlacedRow) (owners : List Kind) (forests : TableForests) : Type 0 where
   pub each : AllByRecursion (λ placed. HasThisRow g shape s def placed.rid placed.row owners forests) rows
   pub rising : AllPairs (λ a b. a.row.number < b.row.number) rows
+
+-- these copies of rows lie in their places, no two in one
+pub record LieApart {S : Type 0} (g : Ghosts S) (shape : Shape) (s : S) (def : TableDef) (hits : List Hit) (owners : List Kind) (forests : TableForests) : Type 0 where
+  pub each : AllByRecursion (λ hit. HasThisRow g shape s def hit.rid hit.row owners forests) hits
+  pub apart : AllPairs (λ a b. a.rid ≢ b.rid) hits
 
 -- ---- after it
 

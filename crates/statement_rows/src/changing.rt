@@ -1,5 +1,5 @@
 // The rows of an UPDATE.
-ghost use Rattle.std.specs.Prelude.{◌≡◌, List, false, map, IfErr, OnOk};
+ghost use Rattle.std.specs.Prelude.{◌≡◌, List, false, length, map, IfErr, OnOk};
 ghost use Rattle.std.specs.List.{AllByRecursion};
 ghost use Rattle.store_api.specs.Causes.{store_fault_in};
 ghost use Rattle.store_api.specs.RunsOverPages.{RunsOverPages};
@@ -51,6 +51,7 @@ pub fn change_rows<P: Pages>(
         × ((owners : List Kind) (forests : TableForests) → IsReadyBetween P.Pages shape notes.old (room_of rooms.old) pages.old def.now owners forests
         → HasTheseRows P.Pages shape pages.old def.now (map (λ turned. (turned_row turned).0) turned.now) owners forests
         → UpdateRunsFull shape (pages_of P.Pages pages.old) def.now (map turned_row turned.now)))) }
+    ensures idle { length turned.now ≡ 0 → (P.state pages.new).work ≡ (P.state pages.old).work }
     ensures runs { RunsOverPages P.Pages AnyPage AnyPage
         (BreaksReady P.Pages shape notes.old (room_of rooms.old) pages.old def.now (HasTheseRows P.Pages shape pages.old def.now (map (λ turned. (turned_row turned).0) turned.now)))
         pages.old pages.new (store_fault_in store_part_of result) }

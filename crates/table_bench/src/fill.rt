@@ -19,7 +19,7 @@ pub fn fill<H: Host + Drop>(
     let mut store = opened(alloc, host, path)?;
     let shape = shape_of(&store)?;
     let account = fill_store(alloc, shape, &mut store, amount)?;
-    let mut host = store.close();
+    let mut host = store.close().host;
     let mut text = Vec::new(alloc);
     append_account(account, &mut text)?;
     host.say(&text)?;

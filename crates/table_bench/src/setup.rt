@@ -3,7 +3,7 @@ ghost use Rattle.std.specs.Prelude.{◌≡◌, false, None, IfOk};
 
 use crate::stop::Stop;
 use mdc_outside::Host;
-use page_store::FileStore;
+use page_store::{FileStore, Untold};
 use std::alloc::Global;
 use std::marker::Brand;
 use store_api::{Pages, Shape};
@@ -17,7 +17,7 @@ pub fn opened<H: Host + Drop>(alloc: Global, mut host: H, path: &str) -> Result<
     ensures unmarked { IfOk result (λ store. (⟦<FileStore<H> as Pages>⟧.state store).marked ≡ None) }
 {
     host.attach(path, false)?;
-    match FileStore::<H, Brand>::open(alloc, host, CACHE) {
+    match FileStore::<H, Brand, Untold>::open(alloc, host, Untold, CACHE) {
         Ok(store) => Ok(store),
         Err(unopened) => Err(Stop::Unopened(unopened.fault)),
     }

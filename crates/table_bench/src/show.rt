@@ -11,7 +11,7 @@ pub fn show<H: Host + Drop>(alloc: Global, host: H, path: &str) -> Result<(), St
     let mut store = opened(alloc, host, path)?;
     let shape = shape_of(&store)?;
     let tables = read_database(alloc, shape, &mut store)?;
-    let mut host = store.close();
+    let mut host = store.close().host;
     for (place, table) in tables.as_slice().iter().enumerate() {
         if let Some(table) = table {
             say_table(alloc, &mut host, place, table)?;

@@ -5,5 +5,5 @@ pub mod CountedLemmas
 pub mod GatheredLemmas
 pub mod GatheringLemmas
 pub mod NamedLemmas
+pub mod QueryAnswersLemmas
 pub mod QueryPagesLemmas
-pub mod SecondScanLemmas

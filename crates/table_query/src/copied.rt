@@ -8,12 +8,12 @@ ghost use Rattle.store_api.specs.RunsOverPages.{RunsOverPages};
 ghost use Rattle.extent_map.specs.declared.kind.Kind.{Kind};
 ghost use Rattle.block_rows.specs.HeldRows.{HasReadValues, HaveReadValues};
 ghost use Rattle.mdc_sound.specs.BlockRules.{AreTableIndexesSound};
-ghost use Rattle.mdc_sound.specs.StandingTable.{BreaksTable, StandsTable, TableForests, pages_of, view_of};
+ghost use Rattle.mdc_sound.specs.StandingTable.{BreaksExpected, StandsTable, TableForests, pages_of, view_of};
 ghost use Rattle.row_filter.specs.Filtering.{may_filter};
 ghost use Rattle.row_groups.specs.Shape.{shape_of};
 ghost use Rattle.answer_text.specs.Answering.{GivesLines, IsFirstOverflow, Rise};
 ghost use Rattle.answer_text.specs.Lines.{are_outs_within};
-ghost use Rattle.executor.specs.Planned.{IsPlanPage};
+ghost use Rattle.executor.specs.Planned.{HasSoundIndexes, IsPlanPage};
 ghost use Rattle.table_query.specs.QueryAnswers.{AnswersQuery, AreQueryRows, store_part_of};
 
 use crate::fault::QueryFault;
@@ -42,7 +42,7 @@ pub(crate) fn answer_from_copies<P: Pages>(
         → AreTableIndexesSound shape (pages_of P.Pages pages.old) (view_of def.now forests) → AreQueryRows P.Pages shape pages.old def.now select.now.pred forests rows
         → AnswersQuery def.now.columns select.now rows result }
     ensures same { (P.state pages.new).work ≡ (P.state pages.old).work }
-    ensures runs { RunsOverPages P.Pages NoPage (IsPlanPage P.Pages shape pages.old def.now mode select.now.pred) (BreaksTable P.Pages shape pages.old def.now) pages.old pages.new (store_fault_in store_part_of result) }
+    ensures runs { RunsOverPages P.Pages NoPage (IsPlanPage P.Pages shape pages.old def.now mode select.now.pred) (BreaksExpected P.Pages shape pages.old def.now (HasSoundIndexes P.Pages shape pages.old def.now)) pages.old pages.new (store_fault_in store_part_of result) }
 {
     let found = find_by_plan(alloc, def, shape, pages, mode, &select.pred)?;
     Ok(lines_of_hits(alloc, select, &def.columns, found.hits.as_slice())?)

@@ -1,5 +1,5 @@
 // How many rows of a table qualify, where their cells say so.
-ghost use Rattle.std.specs.Prelude.{◌≡◌, List, None, true, false, length, sum_by, IsTrue, IfOk, IfSome};
+ghost use Rattle.std.specs.Prelude.{◌≡◌, List, true, false, length, sum_by, IsTrue, IfOk};
 ghost use Rattle.mdc_ast.specs.declared.row.Row.{Row};
 ghost use Rattle.store_api.specs.Causes.{fault_of};
 ghost use Rattle.store_api.specs.Frame.{NoPage};
@@ -22,29 +22,26 @@ use mdc_table::ListedBlock;
 use std::alloc::Global;
 use store_api::{Pages, Shape, StoreFault};
 
-/// How many rows of a table qualify, or nothing where a test of the predicate compares columns or is of one that is no dimension
-/// column. They are counted by the lines of the block map: no row page comes to hand.
+/// How many rows of a table qualify, where the cell of a row tells whether it does. They are counted by the lines of the block map: no
+/// row page comes to hand.
 pub fn count_rows<P: Pages>(
     alloc: Global,
     def: &TableDef,
     shape: Shape,
     pages: &mut P,
     pred: &Option<Pred>,
-) -> Result<Option<u64>, StoreFault>
+) -> Result<u64, StoreFault>
     requires defined { IsTableDef def.now.number def.now }
+    requires settled { IsSettledIfAny def.now pred.now }
     requires judged { (row : Row) → HasReadValues def.now.columns row → IsTrue (may_filter pred.now row.values) }
     requires going { (P.state pages.old).ended ≡ false }
-    ensures counts { IfOk result (λ counted. IfSome counted (λ count. (owners : List Kind) (forests : TableForests) → StandsTable P.Pages shape pages.old def.now owners forests
-        → count ≡ length (qualifying pred.now (rows_in_table shape (pages_of P.Pages pages.old) def.now forests.map)))) }
-    ensures none { IfOk result (λ counted. counted ≡ None → HasOpenTestIfAny def.now pred.now) }
+    ensures counts { IfOk result (λ count. (owners : List Kind) (forests : TableForests) → StandsTable P.Pages shape pages.old def.now owners forests
+        → count ≡ length (qualifying pred.now (rows_in_table shape (pages_of P.Pages pages.old) def.now forests.map))) }
     ensures same { (P.state pages.new).work ≡ (P.state pages.old).work }
     ensures runs { RunsOverPages P.Pages NoPage (IsChoicePage P.Pages shape pages.old def.now) (BreaksTable P.Pages shape pages.old def.now) pages.old pages.new (fault_of result) }
 {
-    if !is_settled_by_cells(pred, def) {
-        return Ok(None);
-    }
     let listed = listed_blocks(alloc, def, shape, pages, pred)?;
-    Ok(Some(rows_of_lines(listed.as_slice())))
+    Ok(rows_of_lines(listed.as_slice()))
 }
 
 /// How many rows the lines of blocks say that these have. The sum fits, since the numbers of the blocks rise.
@@ -61,8 +58,9 @@ fn rows_of_lines(listed: &[ListedBlock]) -> u64
     count
 }
 
-/// Whether there is no predicate, or the cell of a row tells its truth.
-fn is_settled_by_cells(pred: &Option<Pred>, def: &TableDef) -> bool
+/// Whether there is no predicate, or the cell of a row tells its truth: none of its tests compares columns, or is of one that is no
+/// dimension column.
+pub fn is_settled_by_cells(pred: &Option<Pred>, def: &TableDef) -> bool
     ensures settled { result ≡ true → IsSettledIfAny def.now pred.now }
     ensures open { result ≡ false → HasOpenTestIfAny def.now pred.now }
 {

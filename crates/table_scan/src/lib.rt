@@ -13,5 +13,6 @@ mod counting;
 mod finding;
 mod settling;
 
-pub use counting::count_rows;
+pub use counting::{count_rows, is_settled_by_cells};
 pub use finding::{find_rows, scan_rows};
+pub use settling::unsettled;

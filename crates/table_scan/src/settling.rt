@@ -11,11 +11,7 @@ use std::alloc::Global;
 
 /// What is left of a predicate to be judged on a row in whose cell it may hold: nothing if the row's cell settles it, and else the
 /// predicate without those parts of an outermost AND that the cell settles.
-pub(crate) fn unsettled(
-    alloc: Global,
-    def: &TableDef,
-    pred: &Option<Pred>,
-) -> Result<Option<Pred>, Memory>
+pub fn unsettled(alloc: Global, def: &TableDef, pred: &Option<Pred>) -> Result<Option<Pred>, Memory>
     ensures { IfOk result (IsLeftOf def.now pred.now) }
 {
     match pred {

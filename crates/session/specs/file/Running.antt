@@ -17,6 +17,7 @@ use Rattle.file_verdict.specs.Resting.{StaysFormed}
 use Rattle.file_verdict.specs.SoundFile.{StatesExtents}
 use Rattle.session.specs.script.AnyGoing.{GoesOnAny}
 use Rattle.session.specs.script.AnyStops.{FindsBuilt, IsHeldDamage}
+use Rattle.session.specs.script.Fetching.{FetchesInRun}
 use Rattle.session.specs.script.Going.{GoesOnPages, Stage, held_last}
 use Rattle.session.specs.script.Leaving.{AreServedPages, LeftByServing, LeftOnAny}
 use Rattle.session.specs.script.Serving.{EndsScript}
@@ -27,7 +28,7 @@ use Rattle.session.specs.file.AnyServing.{AreHeldFirst, RunsAnyItems, RunsNothin
 use Rattle.session.specs.file.Serving.{IsOpened, RunsItems}
 
 -- A run of a script on a store that tells sound pages, all of which are committed: one run of its items on these, whose texts are
--- told in order, how it ends, and what a crash meanwhile leaves.
+-- told in order, which pages came to hand, how it ends, and what a crash meanwhile leaves.
 pub record RunsOnStore {S : Type 0} (g : pages.Ghosts S) (shape : Shape) (script left : Option (List ℕ)) (old new : S) (result : Result Served Stop) : Type 0 where
   pub served : AreServedPages shape (g.state old).base
   pub held : HeldPages
@@ -37,6 +38,7 @@ pub record RunsOnStore {S : Type 0} (g : pages.Ghosts S) (shape : Shape) (script
   pub stages : List Stage
   pub in_hand : List Item
   pub goes : GoesOnPages shape held items outcomes stages
+  pub fetches : FetchesInRun shape held items in_hand stages (g.state old).fetched (g.state new).fetched
   pub said : List ℕ
   pub told : Takes (g.state old).told said (g.state new).told
   pub undamaged : (damage : Damage) → result ≡ Err (Damaged damage) → ⊥
@@ -50,10 +52,12 @@ abbrev pub IsLeftSince : (List (List ℕ) → List ℕ → Type 0) → Shape →
 IsLeftSince Run shape left image heard =
     (IsFormed image × StatesExtents image shape × (left (Some (pages_in image)) heard ⊎ Run (pages_in image) heard)) ⊎ left None heard
 
--- Such a run over the lists of rows that the pages stand for, as the host has it to which the store was closed.
-pub record ServesStore {S D : Type 0} (g : pages.Ghosts S) (d : disk.Ghosts D) (shape : Shape) (said : List ℕ) (script left : Option (List ℕ)) (old : S) (new : D) (result : Result Served Stop) : Type 0 where
+-- Such a run over the lists of rows that the pages stand for, as the host has it to which the store was closed, and the log, which tells
+-- these fetches now.
+pub record ServesStore {S D : Type 0} (g : pages.Ghosts S) (d : disk.Ghosts D) (shape : Shape) (said : List ℕ) (script left : Option (List ℕ)) (old : S) (new : D) (result : Result Served Stop) (now : Option (List ℕ)) : Type 0 where
   pub served : AreServedPages shape (g.state old).base
   pub run : RunsItems shape (g.state old).base said script left (d.beside new).tape result
+  pub fetches : FetchesInRun shape run.held run.items run.in_hand run.stages (g.state old).fetched now
   pub since : (t : ℕ) → t ≤ g.clock old → (image heard : List ℕ) → d.moment new t image heard
       → IsLeftSince (λ pages heard. LeftByServing shape run.held run.stages run.outcomes run.in_hand said (Some pages) heard) shape (g.left old t) image heard
 

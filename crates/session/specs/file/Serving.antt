@@ -16,6 +16,7 @@ use Rattle.page_store.specs.Standing.{pages_in}
 use Rattle.script_engine.specs.Held.{HeldPages}
 use Rattle.file_verdict.specs.Resting.{LeavesSince}
 use Rattle.file_verdict.specs.SoundFile.{StatesExtents}
+use Rattle.session.specs.script.Fetching.{FetchesInRun}
 use Rattle.session.specs.script.Going.{GoesOnPages, Stage}
 use Rattle.session.specs.script.Lists.{GoesOnLists}
 use Rattle.session.specs.script.Serving.{EndsScript, TakesScript}
@@ -59,10 +60,11 @@ pub record RunsItems (shape : Shape) (pages : PageList) (said : List ℕ) (scrip
 abbrev pub TakesBySession : Option (List ℕ) → Option (List ℕ) → Result Served Stop → Type 0
 TakesBySession script left result = IfErr result IsOfScript × IfSome script (λ script. TakesScript script left result)
 
--- A run of a script on a file of these bytes, which is well: such a run on the pages that it stands for, and what a crash leaves at
--- each moment of it.
-pub record RunsOnFile {D : Type 0} (g : Ghosts D) (before : File) (said : List ℕ) (script left : Option (List ℕ)) (old new : D) (result : Result Served Stop) : Type 0 where
+-- A run of a script on a file of these bytes, which is well: such a run on the pages that it stands for, which of them came to hand, by a
+-- log that told these fetches before and tells those now, and what a crash leaves at each moment of it.
+pub record RunsOnFile {D : Type 0} (g : Ghosts D) (before : File) (said : List ℕ) (script left : Option (List ℕ)) (old new : D) (result : Result Served Stop) (log now : Option (List ℕ)) : Type 0 where
   pub shape : Shape
   pub states_extents : StatesExtents before.bytes shape
   pub run : RunsItems shape (pages_in before.bytes) said script left (g.beside new).tape result
+  pub fetches : FetchesInRun shape run.held run.items run.in_hand run.stages log now
   pub leaves : LeavesSince g before said (LeftByRun shape run.held run.stages run.outcomes run.in_hand said) old new

@@ -1,11 +1,12 @@
 -- What the answer to one item does to an engine.
-use Rattle.std.specs.Prelude.{◌≡◌, ◌⊎◌, ◌≤◌, ℕ, Bool, false, [], ◌∷◌, IsErrOf, None, OnErr, OnOk, Some, IfSome, Result, Ok, Err}
+use Rattle.std.specs.Prelude.{◌≡◌, ◌⊎◌, ◌≤◌, ℕ, Bool, List, false, [], ◌∷◌, IsErrOf, None, OnErr, OnOk, Some, IfSome, Result, Ok, Err}
 use Rattle.mdc_words.specs.Faults.{CountsFault}
 use Rattle.mdc_words.specs.Time.{OverTime}
 use Rattle.mdc_ast.specs.declared.reply.Outcome.{Outcome}
 use Rattle.mdc_ast.specs.Reading.{Item}
 use Rattle.statement_meaning.specs.Texts.{outcome_text}
 use Rattle.store_api.specs.Calls.{Tells, TellsPart}
+use Rattle.store_api.specs.Fetching.{Brought}
 use Rattle.store_api.specs.Moments.{BaseWithFront, Outcomes}
 use Rattle.store_api.specs.StoreState.{StoreState}
 use Rattle.store_api.specs.Works as works
@@ -21,6 +22,7 @@ use Rattle.script_engine.specs.declared.engine.Engine.{Engine}
 use Rattle.store_api.specs.declared.fault.StoreFault.{StoreFault}
 use Rattle.store_api.specs.declared.fault.StoreFault.TheVariants.{Damaged, Device}
 use Rattle.session.specs.script.Engines.{IsAnyEngine, IsSoundEngine}
+use Rattle.session.specs.script.Fetching.{FetchesMore}
 use Rattle.session.specs.script.Going.{still}
 use Rattle.session.specs.script.Leaving.{AreKept}
 use Rattle.session.specs.Stops.{stop_of_fault}
@@ -31,10 +33,17 @@ use Rattle.session.specs.declared.stop.Stop.TheVariants.{Memory, Unsaid}
 
 -- ---- an item
 
+-- the item brought to hand what it may
+pub record FetchesItem {S : Type 0} (way : Way) (g : Ghosts S) (item : Item) (old new : Engine S) : Type 0 where
+  pub pages : List ℕ
+  pub brings : way.Brings (held_by g old) item pages
+  pub brought : Brought g pages old.store new.store
+
 -- the item has an outcome, and what it may be done to what is held was done; a crash meanwhile leaves the pages of the last commit
 -- before it or after it
 pub record AnswersBy {S : Type 0} (way : Way) (Ready : Engine S → Type 0) (g : Ghosts S) (item : Item) (outcome : Outcome) (old new : Engine S) : Type 0 where
   pub met : way.Met (held_by g old) item outcome (still (held_by g new))
+  pub fetches : FetchesItem way g item old new
   pub ready : Ready new
   pub time : OverTime g.clock g.left (BaseBeforeOrAfter (g.state old.store) (g.state new.store)) old.store new.store
 
@@ -53,6 +62,7 @@ LeftInHand way held item s left told = ((pages : PageList) × (left ≡ Some pag
 pub record StopsBy {S : Type 0} (way : Way) (g : Ghosts S) (item : Item) (stop : Stop) (old new : Engine S) : Type 0 where
   pub base : MayBeKept way (held_by g old) item (g.state new.store).base
   pub time : OverTime g.clock g.left (LeftInHand way (held_by g old) item (g.state old.store)) old.store new.store
+  pub fetches : FetchesItem way g item old new
   pub stops : way.Stops (held_by g old) [] (item ∷ []) stop (g.state new.store).base
 
 -- one or the other
@@ -61,7 +71,7 @@ AnswersSo way Ready g item (Ok outcome) old new = AnswersBy way Ready g item out
 AnswersSo way Ready g item (Err stop) old new = StopsBy way g item (stop_of_fault stop) old new
 
 -- What the answer to an item does, on a sound engine and on any, and whatever the engine is: no damage is named of sound pages, the
--- store goes on unless the disk failed, and nothing is told.
+-- store goes on unless the disk failed, nothing is told, and a log of fetches goes on.
 pub record AnswersItem {S : Type 0} (g : Ghosts S) (item : Item) (result : Result Outcome StoreFault) (old new : Engine S) : Type 0 where
   pub sound : (shape : Shape) → IsSoundEngine g shape old → AnswersSo (on_sound shape) (IsSoundEngine g shape) g item result old new
   pub any : (told : Bool) (shape : Shape) → IsAnyEngine g told shape old → AnswersSo (on_any told shape) (IsAnyEngine g told shape) g item result old new
@@ -70,6 +80,7 @@ pub record AnswersItem {S : Type 0} (g : Ghosts S) (item : Item) (result : Resul
   pub damaged : (damage : Damage) → result ≡ Err (Damaged damage) → IsReadyEngine g old → ⊥
   pub shape : new.tables.shape ≡ old.tables.shape
   pub outside : LeavesOutside g result old new
+  pub log : FetchesMore (g.state old.store).fetched (g.state new.store).fetched
   pub at_rest : works.Rests g old.store → works.Rests g new.store
 
 -- ---- its reply

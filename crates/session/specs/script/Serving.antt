@@ -9,6 +9,7 @@ use Rattle.script_engine.specs.Serving.{held_by}
 use Rattle.script_engine.specs.declared.engine.Engine.{Engine}
 use Rattle.session.specs.script.Ending.{EndsSo, script_limit}
 use Rattle.session.specs.script.Engines.{IsAnyEngine, IsSoundEngine}
+use Rattle.session.specs.script.Fetching.{FetchesByItems}
 use Rattle.session.specs.script.Going.{Goes, Stage, held_last}
 use Rattle.session.specs.script.Leaving.{AreKept, LeftBy}
 use Rattle.session.specs.script.TheWays.{on_any, on_sound}
@@ -39,9 +40,9 @@ pub record EndsScript (script : List ℕ) (left : Option (List ℕ)) (said : Lis
   pub left_is : left ≡ Some rest
   pub ends : EndsSo taken rest said items in_hand outcomes result
 
--- A run of a script on an engine: its items go on the pages that were held, their texts are told in order, a crash meanwhile leaves
--- what is kept after some of them, and at the end the last pages are held, or the run stopped, at the item in hand or behind those
--- that have outcomes.
+-- A run of a script on an engine: its items go on the pages that were held, a log of fetches with what they bring to hand, their texts
+-- are told in order, a crash meanwhile leaves what is kept after some of them, and at the end the last pages are held, or the run stopped,
+-- at the item in hand or behind those that have outcomes.
 pub record RunsBy {S : Type 0} (way : Way) (Ready : Engine S → Type 0) (g : Ghosts S) (script left : Option (List ℕ)) (old new : Engine S) (result : Result Served Stop) : Type 0 where
   pub items : List Item
   pub outcomes : List Outcome
@@ -52,6 +53,7 @@ pub record RunsBy {S : Type 0} (way : Way) (Ready : Engine S → Type 0) (g : Gh
   pub told : Takes (g.state old.store).told said (g.state new.store).told
   pub ends : IfSome script (λ script. EndsScript script left said items in_hand outcomes result)
   pub last : OnOk result ((held_by g new ≡ held_last (held_by g old) stages) × Ready new)
+  pub fetches : FetchesByItems way.Brings (held_by g old) items in_hand stages (g.state old.store).fetched (g.state new.store).fetched
   pub stops : IfErr result (λ stop. way.Stops (held_by g old) stages in_hand stop (g.state new.store).base)
   pub base : (n : ℕ) × AreKept way.Stopped (held_by g old) stages in_hand (g.state new.store).base n
   pub time : (before : List ℕ) → (g.state old.store).told ≡ Some before

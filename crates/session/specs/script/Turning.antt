@@ -16,6 +16,7 @@ use Rattle.script_engine.specs.Serving.{IsReadyEngine, MayCall, held_by}
 use Rattle.script_engine.specs.Turns.{KeepsTime}
 use Rattle.script_engine.specs.declared.engine.Engine.{Engine}
 use Rattle.session.specs.script.Engines.{IsAnyEngine, IsSoundEngine}
+use Rattle.session.specs.script.Fetching.{FetchesByItems, FetchesMore}
 use Rattle.session.specs.script.Going.{Goes, Stage, end_of}
 use Rattle.session.specs.script.Leaving.{AreKept, LeftBy, ReopensAlways}
 use Rattle.session.specs.script.TheWays.{on_any, on_sound}
@@ -24,10 +25,11 @@ use Rattle.session.specs.script.Ways.{Way}
 use Rattle.session.specs.declared.stop.Stop.{Stop}
 use Rattle.session.specs.declared.stop.Stop.TheVariants.{Damaged, Device, NotMdc, TooLong, Unmade, Unread, Unsaid, Version}
 
--- A run of items on an engine: they go on the pages that were held, these bytes are told, and a crash meanwhile leaves what is kept
--- after some of them.
+-- A run of items on an engine: they go on the pages that were held, bring to hand what they may, these bytes are told, and a crash
+-- meanwhile leaves what is kept after some of them.
 pub record RunsItems {S : Type 0} (way : Way) (g : Ghosts S) (items in_hand : List Item) (outcomes : List Outcome) (stages : List Stage) (said : List ℕ) (old new : Engine S) : Type 0 where
   pub goes : Goes way.Met (held_by g old) items outcomes stages
+  pub fetches : FetchesByItems way.Brings (held_by g old) items in_hand stages (g.state old.store).fetched (g.state new.store).fetched
   pub told : Takes (g.state old.store).told said (g.state new.store).told
   pub base : (n : ℕ) × AreKept way.Stopped (held_by g old) stages in_hand (g.state new.store).base n
   pub time : (before : List ℕ) → (g.state old.store).told ≡ Some before
@@ -89,6 +91,7 @@ pub record TurnsItem {S : Type 0} (g : Ghosts S) (item : Item) (result : Result 
   pub beside : (g.state new.store).beside ≡ (g.state old.store).beside
   pub is_told : (g.state new.store).is_told ≡ (g.state old.store).is_told
   pub tells : TellsMore (g.state old.store).told (g.state new.store).told
+  pub log : FetchesMore (g.state old.store).fetched (g.state new.store).fetched
   pub reopens : OverTime g.clock g.left ReopensAlways old.store new.store
   pub at_rest : KeepsTime g → works.Rests g old.store → works.Rests g new.store
   pub shape : new.tables.shape ≡ old.tables.shape

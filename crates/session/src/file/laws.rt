@@ -71,6 +71,6 @@ pub fn left_file_is_well()
 pub fn ended_run_is_left<H: Host>()
     ensures { (old new : H) (before after : File) (said heard : List ℕ) (script left : Option (List ℕ)) (result : Result Served Stop)
         → H.file old ≡ Some before → (H.beside old).tape ≡ Some said → H.file new ≡ Some after → (H.beside new).tape ≡ Some heard
-        → (runs : RunsOnFile H.Disk before said script left old new result) (image : List ℕ) → IsImage after.since image
+        → (log now : Option (List ℕ)) (runs : RunsOnFile H.Disk before said script left old new result log now) (image : List ℕ) → IsImage after.since image
         → LeftByRun runs.shape runs.run.held runs.run.stages runs.run.outcomes runs.run.in_hand said image heard ⊎ IsImage before.since image }
 {}

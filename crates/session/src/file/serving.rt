@@ -17,6 +17,7 @@ ghost use Rattle.script_engine.specs.Opening.{IsSoundStore};
 ghost use Rattle.file_verdict.specs.Resting.{ComesToRest, StaysFormed};
 ghost use Rattle.file_verdict.specs.SoundFile.{StatesExtents};
 ghost use Rattle.session.specs.Stops.{IsOfScript};
+ghost use Rattle.session.specs.script.Fetching.{FetchesMore};
 ghost use Rattle.session.specs.script.Leaving.{ReopensAlways};
 ghost use Rattle.session.specs.script.Serving.{TakesScript};
 ghost use Rattle.session.specs.script.Told.{StaysTold, TellsMore};
@@ -30,7 +31,7 @@ ghost use Rattle.session.specs.file.Well.{AreWell, IsWell};
 use crate::script::{Served, goes_on_lists, serve};
 use crate::stop::Stop;
 use mdc_outside::{Host, Source};
-use page_store::{CACHED_PAGES, FileStore, OpenFault, Origin, Unopened};
+use page_store::{CACHED_PAGES, FetchLog, FileStore, OpenFault, Origin, Unopened};
 use script_engine::{Engine, Stopped, sound_pages_stand};
 use std::alloc::Global;
 use store_api::{Pages, Shape, Store};
@@ -48,12 +49,19 @@ pub struct Ended<H> {
 /// `Unmade`, `NotMdc`, `Version` and `Damaged` name a file that isn't served, and nothing is taken from the source where its
 /// opening refuses it. After `Damaged` of a page that a statement met, the statements before it are answered.
 ///
+/// The log goes on with the pages that come to hand.
+///
 /// `O` is the bytes of the file as they are at this call: it is called with `Brand`, and the caller's proof picks them.
-pub fn serve_file<I: Source, H: Host, O: Origin>(alloc: Global, input: &mut I, host: H) -> Ended<H>
+pub fn serve_file<I: Source, H: Host, O: Origin, L: FetchLog>(
+    alloc: Global,
+    input: &mut I,
+    host: H,
+    log: &mut L,
+) -> Ended<H>
     requires attached { IsTrue (H.is_attached host) }
     requires origin { O.first ≡ file_bytes (H.file host) }
     ensures runs { (before : File) (said : List ℕ) → H.file host ≡ Some before → (H.beside host).tape ≡ Some said → IsWell before.bytes
-        → RunsOnFile H.Disk before said (I.left input.old) (I.left input.new) host result.host result.end }
+        → RunsOnFile H.Disk before said (I.left input.old) (I.left input.new) host result.host result.end (L.told log.old) (L.told log.new) }
     ensures stays_well { (before : File) (said : List ℕ) → H.file host ≡ Some before → (H.beside host).tape ≡ Some said → AreWell before
         → (after : File) × (H.file result.host ≡ Some after) × AreWell after }
     ensures cause { ForSome (H.file host) (λ file. IsCauseIn file.bytes result.end) }
@@ -84,17 +92,29 @@ pub fn serve_file<I: Source, H: Host, O: Origin>(alloc: Global, input: &mut I, h
     ensures device { CountsFault (result.end ≡ Err Stop.Device) (H.disk_faults host) (H.disk_faults result.host) }
     ensures attaches { H.attaches result.host ≡ H.attaches host }
     ensures told { StaysTold (H.file host) (H.file result.host) × TellsMore (H.beside host).tape (H.beside result.host).tape }
+    // Whatever the file is and however it ends, the log goes on with the pages that came to hand, and of a file that isn't served none does.
+    ensures log { FetchesMore (L.told log.old) (L.told log.new) }
+    ensures unfetched { ForSome (H.file host) (λ file. (IsServed file.bytes → ⊥) → L.told log.new ≡ L.told log.old) }
     ensures later { H.clock host ≤ H.clock result.host }
 {
     // A run over sound pages is one over lists of rows, also one of no item.
     goes_on_lists();
     sound_pages_stand();
-    match FileStore::<H, O>::open(alloc, host, CACHED_PAGES) {
-        Ok(store) => serve_store(alloc, input, store),
-        Err(Unopened { fault, host }) => Ended {
-            end: Err(stop_of_opening(fault)),
-            host,
-        },
+    match FileStore::<H, O, L>::open(alloc, host, log.take(), CACHED_PAGES) {
+        Ok(store) => serve_store(alloc, input, store, log),
+        Err(
+            Unopened {
+                fault,
+                host,
+                log: taken,
+            },
+        ) => {
+            *log = taken;
+            Ended {
+                end: Err(stop_of_opening(fault)),
+                host,
+            }
+        }
     }
 }
 
@@ -105,33 +125,35 @@ struct Answered<S: Store> {
     store: S,
 }
 
-// Serves a script on a store that was opened, and gives its host back.
-fn serve_store<I: Source, H: Host, O: Origin>(
+// Serves a script on a store that was opened, and gives its host and its log back.
+fn serve_store<I: Source, H: Host, O: Origin, L: FetchLog>(
     alloc: Global,
     input: &mut I,
-    store: FileStore<H, O>,
+    store: FileStore<H, O, L>,
+    log: &mut L,
 ) -> Ended<H>
-    requires going { (⟦<FileStore<H, O> as Pages>⟧.state store).ended ≡ false }
-    requires unmarked { (⟦<FileStore<H, O> as Pages>⟧.state store).marked ≡ None }
+    requires going { (⟦<FileStore<H, O, L> as Pages>⟧.state store).ended ≡ false }
+    requires unmarked { (⟦<FileStore<H, O, L> as Pages>⟧.state store).marked ≡ None }
     // It is known what the file was before it was opened.
     requires origin { ForSome (H.file store.host) (λ file. (first : List ℕ) × (O.first ≡ Some first) × IsFormed first × FrontAgrees first file.bytes) }
     ensures runs { (file : File) (said : List ℕ) → H.file store.host ≡ Some file → (H.beside store.host).tape ≡ Some said
-        → (shape : Shape) → StatesExtents file.bytes shape → IsSoundStore ⟦<FileStore<H, O> as Pages>⟧ shape store
-        → ServesStore ⟦<FileStore<H, O> as Pages>⟧ H.Disk shape said (I.left input.old) (I.left input.new) store result.host result.end }
+        → (shape : Shape) → StatesExtents file.bytes shape → IsSoundStore ⟦<FileStore<H, O, L> as Pages>⟧ shape store
+        → ServesStore ⟦<FileStore<H, O, L> as Pages>⟧ H.Disk shape said (I.left input.old) (I.left input.new) store result.host result.end (L.told log.new) }
     ensures damaged { (damage : Damage) → result.end ≡ Err (Stop.Damaged damage) → (file : File) → H.file store.host ≡ Some file
-        → (shape : Shape) → StatesExtents file.bytes shape → IsSoundStore ⟦<FileStore<H, O> as Pages>⟧ shape store → ⊥ }
-    ensures any { (⟦<FileStore<H, O> as Pages>⟧.state store).base ≡ (⟦<FileStore<H, O> as Pages>⟧.state store).work → Rests ⟦<FileStore<H, O> as Pages>⟧ store
-        → ServesAny ⟦<FileStore<H, O> as Pages>⟧ H.Disk (H.file store.host) (I.left input.old) (I.left input.new) store result.host result.end }
+        → (shape : Shape) → StatesExtents file.bytes shape → IsSoundStore ⟦<FileStore<H, O, L> as Pages>⟧ shape store → ⊥ }
+    ensures any { (⟦<FileStore<H, O, L> as Pages>⟧.state store).base ≡ (⟦<FileStore<H, O, L> as Pages>⟧.state store).work → Rests ⟦<FileStore<H, O, L> as Pages>⟧ store
+        → ServesAny ⟦<FileStore<H, O, L> as Pages>⟧ H.Disk (H.file store.host) (I.left input.old) (I.left input.new) store result.host result.end }
     ensures takes { TakesBySession (I.left input.old) (I.left input.new) result.end }
-    ensures grew { (⟦<FileStore<H, O> as Pages>⟧.state store).base ≡ (⟦<FileStore<H, O> as Pages>⟧.state store).work
+    ensures grew { (⟦<FileStore<H, O, L> as Pages>⟧.state store).base ≡ (⟦<FileStore<H, O, L> as Pages>⟧.state store).work
         → IfSome O.first (λ first. ForSome (H.file result.host) (λ file. GrewWhere (result.end ≡ Err Stop.Device → ⊥) first file.bytes)) }
     ensures reopens { (file : File) (said : List ℕ) → H.file store.host ≡ Some file → (H.beside store.host).tape ≡ Some said
-        → LeavesFormed ⟦<FileStore<H, O> as Pages>⟧ H.Disk file.bytes store result.host }
+        → LeavesFormed ⟦<FileStore<H, O, L> as Pages>⟧ H.Disk file.bytes store result.host }
     ensures reads { CountsFault (result.end ≡ Err Stop.Unread) (I.read_faults input.old) (I.read_faults input.new) }
     ensures unsaid { CountsFault (result.end ≡ Err Stop.Unsaid) (H.say_faults store.host) (H.say_faults result.host) }
     ensures device { CountsFault (result.end ≡ Err Stop.Device) (H.disk_faults store.host) (H.disk_faults result.host) }
     ensures attaches { H.attaches result.host ≡ H.attaches store.host }
     ensures told { StaysTold (H.file store.host) (H.file result.host) × TellsMore (H.beside store.host).tape (H.beside result.host).tape }
+    ensures log { FetchesMore (⟦<FileStore<H, O, L> as Pages>⟧.state store).fetched (L.told log.new) }
     ensures later { H.clock store.host ≤ H.clock result.host }
 {
     // A run over sound pages is one over lists of rows.
@@ -142,9 +164,11 @@ fn serve_store<I: Source, H: Host, O: Origin>(
         unreachable!()
     };
     let answered = serve_pages(alloc, input, store, shape);
+    let closed = answered.store.close();
+    *log = closed.log;
     Ended {
         end: answered.end,
-        host: answered.store.close(),
+        host: closed.host,
     }
 }
 
@@ -171,6 +195,7 @@ fn serve_pages<I: Source, S: Store>(
     ensures is_told { (S.state result.store).is_told ≡ (S.state store).is_told }
     ensures takes { IfSome (I.left input.old) (λ script. TakesScript script (I.left input.new) result.end) }
     ensures tells { TellsMore (S.state store).told (S.state result.store).told }
+    ensures log { FetchesMore (S.state store).fetched (S.state result.store).fetched }
     ensures reopens { OverTime S.clock S.left ReopensAlways store result.store }
     ensures later { S.clock store ≤ S.clock result.store }
 {

@@ -7,6 +7,7 @@ ghost use Rattle.store_api.specs.declared.fault.Damage.{Damage};
 ghost use Rattle.store_api.specs.Works.{Rests};
 ghost use Rattle.script_engine.specs.OnAnyPages.{IsGoingEngine};
 ghost use Rattle.script_engine.specs.Serving.{IsReadyEngine, MayCall};
+ghost use Rattle.session.specs.script.Fetching.{FetchesMore};
 ghost use Rattle.session.specs.script.Told.{TellsMore};
 ghost use Rattle.session.specs.script.ScriptLaws.{ScriptLaws};
 ghost use Rattle.session.specs.script.Leaving.{ReopensAlways};
@@ -47,6 +48,8 @@ pub fn serve<I: Source, S: Store>(
     ensures is_told { (S.state engine.new.store).is_told ≡ (S.state engine.old.store).is_told }
     ensures takes { IfSome (I.left input.old) (λ script. TakesScript script (I.left input.new) result) }
     ensures tells { TellsMore (S.state engine.old.store).told (S.state engine.new.store).told }
+    // However it ends, a log of the pages that come to hand goes on, and is never begun anew.
+    ensures log { FetchesMore (S.state engine.old.store).fetched (S.state engine.new.store).fetched }
     // And a crash leaves a file that reopens, which behind a run is that of the pages of the last commit, unless the disk failed.
     ensures reopens { OverTime S.clock S.left ReopensAlways engine.old.store engine.new.store }
     ensures going { IsGoingEngine S.Pages engine.old → (IsErrOf result Stop.Device → ⊥) → (S.state engine.new.store).ended ≡ false }

@@ -1,4 +1,4 @@
-use Rattle.std.proofs.Common.{◌≡◌, ◌*◌, IsTrue, None, length}
+use Rattle.std.proofs.Common.{◌≡◌, ◌≤◌, ◌+◌, ◌*◌, IsTrue, None, length}
 use Rattle.store_api.specs.Fetching.{BringsOnce}
 use Rattle.store_api.specs.Frame.{NoPage}
 use Rattle.store_api.specs.RunsOverPages.{RunsOverPages}
@@ -13,7 +13,8 @@ use Rattle.block_rows.proofs.slot_reading.scan_slots.Given as goal
 abbrev pub invariant-loop-j : goal.invariant-loop-j
 invariant-loop-j g l = record {
   left : IsLeftFrom l.fn.slots (l.j * slot_count l.def.columns) l.left;
-  passes : IsTrue (g.P.Pages.state l.fn.pages).is_told → PassesPages g.K.RowSink l.fn.shape (pages_of g.P.Pages l.fn.pages) l.def l.block l.fn.slots l.fn.filter.pred.now l.j l.fn.sink l.sink l.some;
+  passes : IsTrue (g.P.Pages.state l.fn.pages).is_told → PassesPages g.K.RowSink l.fn.shape (pages_of g.P.Pages l.fn.pages) l.def l.block l.fn.slots l.fn.filter.pred.now l.j l.fn.sink l.sink l.count;
+  within : l.count + length l.left ≤ length l.fn.slots;
   fits : g.K.RowSink.is_for l.def.columns l.sink;
   pred : l.filter.pred.now ≡ l.fn.filter.pred.now;
   width : length l.filter.values ≡ length l.fn.filter.values;

@@ -5,7 +5,8 @@ use Rattle.store_api.specs.Causes.{fault_of}
 use Rattle.store_api.specs.Frame.{NoPage}
 use Rattle.store_api.specs.RunsOverPages.{RunsOverPages}
 use Rattle.store_api.proofs.RunsOverPagesLemmas.{runs_exit, runs_memory, runs_none}
-use Rattle.mdc_sound.specs.StandingTable.{BreaksTable}
+use Rattle.mdc_sound.specs.StandingTable.{BreaksExpected}
+use Rattle.row_entries.specs.SoundEntries.{HasSoundIndexes}
 use Rattle.plan_chooser.specs.PlanRows.{fits_plan}
 use Rattle.plan_chooser.specs.declared.plan.Plan.{Plan}
 use Rattle.executor.specs.Planned.{CountsPlanned, CoversIfAny, IsFoundPage}
@@ -42,5 +43,5 @@ returns-clause-seen g c =
 pub returns-clause-runs : goal.returns-clause-runs
 returns-clause-runs g c =
     subst
-    (λ (plan : Plan). RunsOverPages g.P.Pages NoPage (IsFoundPage g.P.Pages c.args.shape c.args.pages.now c.args.def.now plan) (BreaksTable g.P.Pages c.args.shape c.args.pages.now c.args.def.now) c.args.pages.now c.scan_planned.new.pages (fault_of c.scan_planned.result))
+    (λ (plan : Plan). RunsOverPages g.P.Pages NoPage (IsFoundPage g.P.Pages c.args.shape c.args.pages.now c.args.def.now plan) (BreaksExpected g.P.Pages c.args.shape c.args.pages.now c.args.def.now (HasSoundIndexes g.P.Pages c.args.shape c.args.pages.now c.args.def.now)) c.args.pages.now c.scan_planned.new.pages (fault_of c.scan_planned.result))
     c.in_ok-plan.ensures c.scan_planned.ensures.runs

@@ -6,6 +6,7 @@ use Rattle.block_rows.specs.HeldRows.{qualifying}
 use Rattle.mdc_sound.specs.TableRows.{rows_in_table}
 use Rattle.mdc_sound.proofs.StandingTableLemmas.{stands_same}
 use Rattle.executor.specs.PartRows.{parts_with_rows, rows_in_parts}
+use Rattle.executor.proofs.ListedRowsLemmas.{listed_have_rows, listed_still}
 use Rattle.executor.proofs.MatchingLemmas.{counts_by_parts, gives_by_parts, lists_runs, some_by_parts, tree_runs, whole_is_used}
 use Rattle.executor.proofs.SeenPartsLemmas.{parts_still}
 use Rattle.executor.proofs.planned.scan_planned.Goals as goal
@@ -23,6 +24,12 @@ scan_parts-requires-clause-used g c = λ part there whole owners forests st.
     let tree = c.in_ok-tree.ensures in
     whole_is_used c.args.shape c.args.pages.now c.args.def.now c.args.plan.now c.in_ok-tree.tree c.in_ok-merge.merge tree.stands c.in_ok-merge.ensures part there whole owners forests
     (stands_same c.args.shape c.tree_of_plan.new.pages c.args.pages.now c.args.def.now owners forests (sym tree.runs.works.steady.is_told) (sym tree.same) st)
+
+pub scan_parts-requires-clause-lies : goal.scan_parts-requires-clause-lies
+scan_parts-requires-clause-lies g c = λ part there.
+    let tree = c.in_ok-tree.ensures in
+    listed_still c.args.shape c.args.pages.now c.tree_of_plan.new.pages c.args.def.now part tree.runs.works.steady.is_told tree.same
+    (listed_have_rows c.args.shape c.args.pages.now c.args.def.now c.args.plan.now c.in_ok-tree.tree c.in_ok-merge.merge tree.stands c.in_ok-merge.ensures part there)
 
 pub returns-clause-gives : goal.returns-clause-gives
 returns-clause-gives g c =

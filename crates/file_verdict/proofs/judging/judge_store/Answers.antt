@@ -46,8 +46,8 @@ pub returns-clause-beside : goal.returns-clause-beside
 returns-clause-beside g c =
     let steady = c.check-verdict.ensures.runs.works.steady in
     let lies = g.met.H.Host.lies_beside in
-    same_beside (g.H.Disk.beside c.close.result) (g.H.Disk.beside c.args.store.host) (ap (λ host. (g.H.Disk.beside host).tape) c.close.ensures.same ∙ steady.told)
-    ((lies c.close.result).1 ∙ (c.close.ensures.say_count ∙ (steady.say_faults ∙ sym (lies c.args.store.host).1)))
+    same_beside (g.H.Disk.beside c.close.result.host) (g.H.Disk.beside c.args.store.host) (ap (λ host. (g.H.Disk.beside host).tape) c.close.ensures.same ∙ steady.told)
+    ((lies c.close.result.host).1 ∙ (c.close.ensures.say_count ∙ (steady.say_faults ∙ sym (lies c.args.store.host).1)))
 
 pub returns-clause-attaches : goal.returns-clause-attaches
 returns-clause-attaches g c =
@@ -57,7 +57,7 @@ returns-clause-attaches g c =
 
 pub returns-clause-told : goal.returns-clause-told
 returns-clause-told g c =
-    stays_by_test (g.H.Disk.file c.args.store.host) (g.H.Disk.file c.close.result) (ap (λ host. is_some (g.H.Disk.file host)) c.close.ensures.same ∙ c.check-verdict.ensures.runs.works.steady.is_told)
+    stays_by_test (g.H.Disk.file c.args.store.host) (g.H.Disk.file c.close.result.host) (ap (λ host. is_some (g.H.Disk.file host)) c.close.ensures.same ∙ c.check-verdict.ensures.runs.works.steady.is_told)
 
 pub returns-clause-later : goal.returns-clause-later
 returns-clause-later g c = subst (λ host. g.H.Disk.clock c.args.store.host ≤ g.H.Disk.clock host) (sym c.close.ensures.same) c.check-verdict.ensures.runs.works.steady.time.later

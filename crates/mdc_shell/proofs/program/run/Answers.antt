@@ -7,6 +7,7 @@ use Rattle.file_verdict.specs.declared.unjudged.Unjudged.TheVariants as unjudged
 use Rattle.session.specs.declared.stop.Stop.TheVariants.{Memory}
 use Rattle.mdc_shell.specs.Leaving.{LeftByCreate}
 use Rattle.mdc_shell.specs.Words.{CheckFile, CreateFile, RunFile, RunScratch}
+use Rattle.session.proofs.FetchedRunsLemmas.{fetches_same}
 use Rattle.mdc_shell.proofs.AnyRunsLemmas.{runs_any-before}
 use Rattle.mdc_shell.proofs.Asking.{one_line}
 use Rattle.mdc_shell.proofs.CheckLemmas.{checks_formed-before, checks_path-before, checks_unserved-before}
@@ -125,7 +126,7 @@ returns-in-Err-clause-served g c = λ path line. (serves_path-before _ _ _ _ Mem
 
 pub returns-in-Err-clause-runs : goal.returns-in-Err-clause-runs
 returns-in-Err-clause-runs g c = λ path line before said is told well.
-    runs_path-before g.H.Disk before said _ c.args.host c.args.host Memory well (c.nothing_is_run.ensures.well before.bytes said _ Memory tt well)
+    runs_path-before g.H.Disk before said _ c.args.host c.args.host Memory well (c.nothing_is_run.ensures.well before.bytes said _ Memory tt well) refl
     ((g.met.H.Host.lies_beside c.args.host).0 ∙ told) over_time_none
 
 pub returns-in-Err-clause-runs_any : goal.returns-in-Err-clause-runs_any
@@ -139,7 +140,7 @@ pub returns-in-Err-clause-refuses : goal.returns-in-Err-clause-refuses
 returns-in-Err-clause-refuses g c = λ path line before said is told not_served. (refuses_file-before g.H.Disk before said _ c.args.host c.args.host Memory tt told over_time_none, refl)
 
 pub returns-in-Err-clause-scratch : goal.returns-in-Err-clause-scratch
-returns-in-Err-clause-scratch g c = λ line before said is told empty. runs_scratch-ended said _ _ _ _ _ 8 (c.nothing_is_run.ensures.scratch said _ Memory tt) (sym told) refl
+returns-in-Err-clause-scratch g c = λ line before said is told empty. runs_scratch-ended said _ _ _ _ _ 8 (c.nothing_is_run.ensures.scratch said _ Memory tt _) (sym told) refl
 
 pub returns-in-Ok-None-clause-keeps_refused : goal.returns-in-Ok-None-clause-keeps_refused
 returns-in-Ok-None-clause-keeps_refused g c = λ path line.
@@ -281,3 +282,68 @@ returns-in-Ok-None-clause-grew g c = λ other before after is now. grew_not_at_a
 
 pub returns-in-Err-clause-grew : goal.returns-in-Err-clause-grew
 returns-in-Err-clause-grew g c = λ other before after is now. grew_not_at_all before after refl is now
+
+-- ---- the log
+
+pub returns-in-Ok-Some-RunScratch-clause-log : goal.returns-in-Ok-Some-RunScratch-clause-log
+returns-in-Ok-Some-RunScratch-clause-log g c = c.run_scratch.ensures.log
+
+pub returns-in-Ok-Some-RunFile-clause-log : goal.returns-in-Ok-Some-RunFile-clause-log
+returns-in-Ok-Some-RunFile-clause-log g c = c.run_path.ensures.log
+
+pub returns-in-Ok-Some-Check-clause-log : goal.returns-in-Ok-Some-Check-clause-log
+returns-in-Ok-Some-Check-clause-log g c = fetches_same refl
+
+pub returns-in-Ok-Some-Create-clause-log : goal.returns-in-Ok-Some-Create-clause-log
+returns-in-Ok-Some-Create-clause-log g c = fetches_same refl
+
+pub returns-in-Ok-None-clause-log : goal.returns-in-Ok-None-clause-log
+returns-in-Ok-None-clause-log g c = fetches_same refl
+
+pub returns-in-Err-clause-log : goal.returns-in-Err-clause-log
+returns-in-Err-clause-log g c = fetches_same refl
+
+pub returns-in-Ok-Some-RunScratch-clause-unfetched : goal.returns-in-Ok-Some-RunScratch-clause-unfetched
+returns-in-Ok-Some-RunScratch-clause-unfetched g c = λ path line.
+    let a = c.in-Ok-Some-RunScratch in
+    let asked = rw (a.field-0-is, a.field-0-0-is, c.as_slice.ensures.value) at a.ensures in
+    absurd (let e = one_line _ RunScratch (RunFile path) asked line in cc)
+
+pub returns-in-Ok-Some-RunFile-clause-unfetched : goal.returns-in-Ok-Some-RunFile-clause-unfetched
+returns-in-Ok-Some-RunFile-clause-unfetched g c = λ path line. c.run_path.ensures.unfetched
+
+pub returns-in-Ok-Some-Check-clause-unfetched : goal.returns-in-Ok-Some-Check-clause-unfetched
+returns-in-Ok-Some-Check-clause-unfetched g c = λ path line file is unserved. refl
+
+pub returns-in-Ok-Some-Create-clause-unfetched : goal.returns-in-Ok-Some-Create-clause-unfetched
+returns-in-Ok-Some-Create-clause-unfetched g c = λ path line file is unserved. refl
+
+pub returns-in-Ok-None-clause-unfetched : goal.returns-in-Ok-None-clause-unfetched
+returns-in-Ok-None-clause-unfetched g c = λ path line file is unserved. refl
+
+pub returns-in-Err-clause-unfetched : goal.returns-in-Err-clause-unfetched
+returns-in-Err-clause-unfetched g c = λ path line file is unserved. refl
+
+pub returns-in-Ok-Some-RunScratch-clause-unlogged : goal.returns-in-Ok-Some-RunScratch-clause-unlogged
+returns-in-Ok-Some-RunScratch-clause-unlogged g c = λ no_file no_scratch.
+    let a = c.in-Ok-Some-RunScratch in
+    let asked = rw (a.field-0-is, a.field-0-0-is, c.as_slice.ensures.value) at a.ensures in
+    absurd (no_scratch asked)
+
+pub returns-in-Ok-Some-RunFile-clause-unlogged : goal.returns-in-Ok-Some-RunFile-clause-unlogged
+returns-in-Ok-Some-RunFile-clause-unlogged g c = λ no_file no_scratch.
+    let a = c.in-Ok-Some-RunFile in
+    let asked = rw (a.field-0-is, a.field-0-0-is, c.as_slice.ensures.value) at a.ensures in
+    absurd (no_file a.path.now asked)
+
+pub returns-in-Ok-Some-Check-clause-unlogged : goal.returns-in-Ok-Some-Check-clause-unlogged
+returns-in-Ok-Some-Check-clause-unlogged g c = λ no_file no_scratch. refl
+
+pub returns-in-Ok-Some-Create-clause-unlogged : goal.returns-in-Ok-Some-Create-clause-unlogged
+returns-in-Ok-Some-Create-clause-unlogged g c = λ no_file no_scratch. refl
+
+pub returns-in-Ok-None-clause-unlogged : goal.returns-in-Ok-None-clause-unlogged
+returns-in-Ok-None-clause-unlogged g c = λ no_file no_scratch. refl
+
+pub returns-in-Err-clause-unlogged : goal.returns-in-Err-clause-unlogged
+returns-in-Err-clause-unlogged g c = λ no_file no_scratch. refl

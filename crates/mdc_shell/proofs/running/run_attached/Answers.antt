@@ -120,3 +120,9 @@ pub returns-clause-grew : goal.returns-clause-grew
 returns-clause-grew g c = λ before after is now.
     grew_as before after.bytes (λ ends. (c.end_run.ensures.quiet (ap line_of_end ends)).1 ∙ ap status_of ends)
     (c.serve_file-ended.ensures.grew before after is (sym c.end_run.ensures.disk.same_file ∙ now))
+
+pub returns-clause-log : goal.returns-clause-log
+returns-clause-log g c = c.serve_file-ended.ensures.log
+
+pub returns-clause-unfetched : goal.returns-clause-unfetched
+returns-clause-unfetched g c = c.serve_file-ended.ensures.unfetched

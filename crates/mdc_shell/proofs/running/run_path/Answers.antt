@@ -4,6 +4,7 @@ use Rattle.page_file.proofs.LeavesLemmas.{sound_image}
 use Rattle.mdc_words.proofs.TimeLemmas.{over_time_wider}
 use Rattle.mdc_outside.specs.Disk.{opened}
 use Rattle.session.specs.declared.stop.Stop.TheVariants.{Device}
+use Rattle.session.proofs.FetchedRunsLemmas.{fetches_same}
 use Rattle.mdc_shell.proofs.AnyRunsLemmas.{runs_any-before, runs_any-opened}
 use Rattle.mdc_shell.proofs.CreateLemmas.{tape_stays}
 use Rattle.mdc_shell.proofs.RunsLemmas.{attach_failed, could_be_left-quiet, refuses_file-before, refuses_file-opened, reopens_file-before, reopens_file-opened, runs_path-before, runs_path-opened, says_end-quiet, serves_path-before, serves_path-opened, takes_none}
@@ -68,7 +69,7 @@ pub returns-in-Err-clause-runs : goal.returns-in-Err-clause-runs
 returns-in-Err-clause-runs g c = λ before said is told well.
     let lies = g.met.H.Host.lies_beside in
     let meanwhile = over_time_wider c.attach.ensures.time (could_be_left-quiet _ _ before said is ((lies c.args.host).0 ∙ told)) in
-    runs_path-before g.H.Disk before said _ c.args.host c.attach.new.self Device well (c.nothing_is_run.ensures.well before.bytes said _ Device tt well)
+    runs_path-before g.H.Disk before said _ c.args.host c.attach.new.self Device well (c.nothing_is_run.ensures.well before.bytes said _ Device tt well) refl
     (ap (λ b. b.tape) c.attach.ensures.beside ∙ ((lies c.args.host).0 ∙ told)) meanwhile
 
 pub returns-in-Err-clause-stays_well : goal.returns-in-Err-clause-stays_well
@@ -113,3 +114,15 @@ returns-in-Ok-clause-grew g c = λ before after is now. c.run_attached.ensures.g
 
 pub returns-in-Err-clause-grew : goal.returns-in-Err-clause-grew
 returns-in-Err-clause-grew g c = λ before after is now. grew_not_at_all before after (attach_failed _ _ c.in-Err.ensures.file_failed) is now
+
+pub returns-in-Ok-clause-log : goal.returns-in-Ok-clause-log
+returns-in-Ok-clause-log g c = c.run_attached.ensures.log
+
+pub returns-in-Err-clause-log : goal.returns-in-Err-clause-log
+returns-in-Err-clause-log g c = fetches_same refl
+
+pub returns-in-Ok-clause-unfetched : goal.returns-in-Ok-clause-unfetched
+returns-in-Ok-clause-unfetched g c = λ file is unserved. c.run_attached.ensures.unfetched (opened file) (c.in-Ok.ensures.opened ∙ ap (option_map opened) is) unserved
+
+pub returns-in-Err-clause-unfetched : goal.returns-in-Err-clause-unfetched
+returns-in-Err-clause-unfetched g c = λ file is unserved. refl

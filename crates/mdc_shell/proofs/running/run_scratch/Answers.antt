@@ -1,6 +1,7 @@
 use Rattle.std.proofs.Common.{◌∙◌, arith, inl, inr, refl, sym}
 use Rattle.session.specs.declared.stop.Stop.TheVariants.{Device}
 use Rattle.page_file.proofs.LeavesLemmas.{sound_image}
+use Rattle.session.proofs.FetchedRunsLemmas.{fetches_same}
 use Rattle.mdc_shell.proofs.CreateLemmas.{left_by_making-told, made_of_nothing, tape_stays}
 use Rattle.mdc_shell.proofs.RunsLemmas.{runs_scratch-ended, takes_none}
 use Rattle.session.proofs.ToldLemmas.{same-told, told_then}
@@ -14,7 +15,7 @@ returns-in-Ok-clause-runs g c = λ before said is told empty.
     let made = c.in-Ok.ensures.made after.0 after.1 in
     let well = (c.made_files_are_well.ensures 4096 4 after.0 refl made.0).0 in
     let run = c.run_attached.ensures.runs after.0 said after.1 tape (well after.0.bytes (sound_image _ after.0 (g.met.H.Disk.sound c.make_at.new.disk) after.1)) in
-    let on_scratch = c.scratch_runs.ensures after.0 run.run.shape said _ _ _ run.end_ made.0 made.1 run.run.states_extents run.run.run in
+    let on_scratch = c.scratch_runs.ensures after.0 run.run.shape said _ _ _ run.end_ made.0 made.1 run.run.states_extents run.run.run _ _ run.run.fetches in
     runs_scratch-ended said _ _ _ _ _ c.run_attached.result.status.0 on_scratch (lies c.run_attached.result.host).0 run.status_is
 
 pub returns-in-Ok-clause-full : goal.returns-in-Ok-clause-full
@@ -33,7 +34,7 @@ pub returns-in_default-clause-runs : goal.returns-in_default-clause-runs
 returns-in_default-clause-runs g c = λ before said is told empty.
     let lies = g.met.H.Host.lies_beside in
     let tape = tape_stays _ _ _ _ c.make_at.ensures.beside (lies c.make_at.new.disk).0 (lies c.args.host).0 ∙ told in
-    runs_scratch-ended said _ _ _ _ _ 3 (c.nothing_is_run.ensures.scratch said _ Device tt) (sym tape) refl
+    runs_scratch-ended said _ _ _ _ _ 3 (c.nothing_is_run.ensures.scratch said _ Device tt _) (sym tape) refl
 
 pub returns-in_default-clause-full : goal.returns-in_default-clause-full
 returns-in_default-clause-full g c = λ before said is told some.
@@ -56,3 +57,12 @@ returns-in-Exists-clause-takes g c =
 
 pub returns-in_default-clause-takes : goal.returns-in_default-clause-takes
 returns-in_default-clause-takes g c = takes_none (g.I.Source.left c.args.input.now) 3 (λ e. absurd (cc)) (λ e. absurd (cc)) (λ e. absurd (cc))
+
+pub returns-in-Ok-clause-log : goal.returns-in-Ok-clause-log
+returns-in-Ok-clause-log g c = c.run_attached.ensures.log
+
+pub returns-in-Exists-clause-log : goal.returns-in-Exists-clause-log
+returns-in-Exists-clause-log g c = fetches_same refl
+
+pub returns-in_default-clause-log : goal.returns-in_default-clause-log
+returns-in_default-clause-log g c = fetches_same refl

@@ -1,5 +1,5 @@
 use Rattle.std.proofs.Common.{◌∙◌, arith, inl, inr, refl, sym}
-use Rattle.std.proofs.lemmas.Result.{IfOk-weaker, on_ok_weaker}
+use Rattle.std.proofs.lemmas.Result.{on_ok_weaker}
 use Rattle.store_api.proofs.RunsOverPagesLemmas.{runs_none}
 use Rattle.free_space.specs.RoomNotes.{room_of}
 use Rattle.free_space.proofs.TableRunsLemmas.{runs_broken}
@@ -20,14 +20,7 @@ returns-then-rid-shape-clause-runs g c =
 pub returns-clause-overwrites : goal.returns-clause-overwrites
 returns-clause-overwrites g c =
     row_overwritten g.P.Pages c.args.shape c.args.pages.now c.overwrite_row.new.pages c.args.def.now c.args.rid c.args.row.now (room_of c.args.rooms.now) c.overwrite_row.result c.overwrite_row.ensures.overwrites
-
-pub returns-clause-leaves : goal.returns-clause-leaves
-returns-clause-leaves g c =
-    on_ok_weaker c.overwrite_row.result (λ turns noted owners forests was st has. (turns noted owners forests was has.slots st has.lies has.one_cell).changes) c.overwrite_row.ensures.overwrites
-
-pub returns-clause-makes : goal.returns-clause-makes
-returns-clause-makes g c =
-    IfOk-weaker c.overwrite_row.result _ _ (λ done makes noted owners forests ready has. makes owners forests ready.stands has) c.overwrite_row.ensures.makes
+    c.overwrite_row.ensures.makes
 
 pub returns-clause-stay : goal.returns-clause-stay
 returns-clause-stay g c owners forests st =
@@ -40,15 +33,7 @@ returns-clause-runs g c =
 pub returns-then-eq-clause-overwrites : goal.returns-then-eq-clause-overwrites
 returns-then-eq-clause-overwrites g c =
     row_overwritten g.P.Pages c.args.shape c.args.pages.now c.overwrite_row_of_used.new.pages c.args.def.now c.args.rid c.args.row.now (room_of c.args.rooms.now) c.overwrite_row_of_used.result
-    c.overwrite_row_of_used.ensures.overwrites
-
-pub returns-then-eq-clause-leaves : goal.returns-then-eq-clause-leaves
-returns-then-eq-clause-leaves g c =
-    on_ok_weaker c.overwrite_row_of_used.result (λ turns noted owners forests was st has. (turns noted owners forests was has.slots st has.lies has.one_cell).changes) c.overwrite_row_of_used.ensures.overwrites
-
-pub returns-then-eq-clause-makes : goal.returns-then-eq-clause-makes
-returns-then-eq-clause-makes g c =
-    IfOk-weaker c.overwrite_row_of_used.result _ _ (λ done makes noted owners forests ready has. makes owners forests ready.stands has) c.overwrite_row_of_used.ensures.makes
+    c.overwrite_row_of_used.ensures.overwrites c.overwrite_row_of_used.ensures.makes
 
 pub returns-then-eq-clause-stay : goal.returns-then-eq-clause-stay
 returns-then-eq-clause-stay g c owners forests st =

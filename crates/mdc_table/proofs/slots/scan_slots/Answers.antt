@@ -1,148 +1,94 @@
-use Rattle.std.proofs.Common.{◌≡◌, ◌∙◌, ◌<◌, ◌^◌, None, Some, ap, arith, inl, inr, rules, subst, sym}
-use Rattle.std.specs.Prelude.{false, length, nat_lt}
+use Rattle.std.proofs.Common.{◌∙◌, None, Some, inl, inr, subst, sym}
+use Rattle.std.specs.Prelude.{false, true}
+use Rattle.std.proofs.lemmas.Bool.{false≢true}
 use Rattle.store_api.proofs.RunsOverPagesLemmas.{runs_exit}
-use Rattle.block_map.specs.BlockMaps.{FindsBlock}
-use Rattle.block_map.specs.declared.state.BlockState.TheVariants as state
 use Rattle.block_rows.specs.Giving.{WasGiven}
 use Rattle.block_rows.specs.HeldRows.{qualifying}
-use Rattle.block_rows.specs.ListedSlots.{HasSeenSlots, rows_in_slots}
-use Rattle.free_space.proofs.FoundRoomLemmas.{used_is_mapped, used_is_used, used_within}
-use Rattle.free_space.proofs.TableRunsLemmas.{holds_block_map}
+use Rattle.block_rows.specs.ListedSlots.{rows_in_slots}
+use Rattle.block_rows.proofs.GivingLemmas.{given_none}
 use Rattle.mdc_sound.specs.StandingTable.{pages_of}
 use Rattle.mdc_sound.specs.TableRows.{rows_in_block}
-use Rattle.mdc_table.specs.SeenPlaces.{IsUnusedRow}
-use Rattle.mdc_table.proofs.SeenPlacesLemmas.{unused_in_map, used_in_map}
-use Rattle.mdc_table.proofs.StandingBlocksLemmas.{runs_on_map}
-use Rattle.mdc_table.proofs.UsedSlotsLemmas.{all_if_used, given_unless_used, none_unless_used, part_of_map, part_of_rows}
+use Rattle.mdc_table.specs.SeenPlaces.{HasSeenFilled}
+use Rattle.mdc_table.specs.UsedSlots.{SeesUse}
+use Rattle.mdc_table.proofs.UsedSlotsLemmas.{all_given, none_given, none_there, one_there, slots_of_map, slots_of_rows}
 use Rattle.mdc_table.proofs.slots.scan_slots.Goals as goal
 
-pub returns-then-block-shape-clause-given : goal.returns-then-block-shape-clause-given
-returns-then-block-shape-clause-given g c owners forests st =
-    given_unless_used c.args.shape (pages_of g.P.Pages c.args.pages.now) c.args.def.now forests.map c.args.block c.args.slots.now
-    (λ used. omega (arith, c.if-block-shape.true, used_within c.args.shape c.args.pages.now c.args.def.now owners forests st c.args.block used)) g.K.RowSink c.args.filter.now.pred.now c.args.sink.now
+pub returns-in_err-is_used-clause-runs : goal.returns-in_err-is_used-clause-runs
+returns-in_err-is_used-clause-runs g c =
+    runs_exit c.from_residual.result c.from_residual.ensures.1 (slots_of_map c.args.shape c.args.def.now c.args.block c.args.slots.now {fault = Some c.in_err-is_used.field-0.0} c.in_err-is_used.ensures.runs)
 
-pub returns-then-block-shape-clause-some : goal.returns-then-block-shape-clause-some
-returns-then-block-shape-clause-some g c owners forests st =
-    none_unless_used c.args.shape (pages_of g.P.Pages c.args.pages.now) c.args.def.now forests.map c.args.block c.args.slots.now
-    (λ used. omega (arith, c.if-block-shape.true, used_within c.args.shape c.args.pages.now c.args.def.now owners forests st c.args.block used))
+pub returns-then-not-branch-clause-given : goal.returns-then-not-branch-clause-given
+returns-then-not-branch-clause-given g c owners forests st =
+    none_given c.args.shape (pages_of g.P.Pages c.args.pages.now) c.args.def.now forests.map c.args.block c.args.slots.now
+    (sym c.if-not-branch.true ∙ c.in_ok-is_used.ensures.used owners forests st) g.K.RowSink c.args.filter.now.pred.now c.args.sink.now
 
-pub returns-then-block-shape-clause-seen : goal.returns-then-block-shape-clause-seen
-returns-then-block-shape-clause-seen g c = λ told. inr (inr c.if-block-shape.true)
+pub returns-then-not-branch-clause-given_any : goal.returns-then-not-branch-clause-given_any
+returns-then-not-branch-clause-given_any g c = λ told. given_none g.K.RowSink c.args.sink.now
 
-pub returns-in_err-line-clause-runs : goal.returns-in_err-line-clause-runs
-returns-in_err-line-clause-runs g c =
-    let map = c.at-map.result in
-    runs_exit c.from_residual.result c.from_residual.ensures.1
-    (part_of_map {fault = Some c.in_err-line.field-0.0} c.args.shape c.args.def.now c.args.block (runs_on_map {fault = Some c.in_err-line.field-0.0} c.args.shape c.args.def.now map.tree c.at-map.ensures map.seven c.in_err-line.ensures.runs))
+pub returns-then-not-branch-clause-used : goal.returns-then-not-branch-clause-used
+returns-then-not-branch-clause-used g c owners forests st = sym c.if-not-branch.true ∙ c.in_ok-is_used.ensures.used owners forests st
 
-pub returns-in_default-clause-given : goal.returns-in_default-clause-given
-returns-in_default-clause-given g c owners forests st =
-    let map = c.at-map.result in
-    given_unless_used c.args.shape (pages_of g.P.Pages c.args.pages.now) c.args.def.now forests.map c.args.block c.args.slots.now
-    (λ used. used_is_mapped c.args.shape c.args.pages.now c.args.def.now owners forests st c.args.block used
-    (subst (FindsBlock forests.map c.args.block) c.in_default.is (c.in_ok-line.ensures.found forests.map (holds_block_map c.args.shape c.args.pages.now c.args.def.now map.tree owners forests c.at-map.ensures map.seven st))))
-    g.K.RowSink c.args.filter.now.pred.now c.args.sink.now
+pub returns-then-not-branch-clause-filled : goal.returns-then-not-branch-clause-filled
+returns-then-not-branch-clause-filled g c owners forests st used = absurd (false≢true used)
 
-pub returns-in_default-clause-some : goal.returns-in_default-clause-some
-returns-in_default-clause-some g c owners forests st =
-    let map = c.at-map.result in
-    none_unless_used c.args.shape (pages_of g.P.Pages c.args.pages.now) c.args.def.now forests.map c.args.block c.args.slots.now
-    (λ used. used_is_mapped c.args.shape c.args.pages.now c.args.def.now owners forests st c.args.block used
-    (subst (FindsBlock forests.map c.args.block) c.in_default.is (c.in_ok-line.ensures.found forests.map (holds_block_map c.args.shape c.args.pages.now c.args.def.now map.tree owners forests c.at-map.ensures map.seven st))))
+pub returns-then-not-branch-clause-some : goal.returns-then-not-branch-clause-some
+returns-then-not-branch-clause-some g c owners forests st =
+    none_there c.args.shape (pages_of g.P.Pages c.args.pages.now) c.args.def.now forests.map c.args.block c.args.slots.now
+    (sym c.if-not-branch.true ∙ c.in_ok-is_used.ensures.used owners forests st)
 
-pub returns-in_default-clause-seen : goal.returns-in_default-clause-seen
-returns-in_default-clause-seen g c = λ told.
-    let map = c.at-map.result in
-    inr (inl (unused_in_map c.args.pages.now c.args.def.now map.tree c.at-map.ensures map.seven c.args.block _ c.in_ok-line.ensures.found (subst IsUnusedRow (sym c.in_default.is) tt)))
+pub returns-then-not-branch-clause-seen_so : goal.returns-then-not-branch-clause-seen_so
+returns-then-not-branch-clause-seen_so g c = λ told. subst (SeesUse g.P.Pages c.args.shape c.args.pages.now c.args.def.now c.args.block) c.if-not-branch.true c.in_ok-is_used.ensures.seen
 
-pub returns-in_default-clause-runs : goal.returns-in_default-clause-runs
-returns-in_default-clause-runs g c =
-    let map = c.at-map.result in
-    part_of_map {fault = None} c.args.shape c.args.def.now c.args.block (runs_on_map {fault = None} c.args.shape c.args.def.now map.tree c.at-map.ensures map.seven c.in_ok-line.ensures.runs)
+pub returns-then-not-branch-clause-seen : goal.returns-then-not-branch-clause-seen
+returns-then-not-branch-clause-seen g c = λ told. inr (returns-then-not-branch-clause-seen_so g c told)
 
-pub returns-then-ne-clause-given : goal.returns-then-ne-clause-given
-returns-then-ne-clause-given g c owners forests st =
-    let map = c.at-map.result in
-    given_unless_used c.args.shape (pages_of g.P.Pages c.args.pages.now) c.args.def.now forests.map c.args.block c.args.slots.now
-    (λ used.
-    let is = used_is_used c.args.shape c.args.pages.now c.args.def.now owners forests st c.args.block c.in-Some.line used
-    (subst (FindsBlock forests.map c.args.block) c.in-Some.is (c.in_ok-line.ensures.found forests.map (holds_block_map c.args.shape c.args.pages.now c.args.def.now map.tree owners forests c.at-map.ensures map.seven st))) in
-    let wrong : c.ne.result ≡ false = rw is at c.ne.ensures in
-    cc (c.if-ne.true, wrong)) g.K.RowSink c.args.filter.now.pred.now c.args.sink.now
+pub returns-then-not-branch-clause-runs : goal.returns-then-not-branch-clause-runs
+returns-then-not-branch-clause-runs g c = slots_of_map c.args.shape c.args.def.now c.args.block c.args.slots.now {fault = None} c.in_ok-is_used.ensures.runs
 
-pub returns-then-ne-clause-some : goal.returns-then-ne-clause-some
-returns-then-ne-clause-some g c owners forests st =
-    let map = c.at-map.result in
-    none_unless_used c.args.shape (pages_of g.P.Pages c.args.pages.now) c.args.def.now forests.map c.args.block c.args.slots.now
-    (λ used.
-    let is = used_is_used c.args.shape c.args.pages.now c.args.def.now owners forests st c.args.block c.in-Some.line used
-    (subst (FindsBlock forests.map c.args.block) c.in-Some.is (c.in_ok-line.ensures.found forests.map (holds_block_map c.args.shape c.args.pages.now c.args.def.now map.tree owners forests c.at-map.ensures map.seven st))) in
-    let wrong : c.ne.result ≡ false = rw is at c.ne.ensures in
-    cc (c.if-ne.true, wrong))
+pub scan_used_slots-requires-clause-below : goal.scan_used_slots-requires-clause-below
+scan_used_slots-requires-clause-below g c = (subst (SeesUse g.P.Pages c.args.shape c.args.pages.now c.args.def.now c.args.block) c.if-not-branch.false c.in_ok-is_used.ensures.seen).1
 
-pub returns-then-ne-clause-seen : goal.returns-then-ne-clause-seen
-returns-then-ne-clause-seen g c = λ told.
-    let map = c.at-map.result in
-    inr (inl (unused_in_map c.args.pages.now c.args.def.now map.tree c.at-map.ensures map.seven c.args.block _ c.in_ok-line.ensures.found
-    (subst IsUnusedRow (sym c.in-Some.is) (λ is. let wrong : c.ne.result ≡ false = rw is at c.ne.ensures in cc (c.if-ne.true, wrong)))))
+pub returns-in_err-scan_used_slots-clause-runs : goal.returns-in_err-scan_used_slots-clause-runs
+returns-in_err-scan_used_slots-clause-runs g c =
+    let look = c.in_ok-is_used.ensures in
+    let sees = subst (SeesUse g.P.Pages c.args.shape c.args.pages.now c.args.def.now c.args.block) c.if-not-branch.false look.seen in
+    runs_exit c.from_residual-in_err-scan_used_slots.result c.from_residual-in_err-scan_used_slots.ensures.1
+    (slots_of_rows c.args.shape c.args.def.now c.args.block c.args.slots.now {fault = Some c.in_err-scan_used_slots.field-0.0} look.same sees.0 look.runs c.in_err-scan_used_slots.ensures.runs)
 
-pub returns-then-ne-clause-runs : goal.returns-then-ne-clause-runs
-returns-then-ne-clause-runs g c =
-    let map = c.at-map.result in
-    part_of_map {fault = None} c.args.shape c.args.def.now c.args.block (runs_on_map {fault = None} c.args.shape c.args.def.now map.tree c.at-map.ensures map.seven c.in_ok-line.ensures.runs)
+pub returns-clause-given_any : goal.returns-clause-given_any
+returns-clause-given_any g c = λ told.
+    let look = c.in_ok-is_used.ensures in
+    subst (λ pages. WasGiven g.K.RowSink c.args.sink.now c.scan_used_slots.new.sink (qualifying c.args.filter.now.pred.now (rows_in_slots c.args.slots.now (rows_in_block c.args.shape pages c.args.def.now c.args.block)))) look.same
+    (c.in_ok-scan_used_slots.ensures.given (look.runs.works.steady.is_told ∙ told))
 
-pub returns-in-Ok-clause-given : goal.returns-in-Ok-clause-given
-returns-in-Ok-clause-given g c owners forests st =
-    let s = c.args.pages.now in
-    let def = c.args.def.now in
-    let map = c.at-map.result in
-    let used_state : c.in-Some.line.state ≡ state.Used = search rules in
-    let small : c.args.block < 2 ^ 32 = omega arith in
-    let used = used_in_map s def map.tree c.at-map.ensures map.seven c.args.block _ c.in_ok-line.ensures.found c.in-Some.line small c.in-Some.is used_state forests.map st.trees.held.0 in
-    subst (λ rows. WasGiven g.K.RowSink c.args.sink.now c.scan_slots.new.sink (qualifying c.args.filter.now.pred.now (rows_in_slots c.args.slots.now rows)))
-    (ap (λ pages. rows_in_block c.args.shape pages def c.args.block) c.get.ensures.same ∙ sym (all_if_used c.args.shape (pages_of g.P.Pages s) def forests.map c.args.block used))
-    (c.in-Ok.ensures.given (c.in_ok-line.ensures.runs.works.steady.is_told ∙ st.told))
+pub returns-clause-given : goal.returns-clause-given
+returns-clause-given g c owners forests st =
+    all_given c.args.shape (pages_of g.P.Pages c.args.pages.now) c.args.def.now forests.map c.args.block c.args.slots.now (sym c.if-not-branch.false ∙ c.in_ok-is_used.ensures.used owners forests st) g.K.RowSink
+    c.args.filter.now.pred.now c.args.sink.now c.scan_used_slots.new.sink (returns-clause-given_any g c st.told)
 
-pub returns-in-Ok-clause-some : goal.returns-in-Ok-clause-some
-returns-in-Ok-clause-some g c owners forests st =
-    let s = c.args.pages.now in
-    let def = c.args.def.now in
-    let map = c.at-map.result in
-    let used_state : c.in-Some.line.state ≡ state.Used = search rules in
-    let small : c.args.block < 2 ^ 32 = omega arith in
-    let used = used_in_map s def map.tree c.at-map.ensures map.seven c.args.block _ c.in_ok-line.ensures.found c.in-Some.line small c.in-Some.is used_state forests.map st.trees.held.0 in
-    c.in-Ok.ensures.some (c.in_ok-line.ensures.runs.works.steady.is_told ∙ st.told)
-    ∙ ap (λ rows. nat_lt 0 (length (rows_in_slots c.args.slots.now rows)))
-    (ap (λ pages. rows_in_block c.args.shape pages def c.args.block) c.get.ensures.same ∙ sym (all_if_used c.args.shape (pages_of g.P.Pages s) def forests.map c.args.block used))
-
-pub returns-in-Ok-clause-seen : goal.returns-in-Ok-clause-seen
-returns-in-Ok-clause-seen g c = λ told.
-    let map = c.at-map.result in
-    let used_state : c.in-Some.line.state ≡ state.Used = search rules in
-    let small : c.args.block < 2 ^ 32 = omega arith in
-    inl (
-      used_in_map c.args.pages.now c.args.def.now map.tree c.at-map.ensures map.seven c.args.block _ c.in_ok-line.ensures.found c.in-Some.line small c.in-Some.is used_state,
-      subst (λ pages. HasSeenSlots c.args.shape pages c.args.def.now c.args.block c.args.slots.now) c.get.ensures.same (c.in-Ok.ensures.seen (c.in_ok-line.ensures.runs.works.steady.is_told ∙ told)),
+pub returns-clause-seen_so : goal.returns-clause-seen_so
+returns-clause-seen_so g c = λ told.
+    let look = c.in_ok-is_used.ensures in (
+      (subst (SeesUse g.P.Pages c.args.shape c.args.pages.now c.args.def.now c.args.block) c.if-not-branch.false look.seen).0,
+      subst (λ pages. HasSeenFilled c.args.shape pages c.args.def.now c.args.block c.args.slots.now) look.same (c.in_ok-scan_used_slots.ensures.seen (look.runs.works.steady.is_told ∙ told)),
     )
 
-pub returns-in-Ok-clause-runs : goal.returns-in-Ok-clause-runs
-returns-in-Ok-clause-runs g c =
-    let s = c.args.pages.now in
-    let def = c.args.def.now in
-    let map = c.at-map.result in
-    let used_state : c.in-Some.line.state ≡ state.Used = search rules in
-    let small : c.args.block < 2 ^ 32 = omega arith in
-    part_of_rows {fault = None} c.args.shape def c.args.block c.get.ensures.same c.if-block-shape.false
-    (λ owners forests st. used_in_map s def map.tree c.at-map.ensures map.seven c.args.block _ c.in_ok-line.ensures.found c.in-Some.line small c.in-Some.is used_state forests.map st.trees.held.0)
-    (runs_on_map {fault = None} c.args.shape def map.tree c.at-map.ensures map.seven c.in_ok-line.ensures.runs) c.in-Ok.ensures.runs
+pub returns-clause-seen : goal.returns-clause-seen
+returns-clause-seen g c = λ told. inl (returns-clause-seen_so g c told)
 
-pub returns-in-Err-clause-runs : goal.returns-in-Err-clause-runs
-returns-in-Err-clause-runs g c =
-    let s = c.args.pages.now in
-    let def = c.args.def.now in
-    let map = c.at-map.result in
-    let used_state : c.in-Some.line.state ≡ state.Used = search rules in
-    let small : c.args.block < 2 ^ 32 = omega arith in
-    part_of_rows {fault = Some c.in-Err.fault} c.args.shape def c.args.block c.get.ensures.same c.if-block-shape.false
-    (λ owners forests st. used_in_map s def map.tree c.at-map.ensures map.seven c.args.block _ c.in_ok-line.ensures.found c.in-Some.line small c.in-Some.is used_state forests.map st.trees.held.0)
-    (runs_on_map {fault = None} c.args.shape def map.tree c.at-map.ensures map.seven c.in_ok-line.ensures.runs) c.in-Err.ensures.runs
+pub returns-clause-used : goal.returns-clause-used
+returns-clause-used g c owners forests st = sym c.if-not-branch.false ∙ c.in_ok-is_used.ensures.used owners forests st
+
+pub returns-clause-filled : goal.returns-clause-filled
+returns-clause-filled g c owners forests st used = (returns-clause-seen_so g c st.told).1.filled
+
+pub returns-clause-some : goal.returns-clause-some
+returns-clause-some g c owners forests st =
+    one_there c.args.shape (pages_of g.P.Pages c.args.pages.now) c.args.def.now forests.map c.args.block c.args.slots.now (sym c.if-not-branch.false ∙ c.in_ok-is_used.ensures.used owners forests st) c.requires.some
+    (returns-clause-seen_so g c st.told).1.filled
+
+pub returns-clause-runs : goal.returns-clause-runs
+returns-clause-runs g c =
+    let look = c.in_ok-is_used.ensures in
+    let sees = subst (SeesUse g.P.Pages c.args.shape c.args.pages.now c.args.def.now c.args.block) c.if-not-branch.false look.seen in
+    slots_of_rows c.args.shape c.args.def.now c.args.block c.args.slots.now {fault = None} look.same sees.0 look.runs c.in_ok-scan_used_slots.ensures.runs

@@ -9,4 +9,4 @@ pub returns-clause-rows : goal.returns-clause-rows
 returns-clause-rows c def chosen old by_row new rows whole are takes rolls = same_rows chosen old by_row rows whole are takes def new rolls
 
 pub returns-clause-entries : goal.returns-clause-entries
-returns-clause-entries c def chosen old trees by_row new rows others long are too first second = same_entries def trees by_row new rows others long (same_chosen are too) first second
+returns-clause-entries c def chosen old trees by_row new rows others are too first second = same_entries def trees by_row new rows others (same_chosen are too) first second

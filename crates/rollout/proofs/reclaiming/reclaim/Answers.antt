@@ -8,7 +8,7 @@ use Rattle.table_blocks.proofs.MapOfTableLemmas.{map_of_table}
 use Rattle.cell_change.proofs.DeletingRowsLemmas.{blocks_left}
 use Rattle.rollout.proofs.ReclaimedTableLemmas.{database_reclaimed, reclaims_free, sound_reclaimed}
 use Rattle.rollout.proofs.ReclaimingLoopLemmas.{IsReclaiming, reclaiming_next, reclaiming_none, reclaiming_runs, runs_listed}
-use Rattle.rollout.proofs.RollingLoopLemmas.{any_default}
+use Rattle.rollout.proofs.TakenCellsLemmas.{any_default}
 use Rattle.rollout.proofs.reclaiming.reclaim.Given.{Over}
 use Rattle.rollout.proofs.reclaiming.reclaim.Goals as goal
 

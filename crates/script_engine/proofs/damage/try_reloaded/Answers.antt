@@ -1,4 +1,5 @@
-use Rattle.std.proofs.Common.{◌≡◌, ◌∙◌, false, refl, sym, true}
+use Rattle.std.proofs.Common.{◌≡◌, ◌∙◌, false, refl, subst, sym, true}
+use Rattle.stored_catalog.specs.StoredDefinitions.{AreStored}
 use Rattle.script_engine.proofs.AnsweringAnewLemmas.{answer_tried, answer_unbuilt}
 use Rattle.script_engine.proofs.RetryingLemmas.{ready_read, served_read, tried_read, tried_stopped, tried_unchanged, unbroken_read}
 use Rattle.script_engine.proofs.damage.try_reloaded.Goals as goal
@@ -25,7 +26,8 @@ returns-then-not-are_served-clause-answers g c =
 pub returns-then-has_changed-clause-tries : goal.returns-then-has_changed-clause-tries
 returns-then-has_changed-clause-tries g c =
     tried_read g.P.Pages c.args.stmt.now c.args.pages.now c.load_catalog.new.pages c.try_statement.new.pages c.args.tables.now (record c.forget.new.self { catalog = c.replace-kept.new.dest }) c.try_statement.new.tables
-    c.in_ok-catalog.ensures.runs c.in_ok-catalog.ensures.same c.forget.ensures.shape c.forget.ensures.settings c.in-Ok.outcome (sym c.has_changed.ensures ∙ c.if-has_changed.true) c.in-Ok.ensures.tries
+    c.in_ok-catalog.ensures.runs c.in_ok-catalog.ensures.same c.forget.ensures.shape c.forget.ensures.settings c.in-Ok.outcome
+    (λ told. subst (AreStored (g.P.Pages.state c.args.pages.now).work) (sym c.replace-kept.ensures.after) (c.in_ok-catalog.ensures.loads told)) (sym c.has_changed.ensures ∙ c.if-has_changed.true) c.in-Ok.ensures.tries
 
 pub returns-then-has_changed-clause-answers : goal.returns-then-has_changed-clause-answers
 returns-then-has_changed-clause-answers g c =

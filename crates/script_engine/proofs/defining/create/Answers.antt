@@ -50,3 +50,9 @@ returns-clause-keeps g c = record {
 pub returns-clause-runs : goal.returns-clause-runs
 returns-clause-runs g c =
     runs_wider c.in_ok-place.ensures.runs (λ p there mine. tt) (λ p kind. tt) (λ damage breaks ready. no_making_damage g.P.Pages c.args.pages.now c.args.tables.now damage breaks ready)
+
+pub returns-in_err-place-clause-touches : goal.returns-in_err-place-clause-touches
+returns-in_err-place-clause-touches g c = c.in_err-place.ensures.runs.touches
+
+pub returns-clause-touches : goal.returns-clause-touches
+returns-clause-touches g c = c.in_ok-place.ensures.runs.touches

@@ -37,3 +37,9 @@ pub returns-clause-runs : goal.returns-clause-runs
 returns-clause-runs g c =
     runs_wider c.in_ok-drop_table.ensures.runs (λ p there mine. tt) (λ p kind. tt)
     (λ damage breaks ready. no_dropping_damage g.P.Pages c.args.pages.now c.args.tables.now c.args.table damage c.requires.served breaks ready)
+
+pub returns-in_err-drop_table-clause-touches : goal.returns-in_err-drop_table-clause-touches
+returns-in_err-drop_table-clause-touches g c = c.in_err-drop_table.ensures.runs.touches
+
+pub returns-clause-touches : goal.returns-clause-touches
+returns-clause-touches g c = c.in_ok-drop_table.ensures.runs.touches

@@ -1,12 +1,14 @@
-use Rattle.std.proofs.Common.{◌≡◌, length, refl, rules}
+use Rattle.std.proofs.Common.{◌≡◌, length, refl, rules, true}
 use Rattle.store_api.proofs.RunsOverPagesLemmas.{runs_exit}
 use Rattle.row_checks.specs.Served.{MayJudge}
 use Rattle.script_engine.proofs.FetchesForStatementLemmas.{fetches_rolled}
+use Rattle.script_engine.proofs.FetchesOnceLemmas.{once_rolled}
 use Rattle.script_engine.proofs.NotedRoomsLemmas.{room_left, room_lent, rooms_beside, table_below}
 use Rattle.script_engine.proofs.ReadRowsLemmas.{may_judge_read}
 use Rattle.script_engine.proofs.ReadyTablesLemmas.{served_def}
 use Rattle.script_engine.proofs.RolledRowsLemmas.{applies_by, rolled_does, runs_rolled}
 use Rattle.script_engine.proofs.ScannedTablesLemmas.{is_defined}
+use Rattle.script_engine.proofs.TouchesForStatementLemmas.{touches_deleted}
 use Rattle.script_engine.proofs.deleting.delete_blocks.Goals as goal
 
 pub roll_out-requires-clause-defined : goal.roll_out-requires-clause-defined
@@ -53,3 +55,20 @@ pub returns-clause-fetches : goal.returns-clause-fetches
 returns-clause-fetches g c =
     fetches_rolled g.P.Pages c.args.tables.now.shape c.args.tables.now.catalog c.args.tables.now.settings c.args.pages.now c.roll_out.new.pages c.args.table c.args.pred.now c.in-Some.def.now c.in-Some.ensures
     c.in_ok-rolled.ensures.runs.brings
+
+pub returns-in_err-rolled-clause-touches : goal.returns-in_err-rolled-clause-touches
+returns-in_err-rolled-clause-touches g c =
+    touches_deleted g.P.Pages c.args.tables.now.shape c.args.tables.now.catalog c.args.tables.now.settings c.args.pages.now c.roll_out.new.pages c.args.table c.in-Some.def.now c.in-Some.ensures c.args.pred.now true
+    (c.requires.blocks c.in-Some.def.now c.in-Some.ensures) c.in_err-rolled.ensures.runs.touches
+
+pub returns-clause-touches : goal.returns-clause-touches
+returns-clause-touches g c =
+    touches_deleted g.P.Pages c.args.tables.now.shape c.args.tables.now.catalog c.args.tables.now.settings c.args.pages.now c.roll_out.new.pages c.args.table c.in-Some.def.now c.in-Some.ensures c.args.pred.now true
+    (c.requires.blocks c.in-Some.def.now c.in-Some.ensures) c.in_ok-rolled.ensures.runs.touches
+
+pub returns-clause-idle : goal.returns-clause-idle
+returns-clause-idle g c none = c.in_ok-rolled.ensures.idle none
+
+pub returns-clause-once : goal.returns-clause-once
+returns-clause-once g c ok =
+    once_rolled g.P.Pages c.args.tables.now.shape c.args.tables.now.catalog c.args.tables.now.settings c.args.pages.now c.roll_out.new.pages c.args.table c.args.pred.now c.in-Some.def.now c.in-Some.ensures c.in_ok-rolled.ensures.once

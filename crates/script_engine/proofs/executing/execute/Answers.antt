@@ -1,12 +1,15 @@
-use Rattle.std.proofs.Common.{◌≡◌, false, subst, sym, true, ◌∙◌}
+use Rattle.std.proofs.Common.{◌≡◌, ap, false, refl, subst, sym, true, ◌∙◌}
 use Rattle.mdc_ast.specs.declared.bound.Bound.TheVariants as bound
 use Rattle.store_api.proofs.RunsOverPagesLemmas.{runs_exit_as}
 use Rattle.extent_map.specs.Damages.{store_part_of}
 use Rattle.script_engine.proofs.ExecutingLemmas.{executes_step, none_told, form_other, full_as_bound, may_execute, reads_as_bound, runs_wanting, steps_as_bound, steps_other, unbuilt_wanting}
-use Rattle.script_engine.specs.Fetching.{FetchesForStatement}
+use Rattle.script_engine.specs.Fetching.{FetchesForStatement, FetchesRowsOnce}
 use Rattle.script_engine.proofs.FetchesForStatementLemmas.{fetches_none}
-use Rattle.script_engine.specs.Roles.{role_of}
+use Rattle.script_engine.specs.Roles.{role_of, tells_pages}
 use Rattle.script_engine.proofs.ListingLemmas.{lists_ready}
+use Rattle.script_engine.proofs.RepliesLemmas.{kind_as_bound, kind_told}
+use Rattle.script_engine.proofs.TouchesForStatementLemmas.{touches_still}
+use Rattle.script_engine.specs.Touching.{TouchesForStatement}
 use Rattle.script_engine.proofs.executing.execute.Goals as goal
 
 pub returns-in_err-whole-clause-runs : goal.returns-in_err-whole-clause-runs
@@ -59,3 +62,33 @@ pub returns-in_ok-list-in-Some-listed-clause-does : goal.returns-in_ok-list-in-S
 returns-in_ok-list-in-Some-listed-clause-does g c ready =
     lists_ready g.P.Pages c.args.pages.now c.list.new.pages c.args.tables.now c.in-Some-listed.name.now c.requires.served.built c.in_ok-list-in-Some-listed.field-0 c.in_ok-list-in-Some-listed.ensures.absent
     c.in_ok-list-in-Some-listed.ensures.tells ready c.args.stmt.now c.in-Some-listed.ensures c.in_ok-list-in-Some-listed.ensures.runs.works.steady.is_told c.list.ensures.same
+
+pub returns-in_err-whole-clause-touches : goal.returns-in_err-whole-clause-touches
+returns-in_err-whole-clause-touches g c = touches_still g.P.Pages c.args.tables.now.shape c.args.tables.now.catalog c.args.tables.now.settings c.args.pages.now c.args.pages.now refl refl _
+
+pub returns-in-Some-clause-touches : goal.returns-in-Some-clause-touches
+returns-in-Some-clause-touches g c =
+    let whole = rw c.in-Some.is at c.in_ok-whole.ensures.bound in
+    subst (TouchesForStatement g.P.Pages c.args.tables.now.shape c.args.pages.now c.insert.new.pages c.args.tables.now.catalog c.args.tables.now.settings) whole.is tt
+
+pub returns-in_err-list-in-Some-listed-clause-touches : goal.returns-in_err-list-in-Some-listed-clause-touches
+returns-in_err-list-in-Some-listed-clause-touches g c =
+    touches_still g.P.Pages c.args.tables.now.shape c.args.tables.now.catalog c.args.tables.now.settings c.args.pages.now c.list.new.pages c.in_err-list-in-Some-listed.ensures.runs.works.steady.is_told c.list.ensures.same _
+
+pub returns-in_ok-list-in-Some-listed-clause-touches : goal.returns-in_ok-list-in-Some-listed-clause-touches
+returns-in_ok-list-in-Some-listed-clause-touches g c =
+    touches_still g.P.Pages c.args.tables.now.shape c.args.tables.now.catalog c.args.tables.now.settings c.args.pages.now c.list.new.pages c.in_ok-list-in-Some-listed.ensures.runs.works.steady.is_told c.list.ensures.same _
+
+pub returns-in-Some-clause-kind : goal.returns-in-Some-clause-kind
+returns-in-Some-clause-kind g c =
+    let whole = rw c.in-Some.is at c.in_ok-whole.ensures.bound in
+    kind_as_bound c.args.tables.now.catalog c.args.stmt.now (bound.Insert c.in-Some.whole.table c.in-Some.whole.rows) c.insert.result whole c.insert.ensures.kind
+
+pub returns-in_ok-list-in-Some-listed-clause-kind : goal.returns-in_ok-list-in-Some-listed-clause-kind
+returns-in_ok-list-in-Some-listed-clause-kind g c =
+    kind_told c.args.stmt.now (ap tells_pages c.in-Some-listed.ensures) c.in_ok-list-in-Some-listed.field-0 c.in_ok-list-in-Some-listed.ensures.lines
+
+pub returns-in-Some-clause-once : goal.returns-in-Some-clause-once
+returns-in-Some-clause-once g c ok =
+    let whole = rw c.in-Some.is at c.in_ok-whole.ensures.bound in
+    subst (FetchesRowsOnce g.P.Pages c.args.tables.now.shape c.args.pages.now c.insert.new.pages c.args.tables.now.catalog c.args.tables.now.settings) whole.is tt

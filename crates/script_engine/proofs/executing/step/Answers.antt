@@ -1,9 +1,13 @@
-use Rattle.std.proofs.Common.{◌≡◌, ◌∙◌, ap, false, subst, sym, true}
+use Rattle.std.proofs.Common.{◌≡◌, ◌∙◌, ap, false, refl, subst, sym, true}
 use Rattle.mdc_ast.specs.declared.reply.Outcome.TheVariants as said
 use Rattle.store_api.proofs.RunsOverPagesLemmas.{runs_memory, runs_none}
 use Rattle.script_engine.proofs.ExecutingLemmas.{full_as_bound, is_bound_on, leaves_all, may_execute, reads_as_bound, steps_as_bound, steps_not_built, steps_refused}
-use Rattle.script_engine.specs.Fetching.{FetchesForStatement}
+use Rattle.script_engine.specs.Fetching.{FetchesForStatement, FetchesRowsOnce}
 use Rattle.script_engine.proofs.FetchesForStatementLemmas.{fetches_none}
+use Rattle.script_engine.proofs.FetchesOnceLemmas.{once_none}
+use Rattle.script_engine.proofs.RepliesLemmas.{kind_as_bound}
+use Rattle.script_engine.proofs.TouchesForStatementLemmas.{touches_still}
+use Rattle.script_engine.specs.Touching.{TouchesForStatement}
 use Rattle.script_engine.proofs.executing.step.Goals as goal
 
 pub returns-then-not-built-clause-does : goal.returns-then-not-built-clause-does
@@ -77,3 +81,31 @@ returns-in-Err-Refused-clause-reads g c reads = leaves_all g.P.Pages c.args.page
 
 pub returns-in-Err-Memory-clause-reads : goal.returns-in-Err-Memory-clause-reads
 returns-in-Err-Memory-clause-reads g c reads = leaves_all g.P.Pages c.args.pages.now c.args.tables.now
+
+pub returns-then-not-built-clause-touches : goal.returns-then-not-built-clause-touches
+returns-then-not-built-clause-touches g c = touches_still g.P.Pages c.args.tables.now.shape c.args.tables.now.catalog c.args.tables.now.settings c.args.pages.now c.args.pages.now refl refl _
+
+pub returns-in-Err-Refused-clause-touches : goal.returns-in-Err-Refused-clause-touches
+returns-in-Err-Refused-clause-touches g c = touches_still g.P.Pages c.args.tables.now.shape c.args.tables.now.catalog c.args.tables.now.settings c.args.pages.now c.args.pages.now refl refl _
+
+pub returns-in-Err-Memory-clause-touches : goal.returns-in-Err-Memory-clause-touches
+returns-in-Err-Memory-clause-touches g c = touches_still g.P.Pages c.args.tables.now.shape c.args.tables.now.catalog c.args.tables.now.settings c.args.pages.now c.args.pages.now refl refl _
+
+pub returns-in-Ok-clause-touches : goal.returns-in-Ok-clause-touches
+returns-in-Ok-clause-touches g c =
+    subst (TouchesForStatement g.P.Pages c.args.tables.now.shape c.args.pages.now c.carry_out.new.pages c.args.tables.now.catalog c.args.tables.now.settings) c.in-Ok.ensures.bound.1 c.carry_out.ensures.touches
+
+pub returns-in-Ok-clause-kind : goal.returns-in-Ok-clause-kind
+returns-in-Ok-clause-kind g c =
+    kind_as_bound c.args.tables.now.catalog c.args.stmt.now c.in-Ok.bound c.carry_out.result
+    (is_bound_on c.args.tables.now.catalog c.args.stmt.now c.in-Ok.bound (sym c.built.ensures ∙ c.if-not-built.false) c.in-Ok.ensures.bound) c.carry_out.ensures.kind
+
+pub returns-then-not-built-clause-once : goal.returns-then-not-built-clause-once
+returns-then-not-built-clause-once g c ok = once_none g.P.Pages c.args.tables.now.shape c.args.tables.now.catalog c.args.tables.now.settings c.args.pages.now _
+
+pub returns-in-Err-Refused-clause-once : goal.returns-in-Err-Refused-clause-once
+returns-in-Err-Refused-clause-once g c ok = once_none g.P.Pages c.args.tables.now.shape c.args.tables.now.catalog c.args.tables.now.settings c.args.pages.now _
+
+pub returns-in-Ok-clause-once : goal.returns-in-Ok-clause-once
+returns-in-Ok-clause-once g c ok =
+    subst (FetchesRowsOnce g.P.Pages c.args.tables.now.shape c.args.pages.now c.carry_out.new.pages c.args.tables.now.catalog c.args.tables.now.settings) c.in-Ok.ensures.bound.1 (c.carry_out.ensures.once ok)

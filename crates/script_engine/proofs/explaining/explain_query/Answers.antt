@@ -5,7 +5,7 @@ use Rattle.script_engine.proofs.ExplainingLemmas.{explains_found}
 use Rattle.script_engine.proofs.FetchesForStatementLemmas.{fetches_explain, fetches_none}
 use Rattle.script_engine.proofs.ReadRowsLemmas.{may_judge_read}
 use Rattle.script_engine.proofs.ReadyTablesLemmas.{served_def}
-use Rattle.script_engine.proofs.ScannedTablesLemmas.{is_defined, runs_scan}
+use Rattle.script_engine.proofs.ScannedTablesLemmas.{is_defined, runs_by_plan}
 use Rattle.script_engine.proofs.explaining.explain_query.Goals as goal
 
 pub word_by-requires : goal.word_by-requires
@@ -32,7 +32,7 @@ returns-in_err-found-clause-fetches g c =
 pub returns-in_err-found-clause-runs : goal.returns-in_err-found-clause-runs
 returns-in_err-found-clause-runs g c =
     runs_exit c.from_residual-in_err-found.result c.from_residual-in_err-found.ensures.1
-    (runs_scan g.P.Pages c.args.pages.now c.find_by_plan.new.pages c.args.tables.now c.args.select.now.table c.in-Some.def.now c.requires.served c.in-Some.ensures c.in_err-found.ensures.runs)
+    (runs_by_plan g.P.Pages c.args.pages.now c.find_by_plan.new.pages c.args.tables.now c.args.select.now.table c.in-Some.def.now c.requires.served c.in-Some.ensures c.in_err-found.ensures.runs)
 
 pub returns-in_err-told-clause-fetches : goal.returns-in_err-told-clause-fetches
 returns-in_err-told-clause-fetches g c =
@@ -42,7 +42,7 @@ returns-in_err-told-clause-fetches g c =
 pub returns-in_err-told-clause-runs : goal.returns-in_err-told-clause-runs
 returns-in_err-told-clause-runs g c =
     runs_exit c.from_residual-in_err-told.result c.from_residual-in_err-told.ensures.1
-    (runs_memory (runs_scan g.P.Pages c.args.pages.now c.find_by_plan.new.pages c.args.tables.now c.args.select.now.table c.in-Some.def.now c.requires.served c.in-Some.ensures c.in_ok-found.ensures.runs))
+    (runs_memory (runs_by_plan g.P.Pages c.args.pages.now c.find_by_plan.new.pages c.args.tables.now c.args.select.now.table c.in-Some.def.now c.requires.served c.in-Some.ensures c.in_ok-found.ensures.runs))
 
 pub returns-clause-explains : goal.returns-clause-explains
 returns-clause-explains g c =
@@ -56,4 +56,4 @@ returns-clause-fetches g c =
 
 pub returns-clause-runs : goal.returns-clause-runs
 returns-clause-runs g c =
-    runs_scan g.P.Pages c.args.pages.now c.find_by_plan.new.pages c.args.tables.now c.args.select.now.table c.in-Some.def.now c.requires.served c.in-Some.ensures c.in_ok-found.ensures.runs
+    runs_by_plan g.P.Pages c.args.pages.now c.find_by_plan.new.pages c.args.tables.now c.args.select.now.table c.in-Some.def.now c.requires.served c.in-Some.ensures c.in_ok-found.ensures.runs

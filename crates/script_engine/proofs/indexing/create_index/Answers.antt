@@ -12,6 +12,7 @@ use Rattle.script_engine.proofs.IndexedTablesLemmas.{does_since, finds_still, fu
 use Rattle.script_engine.proofs.ReadyTablesLemmas.{served_def}
 use Rattle.script_engine.proofs.ScannedTablesLemmas.{ready_still, runs_scan}
 use Rattle.script_engine.proofs.ServedDefsLemmas.{served_gained}
+use Rattle.script_engine.proofs.TouchesForStatementLemmas.{touches_index, touches_still}
 use Rattle.script_engine.proofs.indexing.create_index.Goals as goal
 
 pub find_rows-requires-clause-defined : goal.find_rows-requires-clause-defined
@@ -120,3 +121,33 @@ returns-clause-runs g c =
     let finds = finds_as g.P.Pages c.args.tables.now.shape c.args.pages.now c.in-Some.def.now c.in_ok-hits.hits.items c.as_slice-2.result.now c.as_slice-2.ensures.value c.in_ok-hits.ensures.finds in
     runs_index g.P.Pages c.args.pages.now c.find_rows.new.pages c.args.tables.now c.args.table c.in-Some.def.now c.args.index c.as_slice-2.result.now c.requires.served c.in-Some.ensures
     c.in_ok-hits.ensures.runs.works.steady.is_told c.find_rows.ensures.same finds c.in_ok-hits.ensures.runs c.in_ok-add_index.ensures.runs
+
+pub returns-in_err-hits-clause-touches : goal.returns-in_err-hits-clause-touches
+returns-in_err-hits-clause-touches g c =
+    touches_still g.P.Pages c.args.tables.now.shape c.args.tables.now.catalog c.args.tables.now.settings c.args.pages.now c.find_rows.new.pages c.in_err-hits.ensures.runs.works.steady.is_told c.find_rows.ensures.same
+    (bound.CreateIndex c.args.table c.args.index)
+
+pub returns-in_err-is_doubled-clause-touches : goal.returns-in_err-is_doubled-clause-touches
+returns-in_err-is_doubled-clause-touches g c =
+    touches_still g.P.Pages c.args.tables.now.shape c.args.tables.now.catalog c.args.tables.now.settings c.args.pages.now c.find_rows.new.pages c.in_ok-hits.ensures.runs.works.steady.is_told c.find_rows.ensures.same
+    (bound.CreateIndex c.args.table c.args.index)
+
+pub returns-in_err-duplicate_key-clause-touches : goal.returns-in_err-duplicate_key-clause-touches
+returns-in_err-duplicate_key-clause-touches g c =
+    touches_still g.P.Pages c.args.tables.now.shape c.args.tables.now.catalog c.args.tables.now.settings c.args.pages.now c.find_rows.new.pages c.in_ok-hits.ensures.runs.works.steady.is_told c.find_rows.ensures.same
+    (bound.CreateIndex c.args.table c.args.index)
+
+pub returns-then-branch-clause-touches : goal.returns-then-branch-clause-touches
+returns-then-branch-clause-touches g c =
+    touches_still g.P.Pages c.args.tables.now.shape c.args.tables.now.catalog c.args.tables.now.settings c.args.pages.now c.find_rows.new.pages c.in_ok-hits.ensures.runs.works.steady.is_told c.find_rows.ensures.same
+    (bound.CreateIndex c.args.table c.args.index)
+
+pub returns-in_err-add_index-clause-touches : goal.returns-in_err-add_index-clause-touches
+returns-in_err-add_index-clause-touches g c =
+    touches_index g.P.Pages c.args.tables.now.shape c.args.tables.now.catalog c.args.tables.now.settings c.args.pages.now c.find_rows.new.pages c.in_ok-hits.ensures.runs.works.steady.is_told c.find_rows.ensures.same c.add_index.new.pages c.args.table c.args.index
+    c.in_err-add_index.ensures.runs.touches
+
+pub returns-clause-touches : goal.returns-clause-touches
+returns-clause-touches g c =
+    touches_index g.P.Pages c.args.tables.now.shape c.args.tables.now.catalog c.args.tables.now.settings c.args.pages.now c.find_rows.new.pages c.in_ok-hits.ensures.runs.works.steady.is_told c.find_rows.ensures.same c.add_index.new.pages c.args.table c.args.index
+    c.in_ok-add_index.ensures.runs.touches

@@ -52,3 +52,9 @@ returns-clause-runs g c =
     let there = has_index c.args.tables.now.catalog c.args.table c.args.index c.requires.served c.requires.there in
     runs_wider c.in_ok-drop_index.ensures.runs (λ p there mine. tt) (λ p kind. tt)
     (λ damage breaks ready. no_unindexing_damage g.P.Pages c.args.pages.now c.args.tables.now c.args.table there.def c.args.index damage c.requires.served there.at there.within breaks ready)
+
+pub returns-in_err-drop_index-clause-touches : goal.returns-in_err-drop_index-clause-touches
+returns-in_err-drop_index-clause-touches g c = c.in_err-drop_index.ensures.runs.touches
+
+pub returns-clause-touches : goal.returns-clause-touches
+returns-clause-touches g c = c.in_ok-drop_index.ensures.runs.touches

@@ -11,7 +11,7 @@ use Rattle.script_engine.proofs.DoneRowsLemmas.{query_does}
 use Rattle.script_engine.proofs.FetchesForStatementLemmas.{fetches_query}
 use Rattle.script_engine.proofs.ReadRowsLemmas.{may_judge_read}
 use Rattle.script_engine.proofs.ReadyTablesLemmas.{served_def}
-use Rattle.script_engine.proofs.ScannedTablesLemmas.{is_defined, runs_scan}
+use Rattle.script_engine.proofs.ScannedTablesLemmas.{is_defined, runs_by_plan}
 use Rattle.script_engine.proofs.querying.query.Goals as goal
 
 pub answer-requires-clause-defined : goal.answer-requires-clause-defined
@@ -55,14 +55,14 @@ returns-in-Err-Store-clause-fetches g c =
 
 pub returns-in-Ok-clause-runs : goal.returns-in-Ok-clause-runs
 returns-in-Ok-clause-runs g c =
-    runs_scan g.P.Pages c.args.pages.now c.answer.new.pages c.args.tables.now c.args.select.now.table c.in-Some.def.now {fault = None} c.requires.served c.in-Some.ensures c.in-Ok.ensures.runs
+    runs_by_plan g.P.Pages c.args.pages.now c.answer.new.pages c.args.tables.now c.args.select.now.table c.in-Some.def.now {fault = None} c.requires.served c.in-Some.ensures c.in-Ok.ensures.runs
 
 pub returns-in-Err-Overflow-clause-runs : goal.returns-in-Err-Overflow-clause-runs
 returns-in-Err-Overflow-clause-runs g c =
     subst (RunsOverPages g.P.Pages NoPage AnyPage (BreaksDatabase g.P.Pages c.args.pages.now c.args.tables.now) c.args.pages.now c.answer.new.pages) (ap store_part_of c.in-Err-Overflow.field-0-is)
-    (runs_scan g.P.Pages c.args.pages.now c.answer.new.pages c.args.tables.now c.args.select.now.table c.in-Some.def.now c.requires.served c.in-Some.ensures c.in-Err-Overflow.ensures.runs)
+    (runs_by_plan g.P.Pages c.args.pages.now c.answer.new.pages c.args.tables.now c.args.select.now.table c.in-Some.def.now c.requires.served c.in-Some.ensures c.in-Err-Overflow.ensures.runs)
 
 pub returns-in-Err-Store-clause-runs : goal.returns-in-Err-Store-clause-runs
 returns-in-Err-Store-clause-runs g c =
     subst (RunsOverPages g.P.Pages NoPage AnyPage (BreaksDatabase g.P.Pages c.args.pages.now c.args.tables.now) c.args.pages.now c.answer.new.pages) (ap store_part_of c.in-Err-Store.field-0-is)
-    (runs_scan g.P.Pages c.args.pages.now c.answer.new.pages c.args.tables.now c.args.select.now.table c.in-Some.def.now c.requires.served c.in-Some.ensures c.in-Err-Store.ensures.runs)
+    (runs_by_plan g.P.Pages c.args.pages.now c.answer.new.pages c.args.tables.now c.args.select.now.table c.in-Some.def.now c.requires.served c.in-Some.ensures c.in-Err-Store.ensures.runs)

@@ -2,6 +2,7 @@ use Rattle.std.proofs.Common.{refl}
 use Rattle.store_api.proofs.RunsOverPagesLemmas.{runs_exit}
 use Rattle.script_engine.proofs.ReadyTablesLemmas.{served_def}
 use Rattle.script_engine.proofs.ReclaimedBlocksLemmas.{reclaimed_does, runs_reclaimed}
+use Rattle.script_engine.proofs.TouchesForStatementLemmas.{touches_reclaimed}
 use Rattle.script_engine.proofs.reclaiming.reclaim_blocks.Goals as goal
 
 pub reclaim-requires-clause-defined : goal.reclaim-requires-clause-defined
@@ -20,3 +21,11 @@ returns-clause-does g c ready =
 pub returns-clause-runs : goal.returns-clause-runs
 returns-clause-runs g c =
     runs_reclaimed g.P.Pages c.args.pages.now c.reclaim.new.pages c.args.tables.now c.args.table c.in-Some.def.now c.requires.served c.in-Some.ensures c.in_ok-reclaim.ensures.runs
+
+pub returns-in_err-reclaim-clause-touches : goal.returns-in_err-reclaim-clause-touches
+returns-in_err-reclaim-clause-touches g c =
+    touches_reclaimed g.P.Pages c.args.tables.now.shape c.args.tables.now.catalog c.args.tables.now.settings c.args.pages.now c.reclaim.new.pages c.args.table c.in-Some.def.now c.in-Some.ensures c.in_err-reclaim.ensures.runs.touches
+
+pub returns-clause-touches : goal.returns-clause-touches
+returns-clause-touches g c =
+    touches_reclaimed g.P.Pages c.args.tables.now.shape c.args.tables.now.catalog c.args.tables.now.settings c.args.pages.now c.reclaim.new.pages c.args.table c.in-Some.def.now c.in-Some.ensures c.in_ok-reclaim.ensures.runs.touches

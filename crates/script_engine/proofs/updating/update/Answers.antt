@@ -22,7 +22,7 @@ use Rattle.row_checks.specs.Served.{MaySet}
 use Rattle.statement_rows.specs.RowsOfStatement.{AnyPage}
 use Rattle.statement_rows.specs.Turning.{MayTurn, turned_row}
 use Rattle.statement_rows.specs.declared.changing.Turned.{Turned}
-use Rattle.script_engine.specs.Doing.{DoesStatement}
+use Rattle.script_engine.specs.Doing.{DoesStatement, SaysNoRow}
 use Rattle.script_engine.specs.Inserting.{IsSaidFirst}
 use Rattle.script_engine.specs.Ready.{BreaksDatabase}
 use Rattle.script_engine.proofs.DoneRowsLemmas.{runs_change}
@@ -87,7 +87,7 @@ pub returns-in_err-hits-clause-runs : goal.returns-in_err-hits-clause-runs
 returns-in_err-hits-clause-runs g c =
     runs_exit_as store_part_of c.from_residual.result c.from_residual.ensures.1
     (runs_wider c.in_err-hits.ensures.runs (λ p there none. absurd none) (λ p any. any)
-    (λ damage breaks ready. let st = stands_ready g.P.Pages c.args.pages.now c.args.tables.now c.args.table c.in-Some.def.now c.requires.served ready c.in-Some.ensures in breaks st.owners st.forests st.stands))
+    (λ damage breaks ready. let st = stands_ready g.P.Pages c.args.pages.now c.args.tables.now c.args.table c.in-Some.def.now c.requires.served ready c.in-Some.ensures in breaks st.owners st.forests st.stands st.indexes))
 
 pub returns-in-Some-first_misfit_of_hits-clause-does : goal.returns-in-Some-first_misfit_of_hits-clause-does
 returns-in-Some-first_misfit_of_hits-clause-does g c =
@@ -204,3 +204,14 @@ returns-clause-runs g c =
     (still_told g at.In_ok-refusal) (c.judge_keys.ensures.same ∙ c.find_fitting.ensures.same) c.args.pred.now c.in_ok-hits.hits.items (map (λ (t : Turned). (turned_row t).0) c.as_slice-4.result.now)
     (turned_places c.args.sets.now c.as_slice-4.result.now c.in_ok-hits.hits.items (ap (map turned_row) c.as_slice-4.ensures.value ∙ c.in-Ok.ensures)) c.in_ok-hits.ensures.finds (looked g at.In_ok-refusal)
     c.in_ok-change_rows.ensures.runs
+
+-- ---- no row
+
+pub returns-in-Some-first_misfit_of_hits-clause-idle : goal.returns-in-Some-first_misfit_of_hits-clause-idle
+returns-in-Some-first_misfit_of_hits-clause-idle g c = IfOk-weaker c.refused.result _ _ (λ outcome said none. absurd (subst SaysNoRow said none)) c.refused.ensures.said
+
+pub returns-clause-idle : goal.returns-clause-idle
+returns-clause-idle g c none = record {
+  pages = c.change_rows.ensures.idle (sym (c.len.ensures ∙ sym c.as_slice-4.ensures.len) ∙ none) ∙ (c.judge_keys.ensures.same ∙ c.find_fitting.ensures.same);
+  catalog = refl;
+}

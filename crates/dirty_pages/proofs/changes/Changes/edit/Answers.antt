@@ -8,10 +8,10 @@ use Rattle.dirty_pages.proofs.Steps.{lies_in, saves_keep, keeps_fits, keeps_same
 use Rattle.dirty_pages.proofs.changes.Changes.edit.Goals as goal
 
 pub invariant_of-self : goal.invariant_of-self
-invariant_of-self c = record { counts = c.self.invariant.counts; mark = keeps_fits c.self.inside.base c.self.inside.count c.self.inside.below c.self.inside.table c.self.inside.saved c.self.inside.table c.save.new.saved c.self.inside.table c.self.inside.mark (saves_keep c.self.inside.base c.self.inside.count c.self.inside.below c.self.inside.table c.self.inside.saved c.save.new.saved c.self.inside.mark c.args.p c.self.invariant.mark c.save.ensures.saved) refl }
+invariant_of-self g c = record { counts = c.self.invariant.counts; mark = keeps_fits c.self.inside.base c.self.inside.count c.self.inside.below c.self.inside.table c.self.inside.saved c.self.inside.table c.save.new.saved c.self.inside.table c.self.inside.mark (saves_keep c.self.inside.base c.self.inside.count c.self.inside.below c.self.inside.table c.self.inside.saved c.save.new.saved c.self.inside.mark c.args.p c.self.invariant.mark c.save.ensures.saved) refl }
 
 pub returns-in-Err : goal.returns-in-Err
-returns-in-Err c = (
+returns-in-Err g c = (
   (
     refl,
     (λ w. (
@@ -33,16 +33,16 @@ returns-in-Err c = (
       ap (λ v. v.now) c.self.view_is ∙ c.hold.ensures.now,
     ),
   ),
-  record { lends = tt; page = tt; memory = λ device. absurd (cc) },
+  record { lends = tt; noted = tt; unnoted = refl; page = tt; memory = λ device. absurd (cc) },
 )
 
 pub at_mut-requires : goal.at_mut-requires
-at_mut-requires c =
+at_mut-requires g c =
     let lies : LiesAt c.self.inside.table c.args.p c.in-Ok.place = lies_in c.self.inside.table c.hold.new.self c.args.p c.in-Ok.place (ap (λ v. v.pages) c.self.view_is) c.in-Ok.ensures.there in
     slice_get_within c.self.inside.table c.in-Ok.place (c.args.p, lies.page) lies.there
 
 pub invariant_of-self-lent : goal.invariant_of-self-lent
-invariant_of-self-lent c =
+invariant_of-self-lent g c =
     let lies : LiesAt c.self.inside.table c.args.p c.in-Ok.place = lies_in c.self.inside.table c.hold.new.self c.args.p c.in-Ok.place (ap (λ v. v.pages) c.self.view_is) c.in-Ok.ensures.there in
     λ w. record {
       counts = over_counts c.self.inside.base c.self.inside.count c.self.inside.below c.self.inside.table (with_page c.self.inside.table c.in-Ok.place w) c.args.p c.in-Ok.place w c.self.invariant.counts lies refl;
@@ -50,7 +50,7 @@ invariant_of-self-lent c =
     }
 
 pub returns-in-Ok-save : goal.returns-in-Ok-save
-returns-in-Ok-save c =
+returns-in-Ok-save g c =
     let lies : LiesAt c.self.inside.table c.args.p c.in-Ok.place = lies_in c.self.inside.table c.hold.new.self c.args.p c.in-Ok.place (ap (λ v. v.pages) c.self.view_is) c.in-Ok.ensures.there in (
       (
         refl,
@@ -68,6 +68,8 @@ returns-in-Ok-save c =
       ),
       record {
         lends = tt;
+        noted = c.note.ensures.noted;
+        unnoted = tt;
         page = sym (found_there c.self.inside.base c.self.inside.count (written_over c.self.inside.table) c.args.self.now c.args.p lies.page (ap (λ v. v.now) c.self.view_is ∙ c.hold.ensures.now) c.requires.within lies.found)
             ∙ ap (λ w. Some w) (sym (bytes_lie c.self.inside.table c.args.p c.in-Ok.place (c.args.p, lies.page) lies) ∙ c.at_mut.ensures.page (c.args.p, lies.page));
         memory = λ device. absurd (cc);

@@ -7,13 +7,14 @@ use Rattle.page_store.proofs.Grown.{grown_at_opening}
 use Rattle.page_store.proofs.Openings.{shown_as_before, still_told, states_shape, leaves_base_since}
 use Rattle.page_store.proofs.Passing.{rests_kept}
 use Rattle.page_store.proofs.Wholes.{length-base_of}
+use Rattle.page_store.specs.FileStore.{with_log}
 use Rattle.page_store.proofs.file_store.FileStore.open.Goals as goal
 
 pub returns-in-Ok-clause-just_opened : goal.returns-in-Ok-clause-just_opened
 returns-in-Ok-clause-just_opened g c =
     let opened = c.in-Ok.ensures.opens in
-    shown_as_before _ _ _ _ _ _ c.in-Ok.desk c.in-Ok.ensures.empty (still_told opened)
-    (ap (λ b. b.tape) opened.beside ∙ (g.met.H.Host.lies_beside c.args.host).0) opened.listed
+    ap (with_log (g.L.FetchLog.told c.args.log)) (shown_as_before _ _ _ _ _ _ c.in-Ok.desk c.in-Ok.ensures.empty (still_told opened)
+    (ap (λ b. b.tape) opened.beside ∙ (g.met.H.Host.lies_beside c.args.host).0) opened.listed)
 
 pub returns-in-Ok-clause-base_since : goal.returns-in-Ok-clause-base_since
 returns-in-Ok-clause-base_since g c = λ file is said.
@@ -25,7 +26,7 @@ returns-in-Ok-clause-base_since g c = λ file is said.
 
 pub returns-in-Ok-clause-rests : goal.returns-in-Ok-clause-rests
 returns-in-Ok-clause-rests g c =
-    rests_kept g.H.Disk.file g.H.Disk.beside g.H.Disk.attaches g.H.Disk.clock g.H.Disk.moment (record { host = c.lay_out.new.disk; desk = c.in-Ok.desk }) (g.met.H.Disk.only_now c.lay_out.new.disk) c.in-Ok.ensures.kept c.in-Ok.ensures.empty.halt
+    rests_kept g.H.Disk.file g.H.Disk.beside g.H.Disk.attaches g.H.Disk.clock g.H.Disk.moment (record { host = c.lay_out.new.disk; desk = c.in-Ok.desk; log = c.args.log }) (g.met.H.Disk.only_now c.lay_out.new.disk) c.in-Ok.ensures.kept c.in-Ok.ensures.empty.halt
 
 pub invariant_of-result : goal.invariant_of-result
 invariant_of-result g c =

@@ -2,6 +2,7 @@ use Rattle.std.proofs.Common.{refl}
 use Rattle.page_store.proofs.BesideLemmas.{same_beside}
 use Rattle.page_store.proofs.Passing.{stays}
 use Rattle.page_store.proofs.Wholes.{still_going, whole_again}
+use Rattle.page_store.proofs.LoggedLemmas.{shown_by, undoes_with}
 use Rattle.page_store.proofs.file_store.FileStorePages.undo.Goals as goal
 
 pub invariant_of-self : goal.invariant_of-self
@@ -12,7 +13,7 @@ invariant_of-self g c =
 pub returns-clause-undone : goal.returns-clause-undone
 returns-clause-undone g c =
     let going = still_going c.self.inside.host c.self.inside.desk c.args.self.now c.self.view_is c.requires.going in
-    rw (← c.self.view_is, same_beside (g.H.Disk.attaches c.self.inside.host) c.undo.ensures.shape) (c.undo.ensures.does _ _ _)
+    rw (← c.self.view_is, same_beside (g.H.Disk.attaches c.self.inside.host) c.undo.ensures.shape) (undoes_with (g.L.FetchLog.told c.self.inside.log) (shown_by g.H.Disk.file g.H.Disk.beside g.H.Disk.attaches c.self.inside.host c.self.inside.desk) (c.undo.ensures.does _ _ _))
 
 pub returns-clause-written : goal.returns-clause-written
 returns-clause-written g c =

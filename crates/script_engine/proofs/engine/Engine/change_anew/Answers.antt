@@ -3,6 +3,7 @@ use Rattle.mdc_words.proofs.FaultsLemmas.{counts_fault_none}
 use Rattle.mdc_ast.specs.declared.reply.Outcome.TheVariants.{Refused}
 use Rattle.statement_meaning.specs.Built.{are_built}
 use Rattle.store_api.specs.Works.{Rests}
+use Rattle.store_api.proofs.FetchingLemmas.{only_none}
 use Rattle.store_api.proofs.WorksLemmas.{rests_steady, steady_none}
 use Rattle.script_engine.specs.Committing.{CountsPages}
 use Rattle.script_engine.proofs.CatalogLemmas.{served_of}
@@ -21,9 +22,9 @@ returns-in_err-served g c =
     let stop = c.in_err-served.field-0.0 in
     let new = record c.args.self.now { store = c.go_back.new.store; tables = c.go_back.new.tables } in
     record {
-      executes = λ first comes. anew_stops g.S.Pages c.args.stmt.now first c.args.self.now comes c.requires.other c.requires.changing stop new call.reloads.steady refl {X = Bool} c.from_residual.result c.from_residual.ensures.1 call.reloads.shape call.reloads.settings
+      executes = λ first comes. anew_stops g.S.Pages c.args.stmt.now first c.args.self.now comes c.requires.other c.requires.changing stop new call.reloads.steady call.reloads.brings refl {X = Bool} c.from_residual.result c.from_residual.ensures.1 call.reloads.shape call.reloads.settings
           call.reloads.device call.exact (λ damage e. call.reloads.unmarked) c.requires.going;
-      any = λ first comes going. anew_stops_any g.S.Pages c.args.stmt.now first c.args.self.now comes c.requires.other c.requires.changing stop new call.reloads.steady refl {X = Bool} c.from_residual.result c.from_residual.ensures.1
+      any = λ first comes going. anew_stops_any g.S.Pages c.args.stmt.now first c.args.self.now comes c.requires.other c.requires.changing stop new call.reloads.steady call.reloads.brings refl {X = Bool} c.from_residual.result c.from_residual.ensures.1
           (λ damage e. (call.reloads.work, call.reloads.unmarked)) call.exact going;
     }
 
@@ -34,9 +35,9 @@ returns-then-not-served g c =
     let tables = c.go_back.new.tables in
     record {
       executes = λ first comes. anew_refused g.S.Pages c.args.stmt.now first c.args.self.now comes c.requires.other c.requires.changing c.go_back.new.store c.go_back.new.tables c.in_ok-served.served call.reloads (Refused c.not_built.result) c.not_built.result refl back tables
-          c.in_ok-served.served (steady_none {g = g.S.Pages}) (counts_fault_none (λ e. absurd (cc))) refl call.reloads.unmarked refl refl refl call.reloads.built c.requires.going;
+          c.in_ok-served.served (steady_none {g = g.S.Pages}) (counts_fault_none (λ e. absurd (cc))) only_none refl call.reloads.unmarked refl refl refl call.reloads.built c.requires.going;
       any = λ first comes going. anew_refused_any g.S.Pages c.args.stmt.now first c.args.self.now comes c.requires.other c.requires.changing c.go_back.new.store c.go_back.new.tables c.in_ok-served.served call.reloads (Refused c.not_built.result) c.not_built.result refl back
-          tables c.in_ok-served.served (steady_none {g = g.S.Pages}) (counts_fault_none (λ e. absurd (cc))) refl call.reloads.unmarked refl refl refl call.reloads.built going (λ form. ap Refused c.not_built.ensures);
+          tables c.in_ok-served.served (steady_none {g = g.S.Pages}) (counts_fault_none (λ e. absurd (cc))) only_none refl call.reloads.unmarked refl refl refl call.reloads.built going (λ form. ap Refused c.not_built.ensures);
     }
 
 pub returns-in_err-outcome : goal.returns-in_err-outcome
@@ -59,10 +60,10 @@ returns-then-is_refused g c =
     let left = tries.refused refusal.0 (ap Ok refusal.1) in
     record {
       executes = λ first comes. anew_refused g.S.Pages c.args.stmt.now first c.args.self.now comes c.requires.other c.requires.changing c.go_back.new.store c.go_back.new.tables c.in_ok-served.served call.reloads
-          c.in_ok-outcome.outcome refusal.0 refusal.1 c.try_again.new.pages c.try_again.new.tables c.in_ok-served.served tries.steady tries.device left.pages tries.unmarked tries.shape tries.settings left.catalog
+          c.in_ok-outcome.outcome refusal.0 refusal.1 c.try_again.new.pages c.try_again.new.tables c.in_ok-served.served tries.steady tries.device tries.brings left.pages tries.unmarked tries.shape tries.settings left.catalog
           (call.reloads.built ∙ sym (ap are_built left.catalog)) c.requires.going;
       any = λ first comes going. anew_refused_any g.S.Pages c.args.stmt.now first c.args.self.now comes c.requires.other c.requires.changing c.go_back.new.store c.go_back.new.tables c.in_ok-served.served call.reloads
-          c.in_ok-outcome.outcome refusal.0 refusal.1 c.try_again.new.pages c.try_again.new.tables c.in_ok-served.served tries.steady tries.device left.pages tries.unmarked tries.shape tries.settings left.catalog
+          c.in_ok-outcome.outcome refusal.0 refusal.1 c.try_again.new.pages c.try_again.new.tables c.in_ok-served.served tries.steady tries.device tries.brings left.pages tries.unmarked tries.shape tries.settings left.catalog
           (call.reloads.built ∙ sym (ap are_built left.catalog)) going tries.unbuilt;
     }
 

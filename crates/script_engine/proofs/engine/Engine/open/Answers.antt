@@ -1,6 +1,6 @@
 use Rattle.std.proofs.Common.{Err, ap}
 use Rattle.store_api.proofs.WorksLemmas.{rests_steady}
-use Rattle.script_engine.proofs.OpeningLemmas.{exact_read, opened_going, opened_may, opened_ready, opened_rests}
+use Rattle.script_engine.proofs.OpeningLemmas.{exact_read, opened_brings, opened_going, opened_may, opened_ready, opened_rests}
 use Rattle.script_engine.proofs.engine.Engine.open.Goals as goal
 
 pub returns-in-Ok-clause-may : goal.returns-in-Ok-clause-may
@@ -31,3 +31,16 @@ pub returns-in-Ok-clause-opened : goal.returns-in-Ok-clause-opened
 returns-in-Ok-clause-opened g c same =
     opened_going g.S.Pages c.args.shape c.args.store c.load_exactly.new.pages c.engine_on.result c.in-Ok.catalog c.in-Ok.ensures.loads.reads c.engine_on.ensures.is c.engine_on.ensures.catalog c.in-Ok.ensures.loads.limits
     c.in-Ok.ensures.loads.names c.requires.going c.requires.unmarked same
+
+pub returns-in-Ok-clause-brings : goal.returns-in-Ok-clause-brings
+returns-in-Ok-clause-brings g c =
+    opened_brings g.S.Pages c.args.shape c.args.store c.load_exactly.new.pages c.engine_on.result c.in-Ok.catalog c.in-Ok.ensures.loads.reads c.engine_on.ensures.is c.engine_on.ensures.catalog c.in-Ok.ensures.loads.limits
+    c.in-Ok.ensures.loads.names c.in-Ok.ensures.brings
+
+pub returns-in-Ok-clause-log : goal.returns-in-Ok-clause-log
+returns-in-Ok-clause-log g c =
+    opened_brings g.S.Pages c.args.shape c.args.store c.load_exactly.new.pages c.engine_on.result c.in-Ok.catalog c.in-Ok.ensures.loads.reads c.engine_on.ensures.is c.engine_on.ensures.catalog c.in-Ok.ensures.loads.limits
+    c.in-Ok.ensures.loads.names c.in-Ok.ensures.loads.reads.brings
+
+pub returns-in-Err-clause-brings : goal.returns-in-Err-clause-brings
+returns-in-Err-clause-brings g c told sound = c.load_exactly.ensures.tables told c.args.shape sound

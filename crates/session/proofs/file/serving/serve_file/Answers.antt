@@ -10,6 +10,7 @@ use Rattle.page_store.specs.Faults.{MayComeFirst}
 use Rattle.page_store.specs.Opened.{file_bytes}
 use Rattle.page_store.specs.Standing.{FrontAgrees, pages_in}
 use Rattle.session.specs.script.Told.{TellsMore}
+use Rattle.session.proofs.FetchedRunsLemmas.{fetches_more_then, fetches_same}
 use Rattle.session.proofs.ToldLemmas.{same-tells_more, told_behind}
 use Rattle.session.proofs.AnyFileRunsLemmas.{any_refused_on_file, any_run_opened, any_served_on_file, any_unopened, tells_still}
 use Rattle.session.proofs.CausesLemmas.{cause_of_opening, cause_of_script, not_device}
@@ -32,10 +33,10 @@ returns-in-Ok-clause-runs g c = λ before said is told well.
     let base = (opened.served before is).1 in
     let states = states_standing before.bytes after.0.bytes (pages_in before.bytes) well.shape (after.2.1 well.formed) well.states in
     let tells = test_by_told (g.H.Disk.file c.args.host) before is in
-    let sound = sound_opened _ store before.bytes _ (g.H.Host.tape c.args.host) store.desk.shape (g.H.Disk.attaches c.args.host) well tells opened.just_opened base in
+    let sound = sound_opened _ store before.bytes _ (g.H.Host.tape c.args.host) store.desk.shape (g.H.Disk.attaches c.args.host) (g.L.FetchLog.told c.take.result) well tells opened.just_opened base in
     let serves = c.serve_store.ensures.runs after.0 said after.1 (ap (λ b. b.tape) opened.opens.beside ∙ told) well.shape states sound in
     run_on_file g.H.Disk _ store before said (g.I.Source.left c.args.input.now) (g.I.Source.left c.serve_store.new.input) c.args.host store.host c.serve_store.result.host well.shape c.serve_store.result.end
-    well.states serves base (g.met.H.Disk.only_now c.args.host) is told (opened.opens.crash before said is told) refl c.serve_store.ensures.later (λ t pages heard left. (left.4, left.5)) (opened.base_since before is said)
+    (g.L.FetchLog.told c.args.log.now) (g.L.FetchLog.told c.serve_store.new.log) well.states serves (ap (λ state. state.fetched) opened.just_opened ∙ c.take.ensures) base (g.met.H.Disk.only_now c.args.host) is told (opened.opens.crash before said is told) refl c.serve_store.ensures.later (λ t pages heard left. (left.4, left.5)) (opened.base_since before is said)
 
 pub returns-in-Ok-clause-told : goal.returns-in-Ok-clause-told
 returns-in-Ok-clause-told g c =
@@ -63,7 +64,19 @@ returns-in-Ok-clause-cause g c = λ before is.
     let tells = test_by_told (g.H.Disk.file c.args.host) before is in
     cause_of_script before.bytes c.serve_store.result.end (opened.served before is).0 c.serve_store.ensures.takes.0 (λ damage ends well.
     c.serve_store.ensures.damaged damage ends after.0 after.1 well.shape (states_standing before.bytes after.0.bytes (pages_in before.bytes) well.shape (after.2.1 well.formed) well.states)
-    (sound_opened _ c.in-Ok.store before.bytes _ (g.H.Host.tape c.args.host) c.in-Ok.store.desk.shape (g.H.Disk.attaches c.args.host) well tells opened.just_opened (opened.served before is).1))
+    (sound_opened _ c.in-Ok.store before.bytes _ (g.H.Host.tape c.args.host) c.in-Ok.store.desk.shape (g.H.Disk.attaches c.args.host) (g.L.FetchLog.told c.take.result) well tells opened.just_opened (opened.served before is).1))
+
+pub returns-in-Ok-clause-log : goal.returns-in-Ok-clause-log
+returns-in-Ok-clause-log g c = fetches_more_then (fetches_same (ap (λ state. state.fetched) c.in-Ok.ensures.just_opened ∙ c.take.ensures)) c.serve_store.ensures.log
+
+pub returns-in-Err-clause-log : goal.returns-in-Err-clause-log
+returns-in-Err-clause-log g c = fetches_same (c.in-Err.ensures.unnoted ∙ c.take.ensures)
+
+pub returns-in-Ok-clause-unfetched : goal.returns-in-Ok-clause-unfetched
+returns-in-Ok-clause-unfetched g c = λ file is unserved. absurd (unserved (c.in-Ok.ensures.served file is).0)
+
+pub returns-in-Err-clause-unfetched : goal.returns-in-Err-clause-unfetched
+returns-in-Err-clause-unfetched g c = λ file is unserved. c.in-Err.ensures.unnoted ∙ c.take.ensures
 
 pub returns-in-Ok-clause-unopened : goal.returns-in-Ok-clause-unopened
 returns-in-Ok-clause-unopened g c = λ file is unserved. absurd (unserved (c.in-Ok.ensures.served file is).0)
@@ -82,7 +95,7 @@ pub returns-in-Err-clause-runs : goal.returns-in-Err-clause-runs
 returns-in-Err-clause-runs g c = λ before said is told well.
     let stop = stop_of_well c.in-Err.field-0.fault c.stop_of_opening.result before.bytes (well_is_served before.bytes well) (c.in-Err.ensures.refused before is) c.stop_of_opening.ensures in
     refused_on_file g.H.Disk (record { stand = c.sound_pages_stand.ensures; lists = c.goes_on_lists.ensures }) before said (g.I.Source.left c.args.input.now) c.args.host c.in-Err.field-0.host
-    (MayComeFirst c.in-Err.field-0.fault) c.stop_of_opening.result well stop (g.met.H.Disk.only_now c.args.host) is told c.in-Err.ensures.opens_or_leaves
+    (MayComeFirst c.in-Err.field-0.fault) c.stop_of_opening.result _ _ (c.in-Err.ensures.unnoted ∙ c.take.ensures) well stop (g.met.H.Disk.only_now c.args.host) is told c.in-Err.ensures.opens_or_leaves
 
 pub returns-in-Err-clause-told : goal.returns-in-Err-clause-told
 returns-in-Err-clause-told g c =

@@ -2,7 +2,9 @@
 use Rattle.mdc_words.specs.Time.{OverTime}
 use Rattle.std.proofs.Common.{◌≡◌, Err, false, subst, sym, ◌∙◌}
 use Rattle.store_api.specs.Works.{Rests}
+use Rattle.session.proofs.FetchedRunsLemmas.{fetches_more_then}
 use Rattle.session.proofs.StopsLemmas.{fault_of_script, names_damage}
+use Rattle.session.specs.script.Fetching.{FetchesMore}
 use Rattle.session.proofs.ToldLemmas.{same-tells_more}
 use Rattle.session.specs.script.Leaving.{ReopensAlways}
 use Rattle.session.specs.Stops.{IsOfScript}
@@ -20,7 +22,7 @@ returns-in-Ok-clause-runs g c = λ sound.
     let left = g.I.Source.left c.serve-end.new.input in
     let Runs : g.row.S.Denot → Type 0 = λ s. RunsOnStore g.S.Pages c.args.shape script left c.args.store s c.serve-end.result in
     subst Runs (sym c.close.ensures) (served_on_store g.S.Pages script left c.serve-end.result c.args.shape c.args.store c.in-Ok.engine c.serve-end.new.engine sound ready
-    c.in-Ok.ensures.pages c.in-Ok.ensures.closed c.in-Ok.ensures.settings c.in-Ok.ensures.pass c.in-Ok.ensures.shape (c.serve-end.ensures.runs ready) (λ damage is. c.serve-end.ensures.damaged damage is ready))
+    c.in-Ok.ensures.pages c.in-Ok.ensures.brings c.in-Ok.ensures.closed c.in-Ok.ensures.settings c.in-Ok.ensures.pass c.in-Ok.ensures.shape (c.serve-end.ensures.runs ready) (λ damage is. c.serve-end.ensures.damaged damage is ready))
 
 pub returns-in-Ok-clause-damaged : goal.returns-in-Ok-clause-damaged
 returns-in-Ok-clause-damaged g c = λ damage is sound. c.serve-end.ensures.damaged damage is (c.in-Ok.ensures.ready sound)
@@ -29,7 +31,7 @@ pub returns-in-Err-clause-runs : goal.returns-in-Err-clause-runs
 returns-in-Err-clause-runs g c = λ sound.
     let script = g.I.Source.left c.args.input.now in
     let Runs : Stop → Type 0 = λ stop. RunsOnStore g.S.Pages c.args.shape script script c.args.store c.in-Err.field-0.store (Err stop) in
-    subst Runs (sym c.from.ensures) (stopped_on_store g.S.Pages script c.in-Err.field-0.stop c.args.shape c.args.store c.in-Err.field-0.store sound c.in-Err.ensures.pages
+    subst Runs (sym c.from.ensures) (stopped_on_store g.S.Pages script c.in-Err.field-0.stop c.args.shape c.args.store c.in-Err.field-0.store sound c.in-Err.ensures.pages (c.in-Err.ensures.brings sound.told sound.sound)
     (λ damage is. c.in-Err.ensures.damaged damage is sound.told sound.sound))
 
 pub returns-in-Err-clause-takes : goal.returns-in-Err-clause-takes
@@ -37,6 +39,15 @@ returns-in-Err-clause-takes g c = takes_stopped (g.I.Source.left c.args.input.no
 
 pub returns-in-Err-clause-tells : goal.returns-in-Err-clause-tells
 returns-in-Err-clause-tells g c = same-tells_more _ _ c.in-Err.ensures.pages.told
+
+pub returns-in-Ok-clause-log : goal.returns-in-Ok-clause-log
+returns-in-Ok-clause-log g c =
+    let opens = c.in-Ok.ensures.log in
+    let Goes : g.row.S.Denot → Type 0 = λ s. FetchesMore (g.S.Pages.state c.args.store).fetched (g.S.Pages.state s).fetched in
+    subst Goes (sym c.close.ensures) (fetches_more_then (record { pages = opens.pages; goes_on = opens.brought.log }) c.serve-end.ensures.log)
+
+pub returns-in-Err-clause-log : goal.returns-in-Err-clause-log
+returns-in-Err-clause-log g c = let opens = c.in-Err.ensures.log in record { pages = opens.pages; goes_on = opens.brought.log }
 
 pub returns-in-Ok-clause-reopens : goal.returns-in-Ok-clause-reopens
 returns-in-Ok-clause-reopens g c =

@@ -15,6 +15,10 @@ returns-in-Stmt g c =
           (record {
             steps = call.steps;
             leaves = λ ready. record { time = call.left ready; base = call.base ready };
+            fetches = call.fetches;
+            lists = call.lists;
+            pages = call.brings.pages;
+            brought = call.brings.brought;
             any = call.any;
             may = call.may;
             damaged = call.damaged;

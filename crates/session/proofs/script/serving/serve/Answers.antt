@@ -10,6 +10,7 @@ use Rattle.session.specs.script.TheWays.{on_any, on_sound}
 use Rattle.session.specs.declared.stop.Stop.TheVariants.{Damaged, Device, Memory, Unsaid}
 use Rattle.session.proofs.AskedEndsLemmas.{takes_asked_done, takes_asked_reading, takes_asked_turning, takes_unasked}
 use Rattle.session.proofs.AskingLemmas.{IsAsked, asked_next, given_first, given_next}
+use Rattle.session.proofs.FetchedRunsLemmas.{fetches_more_then, fetches_same}
 use Rattle.session.proofs.HandedLemmas.{handed}
 use Rattle.session.proofs.ServingLemmas.{answered_first, answered_more, exit_done, exit_first, exit_reading, exit_turning}
 use Rattle.session.proofs.StopsLemmas.{reader_names_no_damage, reader_of_script, turn_of_script}
@@ -62,6 +63,7 @@ loop-reply-init g c = record {
   beside = refl;
   is_told = refl;
   tells = same-tells_more _ _ refl;
+  log = fetches_same refl;
   at_rest = λ rests. rests;
   reopens = over_time_none;
   later = omega arith;
@@ -96,6 +98,7 @@ loop-reply-preserved g c =
       beside = turns.beside ∙ was.beside;
       is_told = turns.is_told ∙ was.is_told;
       tells = tells_more_then _ _ _ was.tells turns.tells;
+      log = fetches_more_then was.log turns.log;
       at_rest = λ rests. turns.at_rest (λ s. g.met.S.Pages.earlier s) (was.at_rest rests);
       reopens = over_time_then was.reopens turns.reopens;
       later = omega (arith, was.later, turns.later);
@@ -198,6 +201,9 @@ returns-in_err-refused-clause-device g c =
 
 pub returns-in_err-refused-clause-tells : goal.returns-in_err-refused-clause-tells
 returns-in_err-refused-clause-tells g c = tells_more_then _ _ _ c.loop-reply.invariant.tells c.in_err-refused.ensures.turns.tells
+
+pub returns-in_err-refused-clause-log : goal.returns-in_err-refused-clause-log
+returns-in_err-refused-clause-log g c = fetches_more_then c.loop-reply.invariant.log c.in_err-refused.ensures.turns.log
 
 pub returns-in_err-refused-clause-reopens : goal.returns-in_err-refused-clause-reopens
 returns-in_err-refused-clause-reopens g c = over_time_then c.loop-reply.invariant.reopens c.in_err-refused.ensures.turns.reopens

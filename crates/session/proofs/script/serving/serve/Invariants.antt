@@ -6,6 +6,7 @@ use Rattle.script_engine.specs.OnAnyPages.{IsGoingEngine}
 use Rattle.script_engine.specs.Serving.{IsReadyEngine, MayCall}
 use Rattle.mdc_words.specs.Time.{OverTime}
 use Rattle.session.specs.script.Engines.{IsAnyEngine, IsSoundEngine}
+use Rattle.session.specs.script.Fetching.{FetchesMore}
 use Rattle.session.specs.script.Leaving.{ReopensAlways}
 use Rattle.session.specs.script.TheWays.{on_any, on_sound}
 use Rattle.session.specs.script.Told.{TellsMore}
@@ -33,6 +34,7 @@ invariant-loop-reply g l =
       beside : (state l.engine.store).beside ≡ (state l.fn.engine.store).beside;
       is_told : (state l.engine.store).is_told ≡ (state l.fn.engine.store).is_told;
       tells : TellsMore (state l.fn.engine.store).told (state l.engine.store).told;
+      log : FetchesMore (state l.fn.engine.store).fetched (state l.engine.store).fetched;
       reopens : OverTime g.S.Pages.clock g.S.Pages.left ReopensAlways l.fn.engine.store l.engine.store;
       at_rest : Rests g.S.Pages l.fn.engine.store → Rests g.S.Pages l.engine.store;
       later : g.S.Pages.clock l.fn.engine.store ≤ g.S.Pages.clock l.engine.store;
