@@ -168,5 +168,5 @@ pub line_counted : (line : BlockRow) (f : MapLine → ℕ) (lines : List BlockRo
 line_counted line f lines i so_far n low first one = ap (λ k. so_far + k) one ∙ (ap (λ k. k + f (line_of (get_or lines i line))) first ∙ sym (line_more f lines i line low))
 
 -- a part of the rows is too small for a sweep, or not
-pub by_sweep : (lines : List MapLine) (blocks : List ℕ) (going : ℕ) (many : Bool) → going ≡ rows_among lines blocks → many ≡ nat_le (all_rows lines) (going * 64) → goes_by_sweep lines blocks ≡ many
-by_sweep lines blocks going many counted is = sym (is ∙ ap (λ n. nat_le (all_rows lines) (n * 64)) counted)
+pub by_sweep : (lines : List MapLine) (blocks : List ℕ) (going : ℕ) (many : Bool) → going ≡ rows_among lines blocks → many ≡ nat_le (all_rows lines) (going * 12) → goes_by_sweep lines blocks ≡ many
+by_sweep lines blocks going many counted is = sym (is ∙ ap (λ n. nat_le (all_rows lines) (n * 12)) counted)

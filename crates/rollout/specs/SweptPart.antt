@@ -15,6 +15,6 @@ rows_among lines blocks = sum_by (rows_if_among blocks) lines
 abbrev pub all_rows : List MapLine → ℕ
 all_rows lines = sum_by (λ line. line.rows) lines
 
--- Whether the rows of some blocks leave the record indexes by a sweep: they are one row in 64 or more.
+-- Whether the rows of some blocks leave the record indexes by a sweep: they are one row in 12 or more.
 abbrev pub goes_by_sweep : List MapLine → List ℕ → Bool
-goes_by_sweep lines blocks = nat_le (all_rows lines) (rows_among lines blocks * 64)
+goes_by_sweep lines blocks = nat_le (all_rows lines) (rows_among lines blocks * 12)

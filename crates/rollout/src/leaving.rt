@@ -28,8 +28,8 @@ use std::alloc::Global;
 use store_api::{Pages, Shape, StoreFault};
 
 /// From one row in so many on that goes, the record indexes are swept whole. Measured with two indexes on 100,000 rows: to find and
-/// take out the two entries of a row costs some 4,900 instructions, and a sweep goes over two entries in some 60.
-const ROWS_SWEPT_FOR_ONE: u128 = 64;
+/// take out the two entries of a row costs some 4,900 instructions, and a sweep goes over two entries in some 390.
+const ROWS_SWEPT_FOR_ONE: u128 = 12;
 
 /// Takes the rows of Used blocks out of all record indexes. Where they are a large part of the table's rows each index is swept once, and
 /// no row page comes to hand; else the blocks' pages do, each once, and the rows leave one by one. Where the table has no record index
@@ -100,7 +100,7 @@ fn stated(line: &BlockRow) -> u128
 /// Whether so many rows are so large a part of those that all lines count that a sweep costs less.
 fn are_many(lines: &[BlockRow], going: u128) -> bool
     requires few { going ≤ 65536 * length lines.now }
-    ensures { result ≡ nat_le (all_rows (map line_of lines.now)) (going * 64) }
+    ensures { result ≡ nat_le (all_rows (map line_of lines.now)) (going * 12) }
 {
     let mut all: u128 = 0;
     for line in lines {

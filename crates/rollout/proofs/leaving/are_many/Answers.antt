@@ -18,4 +18,4 @@ loop-line-preserved c = record {
 
 pub returns : goal.returns
 returns c =
-    ap (λ n. nat_le n (c.args.going * 64)) (c.loop-line.invariant.value ∙ ap (λ (l : List BlockRow). all_rows (map line_of l)) (take_all c.loop-line.line-index c.args.lines.now c.loop-line-test.false))
+    ap (λ n. nat_le n (c.args.going * 12)) (c.loop-line.invariant.value ∙ ap (λ (l : List BlockRow). all_rows (map line_of l)) (take_all c.loop-line.line-index c.args.lines.now c.loop-line-test.false))
